@@ -1,0 +1,4 @@
+pub mod Views
+pub mod Ascii
+pub mod Ends
+pub mod PlainMade

@@ -1,0 +1,39 @@
+-- What is seen of a tree from outside.
+use Rattle.std.specs.Prelude.{ℕ, ◌^◌, ℤ, pos, negsuc, Bool, true, false, List, Option, None, Some, nat_lt, if◌then◌else◌}
+use Rattle.snap_content.specs.Tree.{Tree, some, newtype_struct, newtype_variant, string, none, unit, u8, u16, u32, u64, u128, i8, i16, i32, i64, i128}
+
+-- the tree behind wrappers
+abbrev pub resolved : Tree → Tree
+resolved (some inner) = resolved inner
+resolved (newtype_struct name inner) = resolved inner
+resolved (newtype_variant name index variant inner) = resolved inner
+resolved other = other
+
+abbrev pub text_in : Tree → Option (List ℕ)
+text_in (string s) = Some s
+text_in _ = None
+
+abbrev pub is_nil_tree : Tree → Bool
+is_nil_tree none = true
+is_nil_tree unit = true
+is_nil_tree _ = false
+
+-- the whole number that a tree is
+abbrev pub whole_number_in : Tree → Option ℤ
+whole_number_in (u8 n) = Some (pos n)
+whole_number_in (u16 n) = Some (pos n)
+whole_number_in (u32 n) = Some (pos n)
+whole_number_in (u64 n) = Some (pos n)
+whole_number_in (u128 n) = Some (pos n)
+whole_number_in (i8 z) = Some z
+whole_number_in (i16 z) = Some z
+whole_number_in (i32 z) = Some z
+whole_number_in (i64 z) = Some z
+whole_number_in (i128 z) = Some z
+whole_number_in _ = None
+
+-- a number below 2^64
+abbrev pub fitting_u64 : Option ℤ → Option ℕ
+fitting_u64 (Some (pos n)) = if nat_lt n (2 ^ 64) then Some n else None
+fitting_u64 (Some (negsuc n)) = None
+fitting_u64 None = None

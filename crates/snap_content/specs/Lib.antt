@@ -1,0 +1,14 @@
+pub mod Text
+pub mod Blob
+pub mod Tree
+pub mod View
+pub mod Access
+pub mod Plain
+pub mod Front
+pub mod Numbers
+pub mod Quotes
+pub mod Typed
+pub mod Spell
+pub mod Lines
+pub mod Readable
+pub mod Printed

@@ -1,0 +1,22 @@
+//! Texts, bytes and trees of values: what every other crate speaks of.
+//! Its `specs/` hold the plain definitions that the crates above cite: what a tree means, its plain form,
+//! how a scalar is spelled and typed, and the lines and the text that a plain tree is printed as.
+#![tactic(auto)]
+
+pub mod access;
+pub mod blob;
+pub mod characters;
+pub mod clone;
+pub mod content;
+pub mod error;
+pub mod laws;
+pub mod lists;
+pub mod memory;
+pub mod text;
+
+pub use blob::Blob;
+pub use content::Content;
+pub use error::Error;
+pub use lists::{Fields, Items, Pairs};
+pub use memory::OutOfMemory;
+pub use text::Text;
