@@ -1,0 +1,99 @@
+-- Paths as texts.
+use Rattle.std.specs.Prelude.{◌≡◌, ◌==◌, ℕ, List, [], ◌∷◌, ◌++◌, Bool, true, false, not, Option, None, Some, if◌then◌else◌, codes}
+use Rattle.std.specs.List.{filter}
+use Rattle.std.specs.Str.{bytes_eq}
+use Rattle.snap_content.specs.Front.{begins}
+
+-- the character in front of the first of the texts
+abbrev pub attached : ℕ → List (List ℕ) → List (List ℕ)
+attached c [] = (c ∷ []) ∷ []
+attached c (d ∷ ds) = (c ∷ d) ∷ ds
+
+-- the text, cut at each slash
+abbrev pub between_slashes : List ℕ → List (List ℕ)
+between_slashes [] = [] ∷ []
+between_slashes (c ∷ cs) = if c == 47 then [] ∷ between_slashes cs else attached c (between_slashes cs)
+
+-- neither empty nor a dot
+abbrev pub is_component : List ℕ → Bool
+is_component [] = false
+is_component (c ∷ []) = not (c == 46)
+is_component (c ∷ d ∷ cs) = true
+
+-- what a path is made of
+abbrev pub components : List ℕ → List (List ℕ)
+components path = filter is_component (between_slashes path)
+
+abbrev pub is_absolute : List ℕ → Bool
+is_absolute path = begins 47 path
+
+-- the texts with a slash between each two
+abbrev pub slashed : List (List ℕ) → List ℕ
+slashed [] = []
+slashed (part ∷ []) = part
+slashed (part ∷ next ∷ parts) = part ++ 47 ∷ slashed (next ∷ parts)
+
+abbrev pub path_of_parts : Bool → List (List ℕ) → List ℕ
+path_of_parts absolute parts = if absolute then 47 ∷ slashed parts else slashed parts
+
+-- an absolute tail stands for itself
+abbrev pub joined : List ℕ → List ℕ → List ℕ
+joined base tail =
+    if is_absolute tail then path_of_parts true (components tail)
+    else path_of_parts (is_absolute base) (components base ++ components tail)
+
+abbrev pub all_but_last : List (List ℕ) → List (List ℕ)
+all_but_last [] = []
+all_but_last (part ∷ []) = []
+all_but_last (part ∷ next ∷ parts) = part ∷ all_but_last (next ∷ parts)
+
+abbrev pub last_of : List (List ℕ) → Option (List ℕ)
+last_of [] = None
+last_of (part ∷ []) = Some part
+last_of (part ∷ next ∷ parts) = last_of (next ∷ parts)
+
+abbrev pub parent_of : List ℕ → List ℕ
+parent_of path = path_of_parts (is_absolute path) (all_but_last (components path))
+
+abbrev pub name_of : List ℕ → Option (List ℕ)
+name_of path = last_of (components path)
+
+-- what is left of two lists without their common front
+pub record Apart : Type 0 where
+  pub path : List (List ℕ)
+  pub base : List (List ℕ)
+
+abbrev pub apart : List (List ℕ) → List (List ℕ) → Apart
+apart [] base = record { path = []; base = base }
+apart (p ∷ path) [] = record { path = p ∷ path; base = [] }
+apart (p ∷ path) (b ∷ base) = if bytes_eq p b then apart path base else record { path = p ∷ path; base = b ∷ base }
+
+-- one step up for each part
+abbrev pub steps_up : List (List ℕ) → List (List ℕ)
+steps_up [] = []
+steps_up (part ∷ parts) = codes ".." ∷ steps_up parts
+
+abbrev pub from_apart : Apart → List ℕ
+from_apart a = slashed (steps_up a.base ++ a.path)
+
+abbrev pub same_start : Bool → Bool → Bool
+same_start true absolute = absolute
+same_start false absolute = not absolute
+
+-- the path as seen from the base: where only one of both is absolute, it is the path
+abbrev pub relative_from : List ℕ → List ℕ → List ℕ
+relative_from path base =
+    if same_start (is_absolute path) (is_absolute base) then from_apart (apart (components path) (components base))
+    else path_of_parts (is_absolute path) (components path)
+
+-- a name of one component
+abbrev pub IsName : List ℕ → Type 0
+IsName name = components name ≡ name ∷ []
+
+-- what stands before a name in the path of a folder's file
+abbrev pub front_behind : Bool → List (List ℕ) → List ℕ
+front_behind absolute [] = path_of_parts absolute []
+front_behind absolute (part ∷ parts) = path_of_parts absolute (part ∷ parts) ++ 47 ∷ []
+
+abbrev pub front_of : List ℕ → List ℕ
+front_of folder = front_behind (is_absolute folder) (components folder)

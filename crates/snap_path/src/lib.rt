@@ -1,0 +1,6 @@
+//! Paths as texts: what they are made of, how they are joined, and how one is seen from another.
+#![tactic(auto)]
+
+pub mod paths;
+
+pub use paths::{path_front, path_join, path_parent, path_relative_from};

@@ -1,0 +1,7 @@
+//! The texts of snapshots, and when two of them agree.
+#![tactic(auto)]
+
+pub mod contents;
+pub mod normal;
+
+pub use contents::{TextSnapshotContents, TextSnapshotKind};
