@@ -1,0 +1,6 @@
+//! Printing trees as YAML and reading what was printed.
+#![tactic(auto)]
+
+pub mod yaml;
+
+pub use yaml::spelled_text;

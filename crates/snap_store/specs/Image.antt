@@ -1,0 +1,14 @@
+-- The text of a snapshot file.
+use Rattle.std.specs.Prelude.{ℕ, List, [], ◌∷◌, ◌++◌, codes}
+use Rattle.snap_content.specs.Plain.{Plain}
+use Rattle.snap_content.specs.Lines.{document_of, text_of}
+use Rattle.snap_text.specs.Normal.{normal}
+use Rattle.snap_store.specs.Meta.{Meta, header_tree, without_line}
+
+-- the file of a header and a tree
+abbrev pub file_of : Plain → Plain → List ℕ
+file_of header tree = document_of header ++ (codes "---\n" ++ text_of tree)
+
+-- the file that a text snapshot is saved as
+abbrev pub saved_text : Meta → List ℕ → List ℕ
+saved_text meta raw = document_of (header_tree (without_line meta)) ++ (codes "---\n" ++ (normal raw ++ 10 ∷ []))

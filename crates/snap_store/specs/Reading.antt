@@ -1,0 +1,104 @@
+-- What a file is read as, and when it is refused.
+use Rattle.std.specs.Prelude.{◌≡◌, ℕ, Bool, true, List, Option, None, Some, Result, Ok, Err}
+use Rattle.std.specs.Str.{IsUtf8, chars}
+use Rattle.std.specs.FinMap.{get}
+use Rattle.snap_content.specs.Plain.{Plain, dict, Entries}
+use Rattle.snap_content.specs.Lines.{document_of}
+use Rattle.snap_content.specs.Readable.{IsReadable}
+use Rattle.snap_content.specs.declared.error.Error.{Error}
+use Rattle.snap_content.specs.declared.error.Error.TheVariants.{FailedParsingYaml, UnexpectedDataType, MissingField, FileIo, FloatText, JsonKey, NotText, NoFile, OutOfMemory}
+use Rattle.snap_text.specs.Contents.{raw_of, kind_of}
+use Rattle.snap_text.specs.declared.contents.TextSnapshotKind.TheVariants.{File}
+use Rattle.snap_outside.specs.Files.{Files}
+use Rattle.snap_store.specs.FileSplit.{is_headed, header_of, body_of}
+use Rattle.snap_store.specs.Fields.{kind_in, fields}
+use Rattle.snap_store.specs.Views.{meta_in, contents_in}
+use Rattle.snap_store.specs.declared.metadata.SnapshotKind.{SnapshotKind}
+use Rattle.snap_store.specs.declared.metadata.SnapshotKind.TheVariants as kind
+use Rattle.snap_store.specs.declared.contents.SnapshotContents.{SnapshotContents}
+use Rattle.snap_store.specs.declared.contents.SnapshotContents.TheVariants as contents
+use Rattle.snap_store.specs.declared.snapshot.Snapshot.{Snapshot}
+
+-- the file is there, and is this text
+pub record IsTextFile (file : Option (List ℕ)) (text : List ℕ) : Type 0 where
+  pub bytes : List ℕ
+  pub there : file ≡ Some bytes
+  pub utf8 : IsUtf8 bytes
+  pub characters : text ≡ chars bytes
+
+-- the text is headed, and its header is this tree as it is printed, with simple keys
+pub record HasHeader (text : List ℕ) (tree : Plain) : Type 0 where
+  pub headed : is_headed text ≡ true
+  pub readable : IsReadable tree
+  pub header : header_of text ≡ document_of tree
+
+-- a text holds the body as it stands, and a payload is not read
+abbrev pub HoldsBody : SnapshotKind → List ℕ → SnapshotContents → Type 0
+HoldsBody kind.Text body (contents.Text held) = (raw_of held ≡ body) × (kind_of held ≡ File)
+HoldsBody kind.Text body (contents.Binary payload) = ⊥
+HoldsBody (kind.Binary extension) body (contents.Text held) = ⊥
+HoldsBody (kind.Binary extension) body (contents.Binary payload) = payload ≡ None
+
+-- the file was read as this snapshot
+pub record IsReadAs (file : Option (List ℕ)) (snapshot : Snapshot) : Type 0 where
+  pub text : List ℕ
+  pub there : IsTextFile file text
+  pub entries : Entries
+  pub header : HasHeader text (dict entries)
+  pub kind : SnapshotKind
+  pub kind_is : kind_in entries ≡ Some kind
+  pub metadata : meta_in snapshot ≡ fields entries kind
+  pub contents : HoldsBody kind (body_of text) (contents_in snapshot)
+
+pub record IsNoText (file : Option (List ℕ)) : Type 0 where
+  pub bytes : List ℕ
+  pub there : file ≡ Some bytes
+  pub broken : IsUtf8 bytes → ⊥
+
+pub record HasNoHeader (file : Option (List ℕ)) : Type 0 where
+  pub text : List ℕ
+  pub there : IsTextFile file text
+  pub none : (tree : Plain) → HasHeader text tree → ⊥
+
+pub record HasOtherHeader (file : Option (List ℕ)) : Type 0 where
+  pub text : List ℕ
+  pub there : IsTextFile file text
+  pub tree : Plain
+  pub header : HasHeader text tree
+  pub other : (entries : Entries) → tree ≡ dict entries → ⊥
+
+pub record LacksExtension (file : Option (List ℕ)) : Type 0 where
+  pub text : List ℕ
+  pub there : IsTextFile file text
+  pub entries : Entries
+  pub header : HasHeader text (dict entries)
+  pub lacking : kind_in entries ≡ None
+
+-- why the file at the path is refused
+abbrev pub IsRefused : List ℕ → Option (List ℕ) → Error → Type 0
+IsRefused path file (NoFile named) = (named ≡ path) × (file ≡ None)
+IsRefused path file (NotText named) = (named ≡ path) × IsNoText file
+IsRefused path file (FailedParsingYaml named) = (named ≡ path) × HasNoHeader file
+IsRefused path file UnexpectedDataType = HasOtherHeader file
+IsRefused path file MissingField = LacksExtension file
+IsRefused path file (FileIo named) = named ≡ path
+IsRefused path file (FloatText named) = ⊥
+IsRefused path file JsonKey = ⊥
+IsRefused path file OutOfMemory = Unit {0}
+
+abbrev pub FileEnd : List ℕ → Option (List ℕ) → Result Snapshot Error → Type 0
+FileEnd path file (Ok snapshot) = IsReadAs file snapshot
+FileEnd path file (Err error) = IsRefused path file error
+
+-- the file at the path was read to this end; where the files are told it is the one among them
+pub record IsReadFrom (path : List ℕ) (files : Option Files) (result : Result Snapshot Error) : Type 0 where
+  pub file : Option (List ℕ)
+  pub told : (m : Files) → files ≡ Some m → file ≡ get m path
+  pub comes_to : FileEnd path file result
+
+-- the only refusals of a save
+abbrev pub SaveEnd : List ℕ → Result Unit Error → Type 0
+SaveEnd path (Ok done) = Unit {0}
+SaveEnd path (Err (FileIo named)) = named ≡ path
+SaveEnd path (Err OutOfMemory) = Unit {0}
+SaveEnd path (Err _) = ⊥

@@ -1,0 +1,37 @@
+-- What metadata and snapshots are seen as.
+use Rattle.std.specs.Prelude.{ℕ, List, Option, None, Some, option_map}
+use Rattle.snap_content.specs.View.{tree}
+use Rattle.snap_text.specs.Contents.{raw_of}
+use Rattle.snap_store.specs.Meta.{Meta}
+use Rattle.snap_store.specs.declared.metadata.MetaData.{MetaData}
+use Rattle.snap_store.specs.declared.contents.SnapshotContents.{SnapshotContents}
+use Rattle.snap_store.specs.declared.contents.SnapshotContents.TheVariants.{Text, Binary}
+use Rattle.snap_store.specs.declared.snapshot.Snapshot.{Snapshot}
+
+abbrev pub meta_of : MetaData → Meta
+meta_of metadata = record {
+  source = metadata.source;
+  assertion_line = metadata.assertion_line;
+  description = metadata.description;
+  expression = metadata.expression;
+  info = option_map tree metadata.info;
+  input_file = metadata.input_file;
+  kind = metadata.kind;
+}
+
+abbrev pub module_in : Snapshot → List ℕ
+module_in snapshot = snapshot.module_name
+
+abbrev pub name_in : Snapshot → Option (List ℕ)
+name_in snapshot = snapshot.snapshot_name
+
+abbrev pub meta_in : Snapshot → Meta
+meta_in snapshot = meta_of snapshot.metadata
+
+abbrev pub contents_in : Snapshot → SnapshotContents
+contents_in snapshot = snapshot.contents
+
+-- the raw text of text contents
+abbrev pub text_in : SnapshotContents → Option (List ℕ)
+text_in (Text contents) = Some (raw_of contents)
+text_in (Binary payload) = None

@@ -1,0 +1,12 @@
+//! Snapshots and their files: metadata, contents, reading and saving.
+#![tactic(auto)]
+
+pub mod contents;
+pub mod metadata;
+pub mod snapshot;
+
+pub use contents::SnapshotContents;
+pub use metadata::{MetaData, SnapshotKind};
+pub use snap_outside::{Fault, Names, Sink, Source, Store, StoreError};
+pub use snap_path::{path_join, path_parent, path_relative_from};
+pub use snapshot::Snapshot;
