@@ -1,0 +1,59 @@
+-- When a tree passes against a file.
+use Rattle.std.specs.Prelude.{◌≡◌, ◌↔◌, ◌||◌, ◌&&◌, ℕ, Bool, true, false, List, Option, None, Some, codes, if◌then◌else◌}
+use Rattle.std.specs.Str.{bytes_eq}
+use Rattle.snap_content.specs.Plain.{Plain, text, dict, Entries, entry, no_entries}
+use Rattle.snap_content.specs.Lines.{text_of}
+use Rattle.snap_content.specs.Readable.{IsReadable}
+use Rattle.snap_text.specs.Normal.{normal}
+use Rattle.snap_store.specs.FileSplit.{body_of}
+use Rattle.snap_store.specs.Fields.{is_named, is_binary}
+use Rattle.snap_store.specs.Image.{file_of}
+use Rattle.snap_store.specs.Reading.{IsTextFile, HasHeader}
+
+-- the file's body agrees with the text
+pub record BodyAgrees (file : Option (List ℕ)) (printed : List ℕ) : Type 0 where
+  pub whole : List ℕ
+  pub there : IsTextFile file whole
+  pub same : normal (body_of whole) ≡ normal printed
+
+-- one of the pairs says `snapshot_kind: binary`
+abbrev pub says_binary : Entries → Bool
+says_binary no_entries = false
+says_binary (entry key value more) = (is_named (codes "snapshot_kind") key && is_named (codes "binary") value) || says_binary more
+
+-- the header is a printed Dict with simple keys, and no pair of it says binary
+pub record HasCanonicalHeader (file : Option (List ℕ)) : Type 0 where
+  pub whole : List ℕ
+  pub there : IsTextFile file whole
+  pub entries : Entries
+  pub header : HasHeader whole (dict entries)
+  pub not_binary : says_binary entries ≡ false
+
+-- the same, but the last pair of that name says binary
+pub record HasBinaryHeader (file : Option (List ℕ)) : Type 0 where
+  pub whole : List ℕ
+  pub there : IsTextFile file whole
+  pub entries : Entries
+  pub header : HasHeader whole (dict entries)
+  pub binary : is_binary entries ≡ true
+
+-- the file was saved for a tree, under a canonical header
+pub record IsSavedFor (file : Option (List ℕ)) (tree : Plain) : Type 0 where
+  pub entries : Entries
+  pub header : IsReadable (dict entries)
+  pub not_binary : says_binary entries ≡ false
+  pub readable : IsReadable tree
+  pub there : IsTextFile file (file_of (dict entries) tree)
+
+-- whether a tree may pass against a file
+pub record May (passed : Bool) (file : Option (List ℕ)) (tree : Plain) : Type 0 where
+  -- never without a file
+  pub absent : file ≡ None → passed ≡ false
+  -- only where the stored body agrees with the tree's text
+  pub agrees : passed ≡ true → BodyAgrees file (text_of tree)
+  -- always there under a canonical header
+  pub canonical : HasCanonicalHeader file → BodyAgrees file (text_of tree) → passed ≡ true
+  -- never where the header says binary
+  pub binary : HasBinaryHeader file → passed ≡ false
+  -- against a file that was saved for a tree exactly where both trees are equal
+  pub saved : (stored : Plain) → IsSavedFor file stored → IsReadable tree → (passed ≡ true) ↔ (stored ≡ tree)

@@ -1,0 +1,75 @@
+-- What an assertion answers.
+use Rattle.std.specs.Prelude.{◌≡◌, ◌⊎◌, ◌&&◌, ℕ, Bool, false, not, List, [], ◌∷◌, Option, None, Some, Result, Ok, Err}
+use Rattle.std.specs.FinMap.{get}
+use Rattle.snap_content.specs.Plain.{dict, Entries}
+use Rattle.snap_content.specs.declared.error.Error.{Error}
+use Rattle.snap_content.specs.declared.error.Error.TheVariants.{FailedParsingYaml, UnexpectedDataType, MissingField, NotText}
+use Rattle.snap_outside.specs.Causes.{Rose}
+use Rattle.snap_outside.specs.Files.{Files, SameOutside}
+use Rattle.snap_store.specs.Fields.{kind_in}
+use Rattle.snap_store.specs.Reading.{IsTextFile, HasHeader, IsRefused}
+use Rattle.snap_store.specs.declared.metadata.SnapshotKind.{SnapshotKind}
+use Rattle.snap_assert.specs.Judging.{May}
+use Rattle.snap_assert.specs.Steps.{Asked, step, verdict_of, is_failure, is_near}
+use Rattle.snap_assert.specs.declared.config.Config.{Config}
+use Rattle.snap_assert.specs.declared.error.AssertError.{AssertError}
+use Rattle.snap_assert.specs.declared.error.AssertError.TheVariants.{FileIo, OutOfMemory}
+use Rattle.snap_assert.specs.declared.outcome.Outcome.{Outcome}
+use Rattle.snap_assert.specs.declared.outcome.Warning.{Warning}
+use Rattle.snap_assert.specs.declared.outcome.Warning.TheVariants.{Unreadable}
+use Rattle.snap_assert.specs.declared.outcome.Warnings.{Warnings}
+
+abbrev pub warnings_in : Warnings → List Warning
+warnings_in warnings = warnings.items.items
+
+-- the file is read as a snapshot
+pub record IsUnderstood (file : Option (List ℕ)) : Type 0 where
+  pub whole : List ℕ
+  pub there : IsTextFile file whole
+  pub entries : Entries
+  pub header : HasHeader whole (dict entries)
+  pub kind : SnapshotKind
+  pub kind_is : kind_in entries ≡ Some kind
+
+-- a file that is there and isn't understood is refused with this error
+abbrev pub IsNotUnderstood : List ℕ → Option (List ℕ) → Error → Type 0
+IsNotUnderstood path file (NotText named) = IsRefused path file (NotText named)
+IsNotUnderstood path file (FailedParsingYaml named) = IsRefused path file (FailedParsingYaml named)
+IsNotUnderstood path file UnexpectedDataType = IsRefused path file UnexpectedDataType
+IsNotUnderstood path file MissingField = IsRefused path file MissingField
+IsNotUnderstood path file _ = ⊥
+
+abbrev pub Warns : List ℕ → Option (List ℕ) → Warning → Type 0
+Warns path file (Unreadable error) = IsNotUnderstood path file error
+Warns path file _ = ⊥
+
+-- one warning exactly where a file is there that isn't understood
+abbrev pub AreWarnings : List ℕ → Option (List ℕ) → List Warning → Type 0
+AreWarnings path file [] = (file ≡ None) ⊎ IsUnderstood file
+AreWarnings path file (warning ∷ []) = Warns path file warning
+AreWarnings path file (warning ∷ next ∷ more) = ⊥
+
+-- what was asked is answered: by a verdict that is allowed, and with the files of the step where they are told
+pub record IsAnswered (config : Config) (asked : Asked) (outcome : Outcome) (files files' : Option Files) : Type 0 where
+  pub passed : Bool
+  pub verdict : outcome.verdict ≡ verdict_of config.update passed
+  pub path : outcome.path ≡ asked.path
+  pub fails : outcome.fails ≡ (is_failure (verdict_of config.update passed) && not config.force_pass)
+  pub allowed : (m : Files) → files ≡ Some m → May passed (get m asked.path) asked.tree
+  pub stands : (m : Files) → files ≡ Some m → files' ≡ Some (step config.update config.force_update asked passed m)
+  pub warned : (m : Files) → files ≡ Some m → AreWarnings asked.path (get m asked.path) (warnings_in outcome.warnings)
+
+-- the only refusals while names are given and no block is open
+abbrev pub ErrorCause : ℕ → ℕ → AssertError → Type 0
+ErrorCause before now (FileIo path) = Rose before now
+ErrorCause before now OutOfMemory = now ≡ before
+ErrorCause before now _ = ⊥
+
+-- `FileIo` comes only where the store's count rose, and any other answer leaves it
+abbrev pub AssertCause : {T : Type 0} → ℕ → ℕ → Result T AssertError → Type 0
+AssertCause before now (Ok value) = now ≡ before
+AssertCause before now (Err error) = ErrorCause before now error
+
+-- only the paths of this assertion may have changed
+abbrev pub OnlyNear : List ℕ → Option Files → Option Files → Type 0
+OnlyNear path files files' = (m : Files) → files ≡ Some m → SameOutside (is_near path) m files'

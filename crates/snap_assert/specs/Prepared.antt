@@ -1,0 +1,50 @@
+-- What is ready before anything is looked at, and what was seen.
+use Rattle.std.specs.Prelude.{◌≡◌, ℕ, List, [], ◌∷◌, false, Some, Result, Ok, Err}
+use Rattle.std.specs.FinMap.{get}
+use Rattle.snap_content.specs.Lines.{text_of}
+use Rattle.snap_outside.specs.Files.{Files}
+use Rattle.snap_store.specs.Views.{meta_in, contents_in, text_in}
+use Rattle.snap_assert.specs.Steps.{Asked, pending_path}
+use Rattle.snap_assert.specs.Strays.{IsFilePath, AreStrays}
+use Rattle.snap_assert.specs.Judging.{May}
+use Rattle.snap_assert.specs.Outcomes.{AreWarnings, warnings_in}
+use Rattle.snap_content.specs.declared.error.Error.{Error}
+use Rattle.snap_content.specs.declared.error.Error.TheVariants as refusal
+use Rattle.snap_assert.specs.declared.error.AssertError.{AssertError}
+use Rattle.snap_assert.specs.declared.error.AssertError.TheVariants.{FileIo, OutOfMemory}
+use Rattle.snap_assert.specs.declared.outcome.Warning.{Warning}
+use Rattle.snap_assert.specs.declared.outcome.Warning.TheVariants.{Unreadable}
+use Rattle.snap_assert.specs.declared.prepare.Prepared.{Prepared}
+use Rattle.snap_assert.specs.declared.look.Judged.{Judged}
+use Rattle.snap_assert.specs.declared.look.Seen.{Seen}
+
+-- the paths, and the new snapshot with the tree's text
+pub record IsPrepared (asked : Asked) (prepared : Prepared) : Type 0 where
+  pub path : prepared.path ≡ asked.path
+  pub file_path : IsFilePath asked.path
+  pub pending : prepared.pending ≡ pending_path asked.path
+  pub printed : text_in (contents_in prepared.snapshot) ≡ Some (text_of asked.tree)
+  pub metadata : meta_in prepared.snapshot ≡ asked.meta
+
+-- whether it passes, and what is to be said of the file
+pub record IsJudged (asked : Asked) (m : Files) (judged : Judged) : Type 0 where
+  pub allowed : May judged.passed (get m asked.path) asked.tree
+  pub warned : AreWarnings asked.path (get m asked.path) (warnings_in judged.warnings)
+
+-- the same, and what is to go
+pub record IsSeen (asked : Asked) (m : Files) (seen : Seen) : Type 0 where
+  pub judged : IsJudged asked m seen.judged
+  pub strays : AreStrays asked.path m seen.strays.items
+
+-- no pass, with these warnings
+abbrev pub NoPass : List Warning → Result Judged AssertError → Type 0
+NoPass warnings (Ok judged) = (judged.passed ≡ false) × (warnings_in judged.warnings ≡ warnings)
+NoPass warnings (Err OutOfMemory) = Unit {0}
+NoPass warnings (Err _) = ⊥
+
+-- a missing file is no pass, a fault and want of memory are handed on, and any other refusal is a warning
+abbrev pub RefusedEnd : Error → Result Judged AssertError → Type 0
+RefusedEnd (refusal.NoFile path) result = NoPass [] result
+RefusedEnd (refusal.FileIo path) result = result ≡ Err (FileIo path)
+RefusedEnd refusal.OutOfMemory result = result ≡ Err OutOfMemory
+RefusedEnd error result = NoPass (Unreadable error ∷ []) result

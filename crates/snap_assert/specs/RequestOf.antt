@@ -1,0 +1,15 @@
+-- What a request is seen as.
+use Rattle.snap_content.specs.Plain.{plain}
+use Rattle.snap_content.specs.View.{tree}
+use Rattle.snap_assert.specs.Requests.{RequestView}
+use Rattle.snap_assert.specs.declared.request.Request.{Request}
+
+abbrev pub request_of : Request → RequestView
+request_of request = record {
+  module_name = request.module_name;
+  file = request.file;
+  line = request.line;
+  name = request.name;
+  expr = request.expr;
+  value = plain (tree request.value);
+}

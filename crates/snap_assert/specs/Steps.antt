@@ -1,0 +1,84 @@
+-- What one assertion leaves.
+use Rattle.std.specs.Prelude.{◌==◌, ◌&&◌, ◌||◌, ℕ, Bool, true, false, not, List, [], ◌∷◌, ◌++◌, Option, None, Some, codes, if◌then◌else◌, encode_utf8_all}
+use Rattle.std.specs.Str.{bytes_eq}
+use Rattle.std.specs.FinMap.{insert, remove, retain_keys}
+use Rattle.snap_content.specs.Plain.{Plain}
+use Rattle.snap_outside.specs.Files.{Files}
+use Rattle.snap_store.specs.Meta.{Meta, header_tree, without_line}
+use Rattle.snap_store.specs.Image.{file_of}
+use Rattle.snap_assert.specs.Settings.{SettingsView}
+use Rattle.snap_assert.specs.Front.{behind}
+use Rattle.snap_assert.specs.Place.{PlaceView, holds_slash}
+use Rattle.snap_assert.specs.SnapshotPath.{path_of, new_meta}
+use Rattle.snap_assert.specs.Session.{suffixed}
+use Rattle.snap_assert.specs.declared.config.Update.{Update}
+use Rattle.snap_assert.specs.declared.config.Update.TheVariants.{InPlace, NewFile, NoUpdate}
+use Rattle.snap_assert.specs.declared.outcome.Verdict.{Verdict}
+use Rattle.snap_assert.specs.declared.outcome.Verdict.TheVariants.{Passed, Updated, Pending, Rejected}
+
+-- what is asked of the files: a tree under metadata at a path
+pub record Asked : Type 0 where
+  pub path : List ℕ
+  pub meta : Meta
+  pub tree : Plain
+
+abbrev pub asked_of : SettingsView → PlaceView → List ℕ → Plain → Asked
+asked_of settings place name tree = record {
+  path = path_of settings place (suffixed name settings.suffix);
+  meta = new_meta settings place;
+  tree = tree;
+}
+
+-- where an unapproved snapshot waits
+abbrev pub pending_path : List ℕ → List ℕ
+pending_path path = path ++ codes ".new"
+
+-- what is left behind by payloads that wait: the pending path, a dot, and more without a slash
+abbrev pub stray_front : List ℕ → List ℕ
+stray_front path = path ++ codes ".new."
+
+abbrev pub is_slashless : Option (List ℕ) → Bool
+is_slashless None = false
+is_slashless (Some rest) = not (holds_slash rest)
+
+abbrev pub is_stray : List ℕ → List ℕ → Bool
+is_stray path q = is_slashless (behind (stray_front path) q)
+
+-- the paths that an assertion may change
+abbrev pub is_near : List ℕ → List ℕ → Bool
+is_near path q = bytes_eq q path || bytes_eq q (pending_path path) || is_stray path q
+
+abbrev pub cleared : List ℕ → Files → Files
+cleared path files = retain_keys files (λ q. not (is_stray path q))
+
+-- what is written where the tree did not pass
+abbrev pub written : Update → Asked → Files → Files
+written InPlace asked files = insert files asked.path (encode_utf8_all (file_of (header_tree (without_line asked.meta)) asked.tree))
+written NewFile asked files = insert files (pending_path asked.path) (encode_utf8_all (file_of (header_tree asked.meta) asked.tree))
+written NoUpdate asked files = files
+
+-- on a pass what waited goes
+abbrev pub passed_files : List ℕ → Files → Files
+passed_files path files = remove (cleared path files) (pending_path path)
+
+-- the files after an assertion; all other paths keep their bytes
+abbrev pub step : Update → Bool → Asked → Bool → Files → Files
+step mode force asked true files = if force then written mode asked (passed_files asked.path files) else passed_files asked.path files
+step mode force asked false files = written mode asked (cleared asked.path files)
+
+-- the verdict by the mode
+abbrev pub failed_verdict : Update → Verdict
+failed_verdict InPlace = Updated
+failed_verdict NewFile = Pending
+failed_verdict NoUpdate = Rejected
+
+abbrev pub verdict_of : Update → Bool → Verdict
+verdict_of mode true = Passed
+verdict_of mode false = failed_verdict mode
+
+-- a verdict that fails a run
+abbrev pub is_failure : Verdict → Bool
+is_failure Passed = false
+is_failure Updated = false
+is_failure Pending = true
+is_failure Rejected = true

@@ -1,0 +1,96 @@
+//! One assertion over a store.
+ghost use Rattle.std.specs.Prelude.{◌≡◌, List, ℕ, false, Some, IsSome, IfOk, OnErr, option_copied};
+ghost use Rattle.snap_content.specs.Plain.{plain};
+ghost use Rattle.snap_content.specs.View.{tree};
+ghost use Rattle.snap_assert.specs.Outcomes.{IsAnswered, OnlyNear, AssertCause};
+ghost use Rattle.snap_assert.specs.Session.{session_of, suffixed, name_step};
+ghost use Rattle.snap_assert.specs.Settings.{settings_of};
+ghost use Rattle.snap_assert.specs.Place.{place_of};
+ghost use Rattle.snap_assert.specs.Steps.{asked_of};
+ghost use Rattle.snap_assert.specs.declared.config.Update.TheVariants.{InPlace};
+
+use crate::config::{Config, Update};
+use crate::error::AssertError;
+use crate::look::look;
+use crate::outcome::{Outcome, Verdict};
+use crate::place::Place;
+use crate::prepare::prepare;
+use crate::session::Session;
+use crate::settings::Settings;
+use crate::settle::settle;
+use snap_content::{Content, Text};
+use snap_outside::Store;
+use std::alloc::Global;
+
+/// Asserts the tree under this name: reads, lists and compares, and then leaves the store as the mode says.
+fn assert_named<S: Store>(
+    alloc: Global,
+    store: &mut S,
+    config: &Config,
+    settings: &Settings,
+    place: &Place,
+    name: &Text,
+    content: &Content,
+) -> Result<Outcome, AssertError>
+    requires in_place { config.now.update ≡ InPlace }
+    requires unforced { config.now.force_update ≡ false }
+    ensures answered { IfOk result (λ outcome. IsAnswered config.now (asked_of (settings_of settings.now) (place_of place.now) name.now (plain (tree content.now))) outcome (S.files store.old) (S.files store.new)) }
+    ensures others { OnErr result (OnlyNear (asked_of (settings_of settings.now) (place_of place.now) name.now (plain (tree content.now))).path (S.files store.old) (S.files store.new)) }
+    ensures cause { AssertCause (S.faults store.old) (S.faults store.new) result }
+{
+    let Ok(prepared) = prepare(alloc, settings, place, name, content) else {
+        return Err(AssertError::OutOfMemory);
+    };
+    let seen = match look(alloc, store, &prepared) {
+        Ok(seen) => seen,
+        Err(error) => return Err(error),
+    };
+    match settle(alloc, store, &prepared, seen.judged.passed, &seen.strays) {
+        Ok(()) => {}
+        Err(error) => return Err(error),
+    }
+    let verdict = if seen.judged.passed {
+        Verdict::Passed
+    } else {
+        Verdict::Updated
+    };
+    Ok(Outcome {
+        verdict,
+        path: prepared.path,
+        warnings: seen.judged.warnings,
+        fails: false,
+    })
+}
+
+/// Asserts that the tree is that of the snapshot of this name, by what its file holds.
+///
+/// Until other modes and flags are built the config's `update` is `InPlace` and its flags are off, and a name is given.
+/// After an error only the snapshot's own path, its pending path and what payloads left behind may have changed.
+pub fn assert_content<S: Store>(
+    alloc: Global,
+    session: &mut Session,
+    store: &mut S,
+    config: &Config,
+    settings: &Settings,
+    place: &Place,
+    name: Option<&Text>,
+    content: Content,
+) -> Result<Outcome, AssertError>
+    requires in_place { config.now.update ≡ InPlace }
+    requires unforced { config.now.force_update ≡ false }
+    requires loose { config.now.require_full_match ≡ false }
+    requires strict { config.now.force_pass ≡ false }
+    requires no_blocks { config.now.literal ≡ false }
+    requires named { IsSome name }
+    ensures answered { IfOk result (λ outcome. (given : List ℕ) → option_copied name.entry ≡ Some given
+        → IsAnswered config.now (asked_of (settings_of settings.now) (place_of place.now) given (plain (tree content))) outcome (S.files store.old) (S.files store.new)) }
+    ensures others { OnErr result ((given : List ℕ) → option_copied name.entry ≡ Some given
+        → OnlyNear (asked_of (settings_of settings.now) (place_of place.now) given (plain (tree content))).path (S.files store.old) (S.files store.new)) }
+    ensures session { session_of session.new ≡ session_of session.old }
+    ensures cause { AssertCause (S.faults store.old) (S.faults store.new) result }
+{
+    match name {
+        Some(name) => assert_named(alloc, store, config, settings, place, name, &content),
+        None => Err(AssertError::DoctestNeedsName),
+    }
+}

@@ -1,0 +1,40 @@
+//! One assertion over a store, and a run over a stream of requests.
+//! The modules in the order in which data flows: words, input, documents, requests; then the settings,
+//! the session and the place of an assertion, its path and metadata, what it finds and what it leaves;
+//! then its line, and the status of the whole run.
+#![tactic(auto)]
+
+pub mod config;
+mod cut;
+mod documents;
+pub mod engine;
+pub mod error;
+mod file_path;
+mod front;
+mod look;
+pub mod outcome;
+mod paths;
+mod prepare;
+mod removal;
+mod settle;
+pub mod place;
+pub mod program;
+pub mod request;
+mod runner;
+pub mod session;
+pub mod settings;
+pub mod status;
+mod strays;
+mod streams;
+
+pub use config::{Config, Update};
+pub use engine::assert_content;
+pub use error::{AssertError, DuplicateKey};
+pub use outcome::{Outcome, Verdict, Warning, Warnings};
+pub use place::{BadPlace, Place};
+
+pub use program::run;
+pub use request::Request;
+pub use session::Session;
+pub use settings::Settings;
+pub use status::{RefusalKind, Status};

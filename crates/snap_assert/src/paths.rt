@@ -1,0 +1,141 @@
+//! The path of a snapshot, and the metadata of a new one.
+ghost use Rattle.std.specs.Prelude.{◌≡◌, ◌++◌, IfOk, OnOk, option_map};
+ghost use Rattle.std.specs.Str.{chars};
+ghost use Rattle.std.specs.List.{flat_map};
+ghost use Rattle.snap_path.specs.Paths.{name_of};
+ghost use Rattle.snap_store.specs.Views.{meta_of};
+ghost use Rattle.snap_assert.specs.Settings.{settings_of};
+ghost use Rattle.snap_assert.specs.Place.{place_of};
+ghost use Rattle.snap_assert.specs.SnapshotPath.{flat_character, dotless_character, flat_module, is_doctest, place_prefix, file_name, path_of, new_meta};
+
+use crate::front::behind_ascii;
+use crate::place::Place;
+use crate::settings::Settings;
+use snap_content::characters::split_first;
+use snap_content::{OutOfMemory, Text};
+use snap_path::{path_join, path_parent, path_relative_from};
+use snap_store::MetaData;
+use std::alloc::Global;
+
+/// Adds a name without its slashes and backslashes.
+fn push_flat(out: &mut Text, alloc: Global, name: &str) -> Result<(), OutOfMemory>
+    ensures { OnOk result (out.new ≡ out.old ++ flat_map flat_character (chars name.now)) }
+{
+    for c in name.chars() {
+        if c == '/' || c == '\\' {
+            out.push_ascii(alloc, "__")?;
+        } else {
+            out.push(alloc, c)?;
+        }
+    }
+    Ok(())
+}
+
+/// Adds a name without its dots.
+fn push_dotless(out: &mut Text, alloc: Global, name: &str) -> Result<(), OutOfMemory>
+    ensures { OnOk result (out.new ≡ out.old ++ flat_map dotless_character (chars name.now)) }
+{
+    for c in name.chars() {
+        if c == '.' {
+            out.push_ascii(alloc, "_")?;
+        } else {
+            out.push(alloc, c)?;
+        }
+    }
+    Ok(())
+}
+
+/// Adds a module with `__` for each `::`.
+fn push_module(out: &mut Text, alloc: Global, name: &str) -> Result<(), OutOfMemory>
+    ensures { OnOk result (out.new ≡ out.old ++ flat_module (chars name.now)) }
+{
+    let mut rest = name;
+    while let Some((c, next)) = split_first(rest) {
+        match split_first(next) {
+            Some((':', later)) if c == ':' => {
+                out.push_ascii(alloc, "__")?;
+                rest = later;
+            }
+            _ => {
+                out.push(alloc, c)?;
+                rest = next;
+            }
+        }
+    }
+    Ok(())
+}
+
+/// Whether the function is that of a doctest.
+fn is_doctest_function(function: &str) -> bool
+    ensures { result ≡ is_doctest (chars function.now) }
+{
+    behind_ascii(function, "rust_out::main::_doctest").is_some()
+}
+
+/// What stands before the name in the name of the file.
+fn prefix(alloc: Global, place: &Place) -> Result<Text, OutOfMemory>
+    ensures { IfOk result (λ text. text ≡ place_prefix (place_of place.now)) }
+{
+    let mut text = Text::empty();
+    if is_doctest_function(place.function().as_str()) {
+        text.push_ascii(alloc, "doctest_")?;
+        push_dotless(&mut text, alloc, path_name(place.file()).unwrap_or(""))?;
+    } else {
+        push_module(&mut text, alloc, place.module_name().as_str())?;
+    }
+    text.push_ascii(alloc, "__")?;
+    Ok(text)
+}
+
+/// The name of the snapshot's file.
+fn snapshot_file_name(
+    alloc: Global,
+    settings: &Settings,
+    place: &Place,
+    name: &Text,
+) -> Result<Text, OutOfMemory>
+    ensures { IfOk result (λ text. text ≡ file_name (settings_of settings.now) (place_of place.now) name.now) }
+{
+    let mut text = prefix(alloc, place)?;
+    push_flat(&mut text, alloc, name.as_str())?;
+    text.push_ascii(alloc, ".snap")?;
+    Ok(text)
+}
+
+/// The path of the snapshot: below the workspace, in the folder of snapshots beside the assertion's file.
+pub fn snapshot_path(
+    alloc: Global,
+    settings: &Settings,
+    place: &Place,
+    name: &Text,
+) -> Result<Text, OutOfMemory>
+    ensures { IfOk result (λ path. path ≡ path_of (settings_of settings.now) (place_of place.now) name.now) }
+{
+    let folder = path_join(alloc, place.workspace(), &path_parent(alloc, place.file())?)?;
+    let folder = path_join(alloc, &folder, settings.snapshot_folder())?;
+    let file = snapshot_file_name(alloc, settings, place, name)?;
+    path_join(alloc, &folder, &file)
+}
+
+/// The metadata of a new snapshot.
+pub fn new_metadata(
+    alloc: Global,
+    settings: &Settings,
+    place: &Place,
+) -> Result<MetaData, OutOfMemory>
+    ensures { IfOk result (λ made. meta_of made ≡ new_meta (settings_of settings.now) (place_of place.now)) }
+{
+    let file = path_join(alloc, place.workspace(), place.file())?;
+    let source = path_relative_from(alloc, &file, place.workspace())?;
+    let mut metadata = MetaData::empty();
+    metadata.set_source(Some(source));
+    metadata.set_assertion_line(Some(place.line()));
+    metadata.set_expression(Some(place.expr().try_clone(alloc)?));
+    Ok(metadata)
+}
+
+fn path_name(path: &Text) -> Option<&str>
+    ensures { option_map (λ name. chars name.now) result ≡ name_of path.now }
+{
+    None
+}

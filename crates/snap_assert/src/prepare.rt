@@ -1,0 +1,102 @@
+//! What is ready before anything is looked at.
+ghost use Rattle.std.specs.Prelude.{◌≡◌, ◌++◌, List, ℕ, Some, codes, IfOk};
+ghost use Rattle.std.specs.Str.{chars};
+ghost use Rattle.snap_content.specs.Plain.{plain};
+ghost use Rattle.snap_content.specs.View.{tree};
+ghost use Rattle.snap_content.specs.Lines.{text_of};
+ghost use Rattle.snap_assert.specs.Settings.{settings_of};
+ghost use Rattle.snap_assert.specs.Place.{place_of};
+ghost use Rattle.snap_store.specs.Views.{meta_in, contents_in, text_in};
+ghost use Rattle.snap_assert.specs.SnapshotPath.{new_meta};
+ghost use Rattle.snap_assert.specs.Steps.{asked_of};
+ghost use Rattle.snap_assert.specs.Prepared.{IsPrepared};
+
+use crate::paths::{new_metadata, snapshot_path};
+use crate::place::Place;
+use crate::settings::Settings;
+use snap_content::characters::split_first;
+use snap_content::{Content, OutOfMemory, Text};
+use snap_emit::yaml;
+use snap_store::{Snapshot, SnapshotContents};
+use snap_text::{TextSnapshotContents, TextSnapshotKind};
+use std::alloc::Global;
+
+/// The paths of an assertion, and its new snapshot.
+#[derive(Drop)]
+pub struct Prepared {
+    pub path: Text,
+    /// Where an unapproved snapshot waits.
+    pub pending: Text,
+    pub snapshot: Snapshot,
+}
+
+/// What stands behind the first line, `---`.
+fn body_of_document(document: &str) -> &str
+    ensures { (body : List ℕ) → chars document.now ≡ codes "---\n" ++ body → chars result.now ≡ body }
+{
+    match split_first(document) {
+        Some((_, rest)) => match split_first(rest) {
+            Some((_, rest)) => match split_first(rest) {
+                Some((_, rest)) => match split_first(rest) {
+                    Some((_, rest)) => rest,
+                    None => document,
+                },
+                None => document,
+            },
+            None => document,
+        },
+        None => document,
+    }
+}
+
+/// The text of the tree, without the line `---`.
+fn printed(alloc: Global, content: &Content) -> Result<Text, OutOfMemory>
+    ensures { IfOk result (λ text. text ≡ text_of (plain (tree content.now))) }
+{
+    let document = yaml::to_string(alloc, content, false)?;
+    Text::from_str(alloc, body_of_document(document.as_str()))
+}
+
+fn new_snapshot(
+    alloc: Global,
+    settings: &Settings,
+    place: &Place,
+    name: &Text,
+    content: &Content,
+) -> Result<Snapshot, OutOfMemory>
+    ensures printed { IfOk result (λ snapshot. text_in (contents_in snapshot) ≡ Some (text_of (plain (tree content.now)))) }
+    ensures metadata { IfOk result (λ snapshot. meta_in snapshot ≡ new_meta (settings_of settings.now) (place_of place.now)) }
+{
+    let text = printed(alloc, content)?;
+    let contents = TextSnapshotContents::new(text, TextSnapshotKind::File);
+    let metadata = new_metadata(alloc, settings, place)?;
+    let module_name = place.module_name().try_clone(alloc)?;
+    let name = name.try_clone(alloc)?;
+    Ok(Snapshot::from_components(
+        module_name,
+        Some(name),
+        metadata,
+        SnapshotContents::from_text(contents),
+    ))
+}
+
+/// All that an assertion needs, printed before anything is looked at.
+pub fn prepare(
+    alloc: Global,
+    settings: &Settings,
+    place: &Place,
+    name: &Text,
+    content: &Content,
+) -> Result<Prepared, OutOfMemory>
+    ensures { IfOk result (λ prepared. IsPrepared (asked_of (settings_of settings.now) (place_of place.now) name.now (plain (tree content.now))) prepared) }
+{
+    let path = snapshot_path(alloc, settings, place, name)?;
+    let mut pending = path.try_clone(alloc)?;
+    pending.push_ascii(alloc, ".new")?;
+    let snapshot = new_snapshot(alloc, settings, place, name, content)?;
+    Ok(Prepared {
+        path,
+        pending,
+        snapshot,
+    })
+}

@@ -1,0 +1,107 @@
+//! All that the program does.
+ghost use Rattle.std.specs.Prelude.{◌≡◌, ◌≤◌, List, ℕ, None, Some, MatchOption, length, false};
+ghost use Rattle.snap_assert.specs.Cut.{documents};
+ghost use Rattle.snap_assert.specs.Answers.{RunWords, words_mean};
+ghost use Rattle.snap_assert.specs.Status.{WordsCause, RunsFrom, LengthCause, SourceCause, SinkCause, StoreCause, AreSpelled, IsSteady, EndsWell};
+ghost use Rattle.snap_assert.specs.StatusOf.{status_of};
+ghost use Rattle.snap_assert.specs.declared.config.Update.TheVariants.{InPlace};
+
+use crate::documents::{DocumentError, Stop, run_documents};
+use crate::runner::Runner;
+use crate::session::Session;
+use crate::status::Status;
+use crate::streams::{MAX_INPUT, ReadError, read_all};
+use snap_content::Text;
+use snap_content::characters::is_same;
+use snap_outside::{Sink, Source, Store};
+use std::alloc::Global;
+
+fn status_of(stop: Stop) -> Status
+    ensures { result ≡ status_of stop }
+{
+    let document = stop.document;
+    match stop.error {
+        DocumentError::NoRequest => Status::BadRequest { document },
+        DocumentError::FileIo(path) => Status::FileIo { document, path },
+        DocumentError::WriteFault => Status::WriteFault,
+        DocumentError::OutOfMemory => Status::OutOfMemory,
+    }
+}
+
+/// The workspace of the words `run inplace WORKSPACE`.
+fn workspace_in(words: &[Text]) -> Option<&Text>
+    ensures { MatchOption result (words_mean words.now ≡ None)
+        (λ workspace. words_mean words.now ≡ Some (record { workspace = workspace.now; update = InPlace; force_update = false; force_pass = false })) }
+{
+    match words {
+        [command, mode, workspace] => {
+            if is_same(command.as_str(), "run") && is_same(mode.as_str(), "inplace") {
+                Some(workspace)
+            } else {
+                None
+            }
+        }
+        _ => None,
+    }
+}
+
+/// What `run` does; its clauses are those of `run` but the last.
+fn run_words<S: Source, K: Sink, F: Store>(
+    alloc: Global,
+    words: &[Text],
+    source: &mut S,
+    sink: &mut K,
+    store: &mut F,
+) -> Status
+    ensures words { WordsCause words.now result }
+    ensures runs { RunsFrom result (words_mean words.now) (S.left source.old)
+        (F.files store.old) (F.files store.new) (K.written sink.old) (K.written sink.new) }
+    ensures length { LengthCause MAX_INPUT (S.left source.old) (S.left source.new) result }
+    ensures read { SourceCause (S.faults source.old) (S.faults source.new) result }
+    ensures write { SinkCause (K.faults sink.old) (K.faults sink.new) result }
+    ensures file { StoreCause (F.faults store.old) (F.faults store.new) result }
+{
+    let Some(workspace) = workspace_in(words) else {
+        return Status::BadWords;
+    };
+    let Ok(runner) = Runner::in_place(alloc, workspace) else {
+        return Status::OutOfMemory;
+    };
+    let input = match read_all(alloc, source) {
+        Ok(input) => input,
+        Err(ReadError::Fault) => return Status::ReadFault,
+        Err(ReadError::TooLong) => return Status::InputTooLong,
+        Err(ReadError::OutOfMemory) => return Status::OutOfMemory,
+    };
+    let mut session = Session::new(alloc);
+    match run_documents(alloc, &runner, &mut session, &input, sink, store) {
+        Ok(()) => Status::AllPassed,
+        Err(stop) => status_of(stop),
+    }
+}
+
+/// Reads the source to its end, asserts its requests in turn over the store, and writes a line for each.
+///
+/// The words are those of the command line, without the program's name. The line of a request is written before
+/// the next document runs, and the first refusal ends the run; what was done before stays.
+pub fn run<S: Source, K: Sink, F: Store>(
+    alloc: Global,
+    words: &[Text],
+    source: &mut S,
+    sink: &mut K,
+    store: &mut F,
+) -> Status
+    ensures words { WordsCause words.now result }
+    ensures runs { RunsFrom result (words_mean words.now) (S.left source.old)
+        (F.files store.old) (F.files store.new) (K.written sink.old) (K.written sink.new) }
+    ensures length { LengthCause MAX_INPUT (S.left source.old) (S.left source.new) result }
+    ensures read { SourceCause (S.faults source.old) (S.faults source.new) result }
+    ensures write { SinkCause (K.faults sink.old) (K.faults sink.new) result }
+    ensures file { StoreCause (F.faults store.old) (F.faults store.new) result }
+    // Without faults, a run over documents that spell requests ends well.
+    ensures complete { (input : List ℕ) (said : RunWords) → S.left source.old ≡ Some input → words_mean words.now ≡ Some said → AreSpelled (documents input) → length input ≤ MAX_INPUT
+        → IsSteady (S.faults source.old) (S.faults source.new) → IsSteady (K.faults sink.old) (K.faults sink.new) → IsSteady (F.faults store.old) (F.faults store.new)
+        → EndsWell result }
+{
+    run_words(alloc, words, source, sink, store)
+}

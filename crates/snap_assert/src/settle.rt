@@ -1,0 +1,79 @@
+//! What an assertion leaves in the store.
+ghost use Rattle.std.specs.Prelude.{◌≡◌, false, Some, OnOk, OnErr};
+ghost use Rattle.std.specs.FinMap.{remove};
+ghost use Rattle.snap_outside.specs.Files.{Files, SameBut, SameOutside};
+ghost use Rattle.snap_assert.specs.Outcomes.{AssertCause};
+ghost use Rattle.snap_assert.specs.Steps.{Asked, step, written, is_near};
+ghost use Rattle.snap_assert.specs.Prepared.{IsPrepared};
+ghost use Rattle.snap_assert.specs.Strays.{AreStrays};
+ghost use Rattle.snap_assert.specs.declared.config.Update.TheVariants.{InPlace};
+
+use crate::error::AssertError;
+use crate::prepare::Prepared;
+use crate::removal::remove_files;
+use snap_content::{Error, Text};
+use snap_outside::{Store, StoreError};
+use std::alloc::Global;
+
+/// Removes what waited for the tree that now passed.
+fn approve<S: Store>(
+    alloc: Global,
+    store: &mut S,
+    prepared: &Prepared,
+) -> Result<(), AssertError>
+    ensures ok { OnOk result ((m : Files) → S.files store.old ≡ Some m → S.files store.new ≡ Some (remove m prepared.now.pending)) }
+    ensures err { OnErr result ((m : Files) → S.files store.old ≡ Some m → SameBut prepared.now.pending m (S.files store.new)) }
+    ensures cause { AssertCause (S.faults store.old) (S.faults store.new) result }
+{
+    let Ok(named) = prepared.pending.try_clone(alloc) else {
+        return Err(AssertError::OutOfMemory);
+    };
+    match store.remove(&prepared.pending) {
+        Ok(_) => Ok(()),
+        Err(StoreError::Failed) => Err(AssertError::FileIo(named)),
+        Err(StoreError::OutOfMemory) => Err(AssertError::OutOfMemory),
+    }
+}
+
+/// Writes the tree that did not pass.
+fn update<S: Store>(
+    alloc: Global,
+    store: &mut S,
+    prepared: &Prepared,
+) -> Result<(), AssertError>
+    ensures ok { OnOk result ((asked : Asked) (m : Files) → IsPrepared asked prepared.now → S.files store.old ≡ Some m → S.files store.new ≡ Some (written InPlace asked m)) }
+    ensures err { OnErr result ((m : Files) → S.files store.old ≡ Some m → SameBut prepared.now.path m (S.files store.new)) }
+    ensures cause { AssertCause (S.faults store.old) (S.faults store.new) result }
+{
+    match prepared.snapshot.save(alloc, store, &prepared.path) {
+        Ok(()) => Ok(()),
+        Err(Error::FileIo(path)) => Err(AssertError::FileIo(path)),
+        Err(_) => Err(AssertError::OutOfMemory),
+    }
+}
+
+/// Removes the stray files, and then what waited, or writes the tree that did not pass.
+/// After an error only paths of this assertion may have changed.
+pub fn settle<S: Store>(
+    alloc: Global,
+    store: &mut S,
+    prepared: &Prepared,
+    passed: bool,
+    strays: &[Text],
+) -> Result<(), AssertError>
+    ensures ok { OnOk result ((asked : Asked) (m : Files) → IsPrepared asked prepared.now → S.files store.old ≡ Some m → AreStrays asked.path m strays.now
+        → S.files store.new ≡ Some (step InPlace false asked passed m)) }
+    ensures err { OnErr result ((asked : Asked) (m : Files) → IsPrepared asked prepared.now → S.files store.old ≡ Some m → AreStrays asked.path m strays.now
+        → SameOutside (is_near asked.path) m (S.files store.new)) }
+    ensures cause { AssertCause (S.faults store.old) (S.faults store.new) result }
+{
+    match remove_files(alloc, store, strays) {
+        Ok(()) => {}
+        Err(error) => return Err(error),
+    }
+    if passed {
+        approve(alloc, store, prepared)
+    } else {
+        update(alloc, store, prepared)
+    }
+}

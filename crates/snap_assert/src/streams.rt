@@ -1,0 +1,63 @@
+//! Whole inputs and whole lines, over a source and a sink.
+ghost use Rattle.std.specs.Prelude.{◌≡◌, ◌<◌, ◌≤◌, ◌++◌, [], List, ℕ, Some, length, take, IfOk, OnOk, OnErr, IsErrOf};
+ghost use Rattle.snap_outside.specs.Causes.{HasCause};
+ghost use Rattle.snap_outside.specs.Streams.{HoldsFront};
+ghost use Rattle.snap_assert.specs.Streams.{ReadCause};
+
+use snap_outside::{Fault, Sink, Source};
+use std::alloc::Global;
+
+/// The most bytes that an input may have.
+pub const MAX_INPUT: usize = 67_108_864;
+
+const PIECE: usize = 4096;
+
+/// Why an input is not read.
+#[derive(Clone, Copy, Debug, PartialEq, Eq)]
+pub enum ReadError {
+    Fault,
+    TooLong,
+    OutOfMemory,
+}
+
+/// Reads the source to its end, within the limit. At most one byte more than the limit is taken.
+pub fn read_all<S: Source>(alloc: Global, source: &mut S) -> Result<Vec<u8>, ReadError>
+    ensures all { IfOk result (λ bytes. (xs : List ℕ) → S.left source.old ≡ Some xs → bytes.items ≡ xs) }
+    ensures end { IfOk result (λ bytes. (xs : List ℕ) → S.left source.old ≡ Some xs → S.left source.new ≡ Some []) }
+    ensures within { IfOk result (λ bytes. length bytes.items ≤ MAX_INPUT) }
+    ensures too_long { IsErrOf result ReadError.TooLong → (xs : List ℕ) → S.left source.old ≡ Some xs → MAX_INPUT < length xs }
+    ensures cause { ReadCause (S.faults source.old) (S.faults source.new) result }
+{
+    let mut bytes = Vec::new(alloc);
+    let mut buffer = [0u8; PIECE];
+    while bytes.len() <= MAX_INPUT {
+        let room = PIECE.min(MAX_INPUT + 1 - bytes.len());
+        let (piece, _) = buffer.split_at_mut(room);
+        match source.read(piece) {
+            Ok(0) => return Ok(bytes),
+            Ok(count) => match bytes.extend_from_slice(&buffer[..count]) {
+                Ok(()) => {}
+                Err(_) => return Err(ReadError::OutOfMemory),
+            },
+            Err(_) => return Err(ReadError::Fault),
+        }
+    }
+    Err(ReadError::TooLong)
+}
+
+/// Writes all the bytes. After a fault a part of their front is written.
+pub fn write_all<K: Sink>(sink: &mut K, bytes: &[u8]) -> Result<(), Fault>
+    ensures all { OnOk result ((w : List ℕ) → K.written sink.old ≡ Some w → K.written sink.new ≡ Some (w ++ bytes.now)) }
+    ensures part { OnErr result ((w : List ℕ) → K.written sink.old ≡ Some w → HoldsFront bytes.now w (K.written sink.new)) }
+    ensures cause { HasCause (K.faults sink.old) (K.faults sink.new) result }
+{
+    let mut done = 0;
+    while done < bytes.len() {
+        let (_, rest) = bytes.split_at(done);
+        match sink.write(rest) {
+            Ok(count) => done += count,
+            Err(fault) => return Err(fault),
+        }
+    }
+    Ok(())
+}
