@@ -1,6 +1,7 @@
 -- Every number of a tree that is held has at most 128 bits.
 use Rattle.std.proofs.Common.{◌≡◌, suc, arith, subst, List, [], ◌∷◌, map, sym, ap, ◌∙◌, Vec, Global}
 use Rattle.std.specs.List.{All}
+use Rattle.std.specs.Prelude.{Result, Ok, Err, IfOk}
 use Rattle.snap_content.specs.Plain as p
 use Rattle.snap_print.specs.PlainTree.{view, entry_view, plains_of, entries_of}
 use Rattle.snap_content.specs.Readable.{IsWithin, AreWithin, AreEntriesWithin, IsEntryWithin}
@@ -24,3 +25,8 @@ pub dict_within : (whole : PlainTree) (v : Vec (PlainTree × PlainTree) Global) 
 dict_within whole v entries is same h =
     subst IsWithin (sym (ap view is ∙ view-dict v))
     (all_entries (map entry_view v.items) (subst (λ (xs : List (PlainTree × PlainTree)). All IsEntryWithin (map entry_view xs)) same h))
+
+-- what holds at each success, from what holds there
+pub at_success : {A E : Type 0} (result : Result A E) (P Q : Type 0) → (P → Q) → IfOk result (λ _. P) → IfOk result (λ _. Q)
+at_success (Ok made) P Q step h = step h
+at_success (Err error) P Q step h = h

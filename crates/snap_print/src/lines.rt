@@ -1,7 +1,8 @@
 //! The lines that a plain tree is printed as.
 ghost use Rattle.std.specs.Prelude.{◌≡◌, [], ◌∷◌, ◌++◌, IfOk, OnOk, map, true, false, MatchOption};
-ghost use Rattle.std.specs.List.{flat_map};
+ghost use Rattle.std.specs.List.{All, flat_map};
 ghost use Rattle.snap_content.specs.Lines.{behind, indented, lines_of, is_simple, entry_block, item_block, pair_block};
+ghost use Rattle.snap_content.specs.Readable.{IsWithin, IsEntryWithin};
 ghost use Rattle.snap_content.specs.Spell.{spelling, is_flat, is_scalar};
 ghost use Rattle.snap_print.specs.PlainTree.{view, entry_view};
 
@@ -49,7 +50,8 @@ fn push_behind(
 
 /// What is written for a scalar or an empty collection.
 fn spelled(alloc: Global, tree: &PlainTree) -> Result<Text, OutOfMemory>
-    ensures { IfOk result (λ text. text ≡ spelling (view tree.now)) }
+    ensures value { IfOk result (λ text. text ≡ spelling (view tree.now)) }
+    ensures within { is_flat (view tree.now) ≡ true → IfOk result (λ _. IsWithin (view tree.now)) }
 {
     match tree {
         PlainTree::Null => Text::from_ascii(alloc, "~"),
@@ -61,6 +63,7 @@ fn spelled(alloc: Global, tree: &PlainTree) -> Result<Text, OutOfMemory>
     }
 }
 
+/// Whether the tree is written on one line.
 fn is_one_line(tree: &PlainTree) -> bool
     ensures { result ≡ is_flat (view tree.now) }
 {
@@ -71,12 +74,14 @@ fn is_one_line(tree: &PlainTree) -> bool
     }
 }
 
+/// Whether the tree is neither a list nor a dict.
 fn is_scalar_tree(tree: &PlainTree) -> bool
     ensures { result ≡ is_scalar (view tree.now) }
 {
     !matches!(tree, PlainTree::List(_) | PlainTree::Dict(_))
 }
 
+/// A list of one line.
 fn single(alloc: Global, line: Text) -> Result<Vec<Text>, OutOfMemory>
     ensures { IfOk result (λ lines. lines.items ≡ line ∷ []) }
 {
@@ -85,10 +90,11 @@ fn single(alloc: Global, line: Text) -> Result<Vec<Text>, OutOfMemory>
     Ok(lines)
 }
 
-/// The lines of a tree.
+/// The lines of a tree. Each number of it was seen on the way, so each has at most 128 bits.
 #[cycle(lines)]
 pub fn printed_lines(alloc: Global, tree: &PlainTree) -> Result<Vec<Text>, OutOfMemory>
-    ensures { IfOk result (λ lines. lines.items ≡ lines_of (view tree.now)) }
+    ensures value { IfOk result (λ lines. lines.items ≡ lines_of (view tree.now)) }
+    ensures within { IfOk result (λ _. IsWithin (view tree.now)) }
 {
     if is_one_line(tree) {
         return single(alloc, spelled(alloc, tree)?);
@@ -100,9 +106,11 @@ pub fn printed_lines(alloc: Global, tree: &PlainTree) -> Result<Vec<Text>, OutOf
     }
 }
 
+/// The lines of the items of a list.
 #[cycle(lines)]
 fn item_lines(alloc: Global, items: &[PlainTree]) -> Result<Vec<Text>, OutOfMemory>
-    ensures { IfOk result (λ lines. lines.items ≡ flat_map item_block (map view items.now)) }
+    ensures value { IfOk result (λ lines. lines.items ≡ flat_map item_block (map view items.now)) }
+    ensures within { IfOk result (λ _. All IsWithin (map view items.now)) }
 {
     let mut out = Vec::new(alloc);
     for item in items {
@@ -112,9 +120,11 @@ fn item_lines(alloc: Global, items: &[PlainTree]) -> Result<Vec<Text>, OutOfMemo
     Ok(out)
 }
 
+/// The lines of the entries of a dict.
 #[cycle(lines)]
 fn entry_lines(alloc: Global, entries: &[(PlainTree, PlainTree)]) -> Result<Vec<Text>, OutOfMemory>
-    ensures { IfOk result (λ lines. lines.items ≡ flat_map pair_block (map entry_view entries.now)) }
+    ensures value { IfOk result (λ lines. lines.items ≡ flat_map pair_block (map entry_view entries.now)) }
+    ensures within { IfOk result (λ _. All IsEntryWithin (map entry_view entries.now)) }
 {
     let mut out = Vec::new(alloc);
     for (key, value) in entries {

@@ -1,6 +1,7 @@
 //! The text that a plain tree is printed as.
 ghost use Rattle.std.specs.Prelude.{◌≡◌, IfOk};
 ghost use Rattle.snap_content.specs.Lines.{document_of};
+ghost use Rattle.snap_content.specs.Readable.{IsWithin};
 ghost use Rattle.snap_print.specs.PlainTree.{view};
 
 use crate::lines::printed_lines;
@@ -10,7 +11,8 @@ use std::alloc::Global;
 
 /// `---`, and the lines of the tree, each with its end.
 pub fn document_text(alloc: Global, tree: &PlainTree) -> Result<Text, OutOfMemory>
-    ensures { IfOk result (λ text. text ≡ document_of (view tree.now)) }
+    ensures value { IfOk result (λ text. text ≡ document_of (view tree.now)) }
+    ensures within { IfOk result (λ _. IsWithin (view tree.now)) }
 {
     let lines = printed_lines(alloc, tree)?;
     let mut text = Text::from_ascii(alloc, "---\n")?;

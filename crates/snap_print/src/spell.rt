@@ -1,5 +1,6 @@
 //! How a scalar is spelled.
-ghost use Rattle.std.specs.Prelude.{◌≡◌, ◌++◌, IfOk, OnOk, false, ◌<◌};
+ghost use Rattle.std.specs.Prelude.{◌≡◌, ◌++◌, IfOk, OnOk, false, ◌<◌, ◌^◌};
+ghost use Rattle.snap_content.specs.Readable.{IsNumber};
 ghost use Rattle.snap_content.specs.Spell.{escaped, escaped_code, quoted, spell_text, spell_bool};
 ghost use Rattle.snap_print.specs.PlainTree.{number_of};
 ghost use Rattle.std.specs.Fmt.{decimal, signed_decimal, digit_glyph};
@@ -83,7 +84,8 @@ pub fn spelled_bool(alloc: Global, value: bool) -> Result<Text, OutOfMemory>
 
 /// The number in base ten.
 pub fn spelled_number(alloc: Global, value: WholeNumber) -> Result<Text, OutOfMemory>
-    ensures { IfOk result (λ text. text ≡ signed_decimal (number_of value)) }
+    ensures value { IfOk result (λ text. text ≡ signed_decimal (number_of value)) }
+    ensures within { IsNumber (number_of value) }
 {
     match value {
         WholeNumber::Unsigned(number) => unsigned_digits(alloc, number),
@@ -93,7 +95,8 @@ pub fn spelled_number(alloc: Global, value: WholeNumber) -> Result<Text, OutOfMe
 
 /// The number in base ten. It is a parameter, so that its range is known.
 fn unsigned_digits(alloc: Global, number: u128) -> Result<Text, OutOfMemory>
-    ensures { IfOk result (λ text. text ≡ decimal number) }
+    ensures value { IfOk result (λ text. text ≡ decimal number) }
+    ensures within { number < 2 ^ 128 }
 {
     let digits = format!(in alloc; "{number}")?;
     Text::from_ascii(alloc, digits.as_str())
@@ -101,7 +104,8 @@ fn unsigned_digits(alloc: Global, number: u128) -> Result<Text, OutOfMemory>
 
 /// The same of a number with a sign.
 fn signed_digits(alloc: Global, number: i128) -> Result<Text, OutOfMemory>
-    ensures { IfOk result (λ text. text ≡ signed_decimal number) }
+    ensures value { IfOk result (λ text. text ≡ signed_decimal number) }
+    ensures within { IsNumber number }
 {
     let digits = format!(in alloc; "{number}")?;
     Text::from_ascii(alloc, digits.as_str())

@@ -8,6 +8,6 @@ pub from_ascii-requires : goal.from_ascii-requires
 from_ascii-requires c =
     digits_ascii c.args.number c.as_str.result.now c.ranges.number (c.as_str.ensures.value ∙ c.in_ok-digits.ensures.ok)
 
-pub returns : goal.returns
-returns c =
+pub returns-clause-value : goal.returns-clause-value
+returns-clause-value c =
     rw (c.as_str.ensures.value ∙ c.in_ok-digits.ensures.ok ∙ ap signed_decimal (to_z-of_z c.ranges.number)) at c.from_ascii.ensures
