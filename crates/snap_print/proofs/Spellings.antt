@@ -1,5 +1,5 @@
 -- The four kinds of pieces: scalars and empty collections, each of which is a line.
-use Rattle.std.proofs.Common.{◌≡◌, ℕ, List, [], ◌∷◌, ◌++◌, Bool, true, false, ◌==◌, not, cond, refl, ap, ◌∙◌}
+use Rattle.std.proofs.Common.{◌≡◌, ℕ, List, [], ◌∷◌, ◌++◌, Bool, true, false, not, cond, refl, ap, ◌∙◌}
 use Rattle.std.specs.List.{flat_map, list_any}
 use Rattle.snap_content.specs.Plain as p
 use Rattle.snap_content.specs.Printed.{IsLine, is_break, begins_dashes}
