@@ -42,7 +42,7 @@ fn quotes(rt: HostRuntime) {
         assert!(rt; need_quotes(text), "{text:?}");
     }
     let bare = [
-        "a", "a b", "a\u{7}", "a\u{b}", "a\u{1b}", "a\u{7f}", "\u{a0}a", "nUll", "y", "0b1", "0o8",
+        "a", "a b", "a\u{7}", "a\u{b}c", "a\u{1b}", "a\u{7f}", "\u{a0}a", "nUll", "y", "0b1", "0o8",
         "1_000", "1.2.3", "e3", "inf.", "+-", "a-b", "99999999999999999999x",
     ];
     for text in bare {
