@@ -1,0 +1,5 @@
+use Rattle.snap_print.proofs.Typing.{typed_word}
+use Rattle.snap_emit.proofs.laws.words_are_typed.Goals as goal
+
+pub returns : goal.returns
+returns c = typed_word

@@ -1,0 +1,9 @@
+use Rattle.snap_content.specs.Plain.{plain}
+use Rattle.snap_content.specs.View.{tree}
+use Rattle.snap_print.proofs.LineFacts.{printed_lines}
+use Rattle.snap_print.proofs.Within.{at_success}
+use Rattle.snap_emit.proofs.yaml.to_string.Goals as goal
+
+pub returns-clause-lines : goal.returns-clause-lines
+returns-clause-lines c =
+    at_success c.document_text.result _ _ (printed_lines (plain (tree c.args.content.now))) (rw c.in_ok-made.ensures at c.document_text.ensures.within)

@@ -1,0 +1,23 @@
+//! Laws of printed texts.
+ghost use Rattle.std.specs.Prelude.{◌≡◌, true};
+ghost use Rattle.snap_content.specs.Lines.{lines_of, text_of};
+ghost use Rattle.snap_content.specs.Plain.{Plain};
+ghost use Rattle.snap_content.specs.Printed.{AreLines};
+ghost use Rattle.snap_content.specs.Readable.{IsReadable, IsWithin, is_word};
+ghost use Rattle.snap_content.specs.Spell.{spelling};
+ghost use Rattle.snap_content.specs.Typed.{typed, value};
+
+/// No line of a printed text is empty, holds a line's end, ends in white space or begins with two dashes.
+pub const fn printed_lines_are_lines()
+    ensures { (p : Plain) → IsWithin p → AreLines (lines_of p) }
+{}
+
+/// Trees with simple keys alone that are printed as one text are one tree.
+pub const fn one_text_is_one_tree()
+    ensures { (a b : Plain) → IsReadable a → IsReadable b → text_of a ≡ text_of b → a ≡ b }
+{}
+
+/// A scalar that is written without double quotes is what a reader takes its spelling for.
+pub const fn words_are_typed()
+    ensures { (t : Plain) → is_word t ≡ true → IsWithin t → typed (spelling t) ≡ value t }
+{}

@@ -1,0 +1,10 @@
+pub mod Tests
+pub mod Digits
+pub mod Words
+pub mod Escapes
+pub mod Spellings
+pub mod Trees
+pub mod Plains
+pub mod Within
+pub mod LineFacts
+pub mod Typing

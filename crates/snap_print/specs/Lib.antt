@@ -1,0 +1,2 @@
+pub mod PlainTree
+pub mod FromContent
