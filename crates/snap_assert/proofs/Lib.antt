@@ -1,0 +1,5 @@
+mod Readings
+mod Judgements
+mod Saved
+mod FilePaths
+mod Below

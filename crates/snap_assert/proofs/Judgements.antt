@@ -1,0 +1,168 @@
+-- What a reading of a file says of a pass.
+use Rattle.std.proofs.Common.{◌≡◌, ◌↔◌, ◌||◌, ◌&&◌, IsTrue, ℕ, Bool, true, false, cond, List, [], ◌∷◌, Option, None, Some, refl, sym, ap, ◌∙◌, subst, inl, inr, codes}
+use Rattle.snap_content.specs.Plain as p
+use Rattle.snap_content.specs.Plain.{Plain, dict, Entries, entry, no_entries}
+use Rattle.snap_content.specs.Lines.{text_of}
+use Rattle.snap_content.specs.declared.error.Error.{Error}
+use Rattle.snap_content.specs.declared.error.Error.TheVariants.{FailedParsingYaml, UnexpectedDataType, MissingField, FileIo, FloatText, JsonKey, NotText, NoFile, OutOfMemory}
+use Rattle.snap_text.specs.Contents.{raw_of}
+use Rattle.snap_text.specs.Normal.{normal}
+use Rattle.snap_store.specs.Agreement.{Agree}
+use Rattle.snap_store.specs.Fields.{is_named, is_text, is_binary, kind_in, binary_kind, last_value, later_or, text_value}
+use Rattle.snap_store.specs.FileSplit.{body_of}
+use Rattle.snap_store.specs.Reading.{IsTextFile, HasHeader, HoldsBody, IsReadAs, IsRefused, IsNoText, HasNoHeader, HasOtherHeader, LacksExtension}
+use Rattle.snap_store.specs.Views.{contents_in, text_in}
+use Rattle.snap_store.specs.declared.contents.SnapshotContents.{SnapshotContents}
+use Rattle.snap_store.specs.declared.contents.SnapshotContents.TheVariants.{Text, Binary}
+use Rattle.snap_store.specs.declared.metadata.SnapshotKind.{SnapshotKind}
+use Rattle.snap_store.specs.declared.metadata.SnapshotKind.TheVariants as kind
+use Rattle.snap_store.specs.declared.snapshot.Snapshot.{Snapshot}
+use Rattle.snap_assert.specs.Judging.{BodyAgrees, HasCanonicalHeader, HasBinaryHeader, says_binary, May}
+use Rattle.snap_assert.proofs.Readings.{one_text, no_text_file, text_or_none, one_header, one_dict, one_reading}
+use Rattle.snap_assert.proofs.Saved.{against_saved}
+
+-- a pass that is decided by two facts and two refusals
+pub judged : (passed : Bool) (file : Option (List ℕ)) (tree : Plain) → (file ≡ None → passed ≡ false)
+    → (passed ≡ true → BodyAgrees file (text_of tree)) → (HasCanonicalHeader file → BodyAgrees file (text_of tree) → passed ≡ true)
+    → (HasBinaryHeader file → passed ≡ false) → May passed file tree
+judged passed file tree absent agrees canonical binary = record {
+  absent = absent;
+  agrees = agrees;
+  canonical = canonical;
+  binary = binary;
+  saved = against_saved passed file tree agrees canonical;
+}
+
+-- no pass, where the file has no canonical header
+pub no_pass : (file : Option (List ℕ)) (tree : Plain) → (HasCanonicalHeader file → ⊥) → May false file tree
+no_pass file tree none = judged false file tree (λ e. refl) (λ e. cc) (λ h b. absurd (none h)) (λ h. refl)
+
+pub no_file : (file : Option (List ℕ)) (tree : Plain) → file ≡ None → May false file tree
+no_file file tree none = no_pass file tree (λ h. no_text_file file h.whole none h.there)
+
+-- where the header reads as binary, one of its pairs says so
+or_right : (a b : Bool) → b ≡ true → (a || b) ≡ true
+or_right true b h = refl
+or_right false b h = h
+
+named_binary : (value : Plain) → is_text (codes "binary") (text_value (Some value)) ≡ is_named (codes "binary") value
+named_binary p.null = refl
+named_binary (p.bool b) = refl
+named_binary (p.int z) = refl
+named_binary (p.text s) = refl
+named_binary (p.list items) = refl
+named_binary (p.dict entries) = refl
+
+last_says : (found : Option Plain) (here : Bool) (value : Plain) (more : Bool) → (is_text (codes "binary") (text_value found) ≡ true → more ≡ true)
+    → is_text (codes "binary") (text_value (later_or found here value)) ≡ true → ((here && is_named (codes "binary") value) || more) ≡ true
+last_says (Some later) here value more rest h = or_right (here && is_named (codes "binary") value) more (rest h)
+last_says None true value more rest h = ap (λ b. b || more) (sym (named_binary value) ∙ h)
+last_says None false value more rest h = absurd (cc)
+
+pub binary_says : (entries : Entries) → is_binary entries ≡ true → says_binary entries ≡ true
+binary_says no_entries h = absurd (cc)
+binary_says (entry key value more) h =
+    last_says (last_value (codes "snapshot_kind") more) (is_named (codes "snapshot_kind") key) value (says_binary more) (binary_says more) h
+
+canonical_text : (entries : Entries) → says_binary entries ≡ false → is_binary entries ≡ false
+canonical_text entries h = by (is_binary entries) refl
+  where
+    by : (b : Bool) → is_binary entries ≡ b → is_binary entries ≡ false
+    by true e = absurd (let t = binary_says entries e in cc (t, h))
+    by false e = e
+
+kind_of_text : (b : Bool) (extension : Option (List ℕ)) → b ≡ false → cond b (binary_kind extension) (Some kind.Text) ≡ Some kind.Text
+kind_of_text b extension h = ap (λ c. cond c (binary_kind extension) (Some kind.Text)) h
+
+pub canonical_kind : (entries : Entries) → says_binary entries ≡ false → kind_in entries ≡ Some kind.Text
+canonical_kind entries h = kind_of_text (is_binary entries) (text_value (last_value (codes "extension") entries)) (canonical_text entries h)
+
+-- a refusal of the file is no pass
+pub refused_no_pass : (path : List ℕ) (file : Option (List ℕ)) (tree : Plain) (error : Error) → IsRefused path file error
+    → ((named : List ℕ) → error ≡ FileIo named → ⊥) → (error ≡ OutOfMemory → ⊥) → May false file tree
+refused_no_pass path file tree (NoFile named) h io memory = no_file file tree h.1
+refused_no_pass path file tree (NotText named) h io memory = no_pass file tree (λ k. text_or_none file k.whole h.1 k.there)
+refused_no_pass path file tree (FailedParsingYaml named) h io memory =
+    no_pass file tree (λ k. h.1.none (dict k.entries) (subst (λ t. HasHeader t (dict k.entries)) (one_text file k.whole h.1.text k.there h.1.there) k.header))
+refused_no_pass path file tree UnexpectedDataType h io memory =
+    no_pass file tree (λ k. h.other k.entries (one_reading file h.text k.whole h.tree (dict k.entries) h.there h.header k.there k.header).tree)
+refused_no_pass path file tree MissingField h io memory =
+    no_pass file tree (λ k.
+    let same : h.entries ≡ k.entries = dict_same h.entries k.entries (one_reading file h.text k.whole (dict h.entries) (dict k.entries) h.there h.header k.there k.header).tree in
+    let text = canonical_kind k.entries k.not_binary in
+    let lacking = h.lacking in
+    clash h.entries k.entries same lacking text)
+  where
+    dict_same : (a b : Entries) → dict a ≡ dict b → a ≡ b
+    dict_same a b e = cc
+    clash : (a b : Entries) → a ≡ b → kind_in a ≡ None → kind_in b ≡ Some kind.Text → ⊥
+    clash a b same none some = let e = sym none ∙ ap kind_in same ∙ some in cc e
+refused_no_pass path file tree (FileIo named) h io memory = absurd (io named refl)
+refused_no_pass path file tree (FloatText named) h io memory = absurd h
+refused_no_pass path file tree JsonKey h io memory = absurd h
+refused_no_pass path file tree OutOfMemory h io memory = absurd (memory refl)
+
+-- a file that was read: a text passes where the contents agree, and a payload never does
+pub record Compares (passed : Bool) (old new : SnapshotContents) (printed : List ℕ) : Type 0 where
+  pub tells : IsTrue passed ↔ Agree old new
+  pub printed_is : text_in new ≡ Some printed
+
+some_raw : (a b : List ℕ) → Some a ≡ Some b → a ≡ b
+some_raw a b e = cc
+
+held_agrees : (k : SnapshotKind) (body printed : List ℕ) (old new : SnapshotContents) → HoldsBody k body old → text_in new ≡ Some printed → Agree old new → normal body ≡ normal printed
+held_agrees kind.Text body printed (Text held) (Text fresh) h e a = ap normal (sym h.0) ∙ a ∙ ap normal (some_raw (raw_of fresh) printed e)
+held_agrees kind.Text body printed (Text held) (Binary payload) h e a = absurd a
+held_agrees kind.Text body printed (Binary payload) new h e a = absurd h
+held_agrees (kind.Binary extension) body printed (Text held) new h e a = absurd h
+held_agrees (kind.Binary extension) body printed (Binary payload) (Text fresh) h e a = absurd a
+held_agrees (kind.Binary extension) body printed (Binary payload) (Binary other) h e a = absurd (cc)
+
+agrees_held : (body printed : List ℕ) (old new : SnapshotContents) → HoldsBody kind.Text body old → text_in new ≡ Some printed → normal body ≡ normal printed → Agree old new
+agrees_held body printed (Text held) (Text fresh) h e n = ap normal h.0 ∙ n ∙ ap normal (sym (some_raw (raw_of fresh) printed e))
+agrees_held body printed (Text held) (Binary payload) h e n = absurd (cc)
+agrees_held body printed (Binary payload) new h e n = absurd h
+
+no_agreement : (k : SnapshotKind) (body printed : List ℕ) (old new : SnapshotContents) → (extension : List ℕ) → k ≡ kind.Binary extension → HoldsBody k body old → text_in new ≡ Some printed → Agree old new → ⊥
+no_agreement kind.Text body printed old new extension e h t a = cc
+no_agreement (kind.Binary x) body printed (Text held) new extension e h t a = h
+no_agreement (kind.Binary x) body printed (Binary payload) (Text fresh) extension e h t a = a
+no_agreement (kind.Binary x) body printed (Binary payload) (Binary other) extension e h t a = cc t
+
+not_true : (b : Bool) → (b ≡ true → ⊥) → b ≡ false
+not_true true h = absurd (h refl)
+not_true false h = refl
+
+-- the kind of a header that says binary
+binary_is : (b : Bool) (extension : Option (List ℕ)) (k : SnapshotKind) → b ≡ true → cond b (binary_kind extension) (Some kind.Text) ≡ Some k
+    → (x : List ℕ) × (k ≡ kind.Binary x)
+binary_is b None k h e = absurd (let f : cond true (binary_kind None) (Some kind.Text) ≡ Some k = ap (λ c. cond c (binary_kind None) (Some kind.Text)) (sym h) ∙ e in cc f)
+binary_is b (Some x) k h e = (x, let f : cond true (binary_kind (Some x)) (Some kind.Text) ≡ Some k = ap (λ c. cond c (binary_kind (Some x)) (Some kind.Text)) (sym h) ∙ e in cc f)
+
+same_kind : (a b : SnapshotKind) → Some a ≡ Some b → a ≡ b
+same_kind a b e = cc
+
+pub read_judged : (file : Option (List ℕ)) (tree : Plain) (snapshot : Snapshot) (new : SnapshotContents) (passed : Bool) → IsReadAs file snapshot
+    → Compares passed (contents_in snapshot) new (text_of tree) → May passed file tree
+read_judged file tree snapshot new passed r c = judged passed file tree
+    (λ none. absurd (no_text_file file r.text none r.there))
+    (λ yes. record {
+      whole = r.text;
+      there = r.there;
+      same = held_agrees r.kind (body_of r.text) (text_of tree) (contents_in snapshot) new r.contents c.printed_is (c.tells.0 yes);
+    })
+    (λ h b.
+    let one = one_reading file r.text h.whole (dict r.entries) (dict h.entries) r.there r.header h.there h.header in
+    let entries : r.entries ≡ h.entries = dict_same r.entries h.entries one.tree in
+    let text : r.kind ≡ kind.Text = same_kind r.kind kind.Text (sym r.kind_is ∙ ap kind_in entries ∙ canonical_kind h.entries h.not_binary) in
+    let body : normal (body_of r.text) ≡ normal (text_of tree) = ap (λ t. normal (body_of t)) (one_text file r.text b.whole r.there b.there) ∙ b.same in
+    c.tells.1 (agrees_held (body_of r.text) (text_of tree) (contents_in snapshot) new (subst (λ k. HoldsBody k (body_of r.text) (contents_in snapshot)) text r.contents) c.printed_is body))
+    (λ h.
+    let one = one_reading file r.text h.whole (dict r.entries) (dict h.entries) r.there r.header h.there h.header in
+    let entries : r.entries ≡ h.entries = dict_same r.entries h.entries one.tree in
+    let binary : is_binary r.entries ≡ true = ap is_binary entries ∙ h.binary in
+    let found = binary_is (is_binary r.entries) (text_value (last_value (codes "extension") r.entries)) r.kind binary r.kind_is in
+    not_true passed (λ yes. no_agreement r.kind (body_of r.text) (text_of tree) (contents_in snapshot) new found.0 found.1 r.contents c.printed_is (c.tells.0 yes)))
+  where
+    dict_same : (a b : Entries) → dict a ≡ dict b → a ≡ b
+    dict_same a b e = cc

@@ -1,0 +1,56 @@
+-- A tree against a file that was saved for another.
+use Rattle.std.proofs.Common.{◌≡◌, ◌↔◌, ℕ, Bool, true, false, List, [], ◌∷◌, ◌++◌, Option, refl, sym, ap, ◌∙◌, subst}
+use Rattle.snap_content.specs.Plain.{Plain, dict}
+use Rattle.snap_content.specs.Lines.{text_of}
+use Rattle.snap_content.specs.Readable.{IsReadable}
+use Rattle.snap_plain.proofs.Injective.{texts_same}
+use Rattle.snap_text.specs.Normal.{normal}
+use Rattle.snap_store.specs.FileSplit.{body_of}
+use Rattle.snap_store.specs.Image.{file_of}
+use Rattle.snap_store.specs.Reading.{IsTextFile, HasHeader}
+use Rattle.snap_assert.specs.Judging.{BodyAgrees, HasCanonicalHeader, IsSavedFor}
+use Rattle.snap_assert.proofs.Below.{normal-text_of, headed-file_of, header-file_of, body-file_of, normal-ended}
+use Rattle.snap_assert.proofs.Readings.{one_text}
+
+-- two printed trees with one normal form are one tree
+pub normals_same : (a b : Plain) → IsReadable a → IsReadable b → normal (text_of a) ≡ normal (text_of b) → a ≡ b
+normals_same a b h k e =
+    texts_same a b h k (sym (normal-text_of a h.within) ∙ ap (λ t. t ++ 10 ∷ []) e ∙ normal-text_of b k.within)
+
+-- the body of a saved file has the normal form of the tree's text
+body_normal : (file : Option (List ℕ)) (q : Plain) (s : IsSavedFor file q) → normal (body_of (file_of (dict s.entries) q)) ≡ normal (text_of q)
+body_normal file q s =
+    let d = dict s.entries in
+    sym (normal-ended (body_of (file_of d q))) ∙ ap normal (body-file_of d q s.header.within s.readable.within)
+
+pub saved_header : (file : Option (List ℕ)) (q : Plain) → IsSavedFor file q → HasCanonicalHeader file
+saved_header file q s = record {
+  whole = file_of (dict s.entries) q;
+  there = s.there;
+  entries = s.entries;
+  header = record {
+    headed = headed-file_of (dict s.entries) q s.header.within s.readable.within;
+    readable = s.header;
+    header = header-file_of (dict s.entries) q s.header.within s.readable.within;
+  };
+  not_binary = s.not_binary;
+}
+
+pub saved_body : (file : Option (List ℕ)) (q tree : Plain) → IsSavedFor file q → q ≡ tree → BodyAgrees file (text_of tree)
+saved_body file q tree s e = record {
+  whole = file_of (dict s.entries) q;
+  there = s.there;
+  same = body_normal file q s ∙ ap (λ t. normal (text_of t)) e;
+}
+
+pub saved_tree : (file : Option (List ℕ)) (q tree : Plain) → IsSavedFor file q → IsReadable tree → BodyAgrees file (text_of tree) → q ≡ tree
+saved_tree file q tree s h b =
+    let whole = one_text file b.whole (file_of (dict s.entries) q) b.there s.there in
+    normals_same q tree s.readable h (sym (body_normal file q s) ∙ ap (λ t. normal (body_of t)) (sym whole) ∙ b.same)
+
+-- what a pass says and where it must come decide it against a saved file
+pub against_saved : (passed : Bool) (file : Option (List ℕ)) (tree : Plain)
+    → (passed ≡ true → BodyAgrees file (text_of tree)) → (HasCanonicalHeader file → BodyAgrees file (text_of tree) → passed ≡ true)
+    → (q : Plain) → IsSavedFor file q → IsReadable tree → (passed ≡ true) ↔ (q ≡ tree)
+against_saved passed file tree agrees canonical q s h =
+    (λ p. saved_tree file q tree s h (agrees p), λ e. canonical (saved_header file q s) (saved_body file q tree s e))
