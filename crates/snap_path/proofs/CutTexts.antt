@@ -1,8 +1,8 @@
 -- The last place of a mark in a text, by its bytes and by its characters.
-use Rattle.std.proofs.Common.{◌≡◌, ◌≢◌, ℕ, ◌<◌, ◌≤◌, ◌+◌, List, [], ◌∷◌, ◌++◌, Bool, true, false, cond, Option, None, Some, Bor, length, take, drop, get_or, refl, sym, ap, ◌∙◌, subst, arith, length-append, length-drop, MatchOption, IfSome, inl, inr, ◌⊎◌, ⊎_elim}
+use Rattle.std.proofs.Common.{◌≡◌, ℕ, ◌<◌, ◌≤◌, ◌+◌, List, [], ◌∷◌, ◌++◌, Option, None, Some, Bor, length, take, drop, get_or, refl, sym, ap, ◌∙◌, subst, arith, length-append, length-drop, MatchOption, IfSome, inl, inr, ◌⊎◌}
 use Rattle.std.proofs.Math.Seq.{take-append_seam, drop-append_seam}
 use Rattle.std.proofs.lemmas.List.{take-append-drop, take-append-le}
-use Rattle.std.proofs.lemmas.Str.{encodes-chars, encodes-append, encodes-IsAscii, chars-append, length-le-encodes, IsUtf8-take, IsUtf8-drop, IsUtf8-from_ascii, IsCharBoundary-before_ascii}
+use Rattle.std.proofs.lemmas.Str.{encodes-chars, encodes-append, encodes-IsAscii, chars-append, length-le-encodes, IsUtf8-take, IsUtf8-from_ascii, IsCharBoundary-before_ascii}
 use Rattle.std.proofs.lemmas.Bool.{cases_lt}
 use Rattle.std.specs.List.{list_all}
 use Rattle.std.specs.Char.{is_ascii}
@@ -11,7 +11,7 @@ use Rattle.std.specs.Str.{chars, IsUtf8, IsAscii}
 use Rattle.std.specs.Str.Pattern.{RFindsText, SplitsAroundMatch, LacksTextAt}
 use Rattle.snap_content.proofs.Ascii.{IsAscii-list_all, chars-ascii}
 use Rattle.snap_path.specs.Names.{cut_last, cut_of}
-use Rattle.snap_path.proofs.Cuts.{IsLastCut, cut_last-is, cut_last-none}
+use Rattle.snap_path.proofs.Cuts.{cut_last-is, cut_last-none}
 use lib.Utf8.{encodes}
 
 -- a cut in characters is one in bytes
@@ -36,10 +36,10 @@ fewer s front xs u v utf8 e f short = by (cases_lt (length (chars front)) (lengt
         let n = length (chars front) in
         let le : n ≤ length xs = omega arith in
         let same : take n xs ≡ chars front =
-            sym (take-append-le n xs u le) ∙ ap (take n) (sym e ∙ f) ∙ take-append_seam (chars front) v in
+        sym (take-append-le n xs u le) ∙ ap (take n) (sym e ∙ f) ∙ take-append_seam (chars front) v in
         let whole : encodes xs ≡ front ++ encodes (drop n xs) =
-            ap encodes (sym (take-append-drop n xs)) ∙ encodes-append (take n xs) (drop n xs) ∙ ap (λ t. encodes t ++ encodes (drop n xs)) same
-            ∙ ap (λ t. t ++ encodes (drop n xs)) (encodes-chars front utf8) in
+        ap encodes (sym (take-append-drop n xs)) ∙ encodes-append (take n xs) (drop n xs) ∙ ap (λ t. encodes t ++ encodes (drop n xs)) same
+        ∙ ap (λ t. t ++ encodes (drop n xs)) (encodes-chars front utf8) in
         let a : length (encodes xs) ≡ length front + length (encodes (drop n xs)) = ap length whole ∙ length-append front (encodes (drop n xs)) in
         let b : length (drop n xs) ≤ length (encodes (drop n xs)) = length-le-encodes (drop n xs) in
         let d = length-drop n xs in
@@ -80,7 +80,7 @@ found m ms s front back u ascii_test (i, j, (later, at), front_is, back_is, orde
     let mark : List ℕ = m ∷ ms in
     let ascii : IsAscii mark = IsAscii-list_all mark ascii_test in
     let e : s ≡ front ++ (mark ++ back) =
-        sym (take-append-drop i s) ∙ ap (λ t. t ++ drop i s) (sym front_is) ∙ ap (λ t. front ++ t) (at.split ∙ ap (λ t. mark ++ t) (sym back_is)) in
+    sym (take-append-drop i s) ∙ ap (λ t. t ++ drop i s) (sym front_is) ∙ ap (λ t. front ++ t) (at.split ∙ ap (λ t. mark ++ t) (sym back_is)) in
     let size : length s ≡ length front + length (mark ++ back) = ap length e ∙ length-append front (mark ++ back) in
     let within : i < length s = omega (arith, size, front_len) in
     let starts : get_or s i 0 < 128 = byte_at s front (ms ++ back) i m front_len e (ascii 0) in
@@ -98,9 +98,9 @@ found m ms s front back u ascii_test (i, j, (later, at), front_is, back_is, orde
 lacking : (m : ℕ) (ms s : List ℕ) → IsUtf8 s → IsTrue (list_all is_ascii (m ∷ ms)) → ((i : ℕ) → i ≤ length s → LacksTextAt (m ∷ ms) s i) → cut_last (m ∷ ms) (chars s) ≡ None
 lacking m ms s u ascii_test none =
     cut_last-none m ms (chars s) (λ xs ys same.
-      let e : s ≡ encodes xs ++ ((m ∷ ms) ++ encodes ys) = bytes_cut s (m ∷ ms) xs ys u (IsAscii-list_all (m ∷ ms) ascii_test) same in
-      let n : length (encodes xs) ≤ length s = rw (e, length-append (encodes xs) ((m ∷ ms) ++ encodes ys)) (omega arith) in
-      none (length (encodes xs)) n (encodes ys) (ap (drop (length (encodes xs))) e ∙ drop-append_seam (encodes xs) ((m ∷ ms) ++ encodes ys)))
+    let e : s ≡ encodes xs ++ ((m ∷ ms) ++ encodes ys) = bytes_cut s (m ∷ ms) xs ys u (IsAscii-list_all (m ∷ ms) ascii_test) same in
+    let n : length (encodes xs) ≤ length s = rw (e, length-append (encodes xs) ((m ∷ ms) ++ encodes ys)) (omega arith) in
+    none (length (encodes xs)) n (encodes ys) (ap (drop (length (encodes xs))) e ∙ drop-append_seam (encodes xs) ((m ∷ ms) ++ encodes ys)))
 
 pub cut_clause : (mark s : List ℕ) (r : Option (Bor (List ℕ) × Bor (List ℕ))) → IsUtf8 s → IsTrue (list_all is_ascii mark) → 0 < length mark
     → MatchOption r (RFindsText mark s None) (λ x. SplitsAroundMatch (RFindsText mark) s x.0.now x.1.now)

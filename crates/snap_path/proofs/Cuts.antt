@@ -1,5 +1,5 @@
 -- The cut of a text at the last place where a mark stands.
-use Rattle.std.proofs.Common.{◌≡◌, ◌==◌, ℕ, suc, ◌≤◌, List, [], ◌∷◌, ◌++◌, Bool, true, false, cond, Option, None, Some, length, take, drop, refl, sym, ap, ◌∙◌, subst, arith, eq-eqb, true-eqb, lit≤}
+use Rattle.std.proofs.Common.{◌≡◌, ◌==◌, ℕ, ◌≤◌, List, [], ◌∷◌, ◌++◌, Bool, true, false, cond, Option, None, Some, length, take, drop, refl, sym, ap, ◌∙◌, arith, eq-eqb, true-eqb, lit≤}
 use Rattle.std.proofs.Math.Seq.{take-append_seam, drop-append_seam}
 use Rattle.snap_path.specs.Names.{Cut, cut_of, past_mark, later_or_here, cut_last}
 

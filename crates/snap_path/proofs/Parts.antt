@@ -1,11 +1,11 @@
 -- The components of a text: character by character, and from its last slash.
-use Rattle.std.proofs.Common.{◌≡◌, ℕ, List, [], ◌∷◌, ◌++◌, Bool, true, false, ◌==◌, cond, codes, take, drop, get_or, length, ◌<◌, ◌+◌, subst, arith, MatchOption, Option, None, Some, refl, sym, ap, ◌∙◌, append_assoc, append-nil}
+use Rattle.std.proofs.Common.{◌≡◌, ℕ, List, [], ◌∷◌, ◌++◌, Bool, true, false, ◌==◌, cond, codes, take, get_or, length, ◌<◌, ◌+◌, subst, arith, MatchOption, Option, None, Some, refl, sym, ap, ◌∙◌, append_assoc, append-nil}
 use Rattle.std.specs.List.{filter, flat_map}
 use Rattle.std.proofs.lemmas.List.Elements.{filter-append}
 use Rattle.std.proofs.lemmas.List.{take_more}
 use Rattle.std.specs.Prelude.{option_to_list}
 use Rattle.snap_path.specs.Paths.{attached, between_slashes, is_component, components, slashed, behind_slash, steps_up, all_but_last, last_of, name_of}
-use Rattle.snap_path.specs.Names.{Cut, cut_of, past_mark, later_or_here, cut_last}
+use Rattle.snap_path.specs.Names.{Cut, cut_of, later_or_here, cut_last}
 
 -- the part so far, in front of the first of the parts to come
 abbrev pub continued : List ℕ → List (List ℕ) → List (List ℕ)

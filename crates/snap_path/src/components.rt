@@ -49,11 +49,7 @@ pub fn parts_of(alloc: Global, path: &str) -> Result<Vec<Text>, OutOfMemory>
 }
 
 /// Adds copies of the parts.
-pub fn push_copies(
-    alloc: Global,
-    parts: &mut Vec<Text>,
-    more: &[Text],
-) -> Result<(), OutOfMemory>
+pub fn push_copies(alloc: Global, parts: &mut Vec<Text>, more: &[Text]) -> Result<(), OutOfMemory>
     ensures { OnOk result (parts.new.items ≡ parts.old.items ++ more.now) }
 {
     for part in more {

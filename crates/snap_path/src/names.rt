@@ -96,7 +96,11 @@ mod tests {
     fn names_and_modules(rt: HostRuntime) -> Result<(), Fail> {
         let alloc = rt.alloc();
         for (path, name, module) in [
-            ("/src/snapshots/insta_tests__tests__name_foo.snap", "name_foo", "insta_tests__tests"),
+            (
+                "/src/snapshots/insta_tests__tests__name_foo.snap",
+                "name_foo",
+                "insta_tests__tests",
+            ),
             ("foo/src/snapshots/go1.20.5.snap", "go1.20.5", ""),
             ("x/.hidden", ".hidden", ""),
             ("x/.hidden.snap", ".hidden", ""),

@@ -91,7 +91,11 @@ mod tests {
             ("", "", ""),
             ("/", "x", "/x"),
         ] {
-            let path = path_join(alloc, &Text::from_str(alloc, base)?, &Text::from_str(alloc, tail)?)?;
+            let path = path_join(
+                alloc,
+                &Text::from_str(alloc, base)?,
+                &Text::from_str(alloc, tail)?,
+            )?;
             assert_eq!(rt; path.as_str(), want);
         }
         Ok(())
@@ -124,7 +128,11 @@ mod tests {
             ("a/b", "/a", "a/b"),
             ("a", "a", ""),
         ] {
-            let seen = path_relative_from(alloc, &Text::from_str(alloc, path)?, &Text::from_str(alloc, base)?)?;
+            let seen = path_relative_from(
+                alloc,
+                &Text::from_str(alloc, path)?,
+                &Text::from_str(alloc, base)?,
+            )?;
             assert_eq!(rt; seen.as_str(), want);
         }
         Ok(())

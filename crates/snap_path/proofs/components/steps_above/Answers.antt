@@ -1,4 +1,3 @@
-use Rattle.std.proofs.Common.{◌≡◌, ◌++◌, sym, ap, ◌∙◌}
 use Rattle.snap_path.proofs.Parts.{steps_up-push}
 use Rattle.snap_path.proofs.components.steps_above.Goals as goal
 

@@ -12,5 +12,5 @@ returns c =
     let kept = c.deref.ensures.value ∙ sym (popped c.in_ok-parts.parts.items c.pop-name.new.self.items c.pop-name.result c.in_ok-parts.parts.len c.pop-name.new.self.len size c.pop-name.ensures.items c.pop-name.ensures.cases) in
     let parts = ap all_but_last (c.in_ok-parts.ensures ∙ ap components c.as_str.ensures) in
     let e : path_of_parts c.begins_with.result c.deref.result.now ≡ parent_of path =
-        ap (λ b. path_of_parts b c.deref.result.now) absolute ∙ ap (path_of_parts (is_absolute path)) (kept ∙ parts) in
+    ap (λ b. path_of_parts b c.deref.result.now) absolute ∙ ap (path_of_parts (is_absolute path)) (kept ∙ parts) in
     IfOk-weaker c.path_text.result _ _ (λ p h. h ∙ e) c.path_text.ensures
