@@ -1,0 +1,4 @@
+mod Parts
+mod Cuts
+mod CutTexts
+pub mod Joining

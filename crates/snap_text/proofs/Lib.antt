@@ -1,0 +1,4 @@
+mod LineTexts
+mod Returns
+pub mod Trimming
+pub mod NormalForms

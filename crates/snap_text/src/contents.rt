@@ -3,9 +3,11 @@ ghost use Rattle.std.specs.Prelude.{◌≡◌, ◌↔◌, IsTrue, IfOk};
 ghost use Rattle.std.specs.Str.{chars};
 ghost use Rattle.snap_text.specs.Normal.{normal};
 
-use crate::normal::normal_text;
+use crate::lines::{split_line, trim_returns};
+use crate::normal::{normal_text, trimmed_text};
 use snap_content::{OutOfMemory, Text};
 use std::alloc::Global;
+use std::fmt;
 
 /// Where the text of a snapshot stands.
 #[derive(Clone, Copy, Debug, PartialEq, Eq)]
@@ -15,7 +17,7 @@ pub enum TextSnapshotKind {
 }
 
 /// The text of a snapshot.
-#[derive(Debug, Drop)]
+#[derive(Debug, Drop, PartialEq, Eq)]
 pub struct TextSnapshotContents {
     raw: Text,
     kind: TextSnapshotKind,
@@ -83,5 +85,68 @@ impl TextSnapshotContents {
         let left = self.normal(alloc)?;
         let right = other.normal(alloc)?;
         Ok(left == right)
+    }
+}
+
+/// The normal form, written line by line.
+impl fmt::Display for TextSnapshotContents {
+    fn fmt<W: fmt::Write>(&self, f: &mut fmt::Formatter<W>) -> fmt::Result {
+        let mut rest = trimmed_text(self.as_raw());
+        while let Some((line, more)) = split_line(rest) {
+            f.write_str(trim_returns(line))?;
+            f.write_str("\n")?;
+            rest = more;
+        }
+        f.write_str(rest)
+    }
+}
+
+#[cfg(test)]
+mod tests {
+    use super::*;
+    use std::test::Fail;
+
+    fn contents(alloc: Global, text: &str) -> Result<TextSnapshotContents, OutOfMemory> {
+        Ok(TextSnapshotContents::new(Text::from_str(alloc, text)?, TextSnapshotKind::File))
+    }
+
+    #[test]
+    fn normal_forms(rt: HostRuntime) -> Result<(), Fail> {
+        let alloc = rt.alloc();
+        for (text, normal) in [
+            ("a\r\r\nb\n", "a\nb"),
+            ("a\rb\r\n", "a\rb"),
+            ("  a \n\u{a0}\n", "  a"),
+            (" \r\n\t", ""),
+        ] {
+            let given = contents(alloc, text)?;
+            assert_eq!(rt; given.normal(alloc)?.as_str(), normal);
+            assert_eq!(rt; given.to_string(alloc)?.as_str(), normal);
+            assert_eq!(rt; given.as_raw(), text);
+        }
+        Ok(())
+    }
+
+    #[test]
+    fn agreement(rt: HostRuntime) -> Result<(), Fail> {
+        let alloc = rt.alloc();
+        let text = contents(alloc, "a b\n")?;
+        for (other, latest) in [
+            ("a b\n", true),
+            ("a b", true),
+            ("a b\r\n \n", true),
+            ("a  b\n", false),
+            (" a b\n", false),
+            ("a\nb\n", false),
+        ] {
+            let other = contents(alloc, other)?;
+            assert_eq!(rt; text.matches_latest(alloc, &other)?, latest);
+        }
+        let copy = text.try_clone(alloc)?;
+        assert!(rt; text.matches_fully(&copy));
+        assert!(rt; text == copy);
+        assert!(rt; copy.kind() == TextSnapshotKind::File);
+        assert!(rt; !text.matches_fully(&contents(alloc, "a b")?));
+        Ok(())
     }
 }

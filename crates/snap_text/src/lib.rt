@@ -2,6 +2,8 @@
 #![tactic(auto)]
 
 pub mod contents;
+pub mod laws;
+pub mod lines;
 pub mod normal;
 
 pub use contents::{TextSnapshotContents, TextSnapshotKind};
