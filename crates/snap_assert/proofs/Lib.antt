@@ -1,5 +1,13 @@
-mod Readings
-mod Judgements
-mod Saved
-mod FilePaths
 mod Below
+mod Readings
+mod Saved
+mod Judgements
+mod FilePaths
+mod StrayPaths
+mod Removals
+mod Pieces
+mod Cutting
+mod Running
+mod Statuses
+mod Completeness
+mod Documents

@@ -1,4 +1,3 @@
-pub mod Front
 pub mod Settings
 pub mod Session
 pub mod Place

@@ -5,7 +5,7 @@ use Rattle.std.specs.Str.{bytes_eq}
 use Rattle.snap_path.specs.Paths.{joined, parent_of, name_of, relative_from, components, Apart, apart, slashed}
 use Rattle.snap_store.specs.Meta.{Meta}
 use Rattle.snap_store.specs.declared.metadata.SnapshotKind.TheVariants.{Text}
-use Rattle.snap_assert.specs.Front.{behind}
+use Rattle.snap_path.specs.Names.{past_mark}
 use Rattle.snap_assert.specs.Settings.{SettingsView}
 use Rattle.snap_assert.specs.Place.{PlaceView}
 
@@ -23,7 +23,7 @@ flat_module (c ∷ []) = c ∷ []
 flat_module (c ∷ d ∷ cs) = if c == 58 && d == 58 then codes "__" ++ flat_module cs else c ∷ flat_module (d ∷ cs)
 
 abbrev pub is_doctest : List ℕ → Bool
-is_doctest function = is_some (behind (codes "rust_out::main::_doctest") function)
+is_doctest function = is_some (past_mark (codes "rust_out::main::_doctest") function)
 
 abbrev pub dotless_character : ℕ → List ℕ
 dotless_character c = if c == 46 then codes "_" else c ∷ []

@@ -7,7 +7,7 @@ use Rattle.snap_outside.specs.Files.{Files}
 use Rattle.snap_store.specs.Meta.{Meta, header_tree, without_line}
 use Rattle.snap_store.specs.Image.{file_of}
 use Rattle.snap_assert.specs.Settings.{SettingsView}
-use Rattle.snap_assert.specs.Front.{behind}
+use Rattle.snap_path.specs.Names.{past_mark}
 use Rattle.snap_assert.specs.Place.{PlaceView, holds_slash}
 use Rattle.snap_assert.specs.SnapshotPath.{path_of, new_meta}
 use Rattle.snap_assert.specs.Session.{suffixed}
@@ -42,7 +42,7 @@ is_slashless None = false
 is_slashless (Some rest) = not (holds_slash rest)
 
 abbrev pub is_stray : List ℕ → List ℕ → Bool
-is_stray path q = is_slashless (behind (stray_front path) q)
+is_stray path q = is_slashless (past_mark (stray_front path) q)
 
 -- the paths that an assertion may change
 abbrev pub is_near : List ℕ → List ℕ → Bool

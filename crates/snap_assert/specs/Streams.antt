@@ -1,6 +1,7 @@
 -- Reading a whole input.
-use Rattle.std.specs.Prelude.{◌≡◌, ℕ, List, Result, Ok, Err}
+use Rattle.std.specs.Prelude.{◌≡◌, ℕ, List, ◌++◌, length, Option, Some, Result, Ok, Err}
 use Rattle.snap_outside.specs.Causes.{Rose}
+use Rattle.snap_outside.specs.Streams.{GivesFront}
 use Rattle.snap_assert.specs.declared.streams.ReadError.{ReadError}
 use Rattle.snap_assert.specs.declared.streams.ReadError.TheVariants.{Fault, TooLong, OutOfMemory}
 
@@ -10,3 +11,10 @@ ReadCause before now (Ok v) = now ≡ before
 ReadCause before now (Err Fault) = Rose before now
 ReadCause before now (Err TooLong) = now ≡ before
 ReadCause before now (Err OutOfMemory) = now ≡ before
+
+-- so many bytes were taken off the front of what was left, and added
+pub record TakesPiece (count : ℕ) (bytes bytes' : List ℕ) (left left' : Option (List ℕ)) : Type 0 where
+  pub piece : List ℕ
+  pub size : length piece ≡ count
+  pub added : bytes' ≡ bytes ++ piece
+  pub given : (xs : List ℕ) → left ≡ Some xs → GivesFront xs piece left'

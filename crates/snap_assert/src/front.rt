@@ -3,13 +3,13 @@ ghost use Rattle.std.specs.Prelude.{◌≡◌, None, Some, MatchOption, IsTrue};
 ghost use Rattle.std.specs.Char.{is_ascii};
 ghost use Rattle.std.specs.List.{list_all};
 ghost use Rattle.std.specs.Str.{chars};
-ghost use Rattle.snap_assert.specs.Front.{behind};
+ghost use Rattle.snap_path.specs.Names.{past_mark};
 
 use snap_content::characters::split_first;
 
 /// What follows the front, where the text begins with it.
 pub fn behind<'a>(text: &'a str, front: &str) -> Option<&'a str>
-    ensures { MatchOption result (behind (chars front.now) (chars text.now) ≡ None) (λ rest. behind (chars front.now) (chars text.now) ≡ Some (chars rest.now)) }
+    ensures { MatchOption result (past_mark (chars front.now) (chars text.now) ≡ None) (λ rest. past_mark (chars front.now) (chars text.now) ≡ Some (chars rest.now)) }
 {
     let mut rest = text;
     let mut front = front;
@@ -26,7 +26,7 @@ pub fn behind<'a>(text: &'a str, front: &str) -> Option<&'a str>
 /// The same for a front of ASCII characters, as a literal is.
 pub fn behind_ascii<'a>(text: &'a str, front: &str) -> Option<&'a str>
     requires { IsTrue (list_all is_ascii front.now) }
-    ensures { MatchOption result (behind front.now (chars text.now) ≡ None) (λ rest. behind front.now (chars text.now) ≡ Some (chars rest.now)) }
+    ensures { MatchOption result (past_mark front.now (chars text.now) ≡ None) (λ rest. past_mark front.now (chars text.now) ≡ Some (chars rest.now)) }
 {
     behind(text, front)
 }

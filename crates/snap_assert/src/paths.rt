@@ -1,8 +1,7 @@
 //! The path of a snapshot, and the metadata of a new one.
-ghost use Rattle.std.specs.Prelude.{◌≡◌, ◌++◌, IfOk, OnOk, option_map};
+ghost use Rattle.std.specs.Prelude.{◌≡◌, ◌++◌, IfOk, OnOk};
 ghost use Rattle.std.specs.Str.{chars};
 ghost use Rattle.std.specs.List.{flat_map};
-ghost use Rattle.snap_path.specs.Paths.{name_of};
 ghost use Rattle.snap_store.specs.Views.{meta_of};
 ghost use Rattle.snap_assert.specs.Settings.{settings_of};
 ghost use Rattle.snap_assert.specs.Place.{place_of};
@@ -13,7 +12,7 @@ use crate::place::Place;
 use crate::settings::Settings;
 use snap_content::characters::split_first;
 use snap_content::{OutOfMemory, Text};
-use snap_path::{path_join, path_parent, path_relative_from};
+use snap_path::{path_join, path_name, path_parent, path_relative_from};
 use snap_store::MetaData;
 use std::alloc::Global;
 
@@ -21,12 +20,14 @@ use std::alloc::Global;
 fn push_flat(out: &mut Text, alloc: Global, name: &str) -> Result<(), OutOfMemory>
     ensures { OnOk result (out.new ≡ out.old ++ flat_map flat_character (chars name.now)) }
 {
-    for c in name.chars() {
+    let mut rest = name;
+    while let Some((c, next)) = split_first(rest) {
         if c == '/' || c == '\\' {
             out.push_ascii(alloc, "__")?;
         } else {
             out.push(alloc, c)?;
         }
+        rest = next;
     }
     Ok(())
 }
@@ -35,12 +36,14 @@ fn push_flat(out: &mut Text, alloc: Global, name: &str) -> Result<(), OutOfMemor
 fn push_dotless(out: &mut Text, alloc: Global, name: &str) -> Result<(), OutOfMemory>
     ensures { OnOk result (out.new ≡ out.old ++ flat_map dotless_character (chars name.now)) }
 {
-    for c in name.chars() {
+    let mut rest = name;
+    while let Some((c, next)) = split_first(rest) {
         if c == '.' {
             out.push_ascii(alloc, "_")?;
         } else {
             out.push(alloc, c)?;
         }
+        rest = next;
     }
     Ok(())
 }
@@ -132,10 +135,4 @@ pub fn new_metadata(
     metadata.set_assertion_line(Some(place.line()));
     metadata.set_expression(Some(place.expr().try_clone(alloc)?));
     Ok(metadata)
-}
-
-fn path_name(path: &Text) -> Option<&str>
-    ensures { option_map (λ name. chars name.now) result ≡ name_of path.now }
-{
-    None
 }

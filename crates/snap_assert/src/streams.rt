@@ -2,7 +2,7 @@
 ghost use Rattle.std.specs.Prelude.{◌≡◌, ◌<◌, ◌≤◌, ◌++◌, [], List, ℕ, Some, length, take, IfOk, OnOk, OnErr, IsErrOf};
 ghost use Rattle.snap_outside.specs.Causes.{HasCause};
 ghost use Rattle.snap_outside.specs.Streams.{HoldsFront};
-ghost use Rattle.snap_assert.specs.Streams.{ReadCause};
+ghost use Rattle.snap_assert.specs.Streams.{ReadCause, TakesPiece};
 
 use snap_outside::{Fault, Sink, Source};
 use std::alloc::Global;
@@ -20,6 +20,30 @@ pub enum ReadError {
     OutOfMemory,
 }
 
+/// Reads once, and adds what was given to the bytes.
+fn read_piece<S: Source>(
+    source: &mut S,
+    buffer: &mut [u8],
+    bytes: &mut Vec<u8>,
+) -> Result<usize, ReadError>
+    ensures piece { IfOk result (λ count. TakesPiece count bytes.old.items bytes.new.items (S.left source.old) (S.left source.new)) }
+    ensures end { IfOk result (λ count. count ≡ 0 → 0 < length buffer.old → (xs : List ℕ) → S.left source.old ≡ Some xs → xs ≡ []) }
+    ensures within { IfOk result (λ count. count ≤ length buffer.old) }
+    ensures not_long { IsErrOf result ReadError.TooLong → ⊥ }
+    ensures cause { ReadCause (S.faults source.old) (S.faults source.new) result }
+{
+    match source.read(buffer) {
+        Ok(count) => {
+            let (piece, _) = buffer.split_at(count);
+            match bytes.extend_from_slice(piece) {
+                Ok(()) => Ok(count),
+                Err(_) => Err(ReadError::OutOfMemory),
+            }
+        }
+        Err(_) => Err(ReadError::Fault),
+    }
+}
+
 /// Reads the source to its end, within the limit. At most one byte more than the limit is taken.
 pub fn read_all<S: Source>(alloc: Global, source: &mut S) -> Result<Vec<u8>, ReadError>
     ensures all { IfOk result (λ bytes. (xs : List ℕ) → S.left source.old ≡ Some xs → bytes.items ≡ xs) }
@@ -32,14 +56,13 @@ pub fn read_all<S: Source>(alloc: Global, source: &mut S) -> Result<Vec<u8>, Rea
     let mut buffer = [0u8; PIECE];
     while bytes.len() <= MAX_INPUT {
         let room = PIECE.min(MAX_INPUT + 1 - bytes.len());
-        let (piece, _) = buffer.split_at_mut(room);
-        match source.read(piece) {
-            Ok(0) => return Ok(bytes),
-            Ok(count) => match bytes.extend_from_slice(&buffer[..count]) {
-                Ok(()) => {}
-                Err(_) => return Err(ReadError::OutOfMemory),
-            },
-            Err(_) => return Err(ReadError::Fault),
+        match read_piece(source, &mut buffer[..room], &mut bytes) {
+            Ok(count) => {
+                if count == 0 {
+                    return Ok(bytes);
+                }
+            }
+            Err(error) => return Err(error),
         }
     }
     Err(ReadError::TooLong)

@@ -1,0 +1,59 @@
+-- A run without faults over spelled requests ends well.
+use Rattle.std.specs.Prelude.{◌≡◌, ℕ, ◌<◌, ◌≤◌, List, [], ◌∷◌, ◌++◌, length, Option, Some, refl}
+use Rattle.std.proofs.Common.{Bool, true, false, cond, None, ap, ◌∙◌, inl, inr, subst, sym, arith}
+use Rattle.snap_outside.specs.Causes.{Rose}
+use Rattle.snap_outside.specs.Files.{Files}
+use Rattle.snap_assert.specs.Requests.{RequestView, Spells}
+use Rattle.snap_assert.specs.Cut.{documents}
+use Rattle.snap_assert.specs.Answers.{RunWords, words_mean}
+use Rattle.snap_assert.specs.Runs.{StopsAt}
+use Rattle.snap_assert.specs.StatusOf.{status_at}
+use Rattle.snap_assert.specs.declared.config.Update.TheVariants.{InPlace}
+use Rattle.snap_assert.proofs.Statuses.{none_fails}
+use Rattle.snap_assert.specs.Status.{WordsCause, RunsFrom, RunsTo, RunsBy, LengthCause, SourceCause, SinkCause, StoreCause, AreSpelled, IsSteady, EndsWell}
+use Rattle.snap_assert.specs.declared.documents.DocumentError.{DocumentError}
+use Rattle.snap_assert.specs.declared.documents.DocumentError.TheVariants as error
+use Rattle.snap_assert.specs.declared.status.Status.{Status}
+use Rattle.snap_assert.specs.declared.status.Status.TheVariants.{AllPassed, SomeFailed, BadWords, BadRequest, Refused, FileIo, ReadFault, WriteFault, OutOfMemory, InputTooLong}
+
+spelled_at : (done : List (List ℕ)) (d : List ℕ) (later : List (List ℕ)) → AreSpelled (done ++ d ∷ later) → (r : RequestView) × Spells d r
+spelled_at [] d later h = h.0
+spelled_at (x ∷ done) d later h = spelled_at done d later h.1
+
+not_rose : (n m : ℕ) → IsSteady n m → Rose n m → ⊥
+not_rose n m h r = absurd (omega (arith, r.rose, h.same, h.below_last))
+
+no_request : (words : RunWords) (e : DocumentError) (n k : ℕ) (d : List ℕ) (f g : Option Files) (w v : Option (List ℕ)) → BadRequest k ≡ status_at n e → StopsAt words e d f g w v → (r : RequestView) → Spells d r → ⊥
+no_request words error.NoRequest n k d f g w v e s r h = s.2 r h
+no_request words (error.FileIo p) n k d f g w v e s r h = cc
+no_request words error.WriteFault n k d f g w v e s r h = cc
+no_request words error.OutOfMemory n k d f g w v e s r h = cc
+
+-- what no fault leaves of the statuses
+pub ends_well : (status : Status) (said : RunWords) (docs : List (List ℕ)) (f g : Option Files) (w v : Option (List ℕ)) → AreSpelled docs → RunsTo status said docs f g w v
+    → (status ≡ BadWords → ⊥) → ((n : ℕ) (p : List ℕ) → status ≡ FileIo n p → ⊥) → (status ≡ ReadFault → ⊥) → (status ≡ WriteFault → ⊥) → (status ≡ InputTooLong → ⊥) → said.update ≡ InPlace → EndsWell status
+ends_well AllPassed said docs f g w v spelled run a b c d e h = inl refl
+ends_well OutOfMemory said docs f g w v spelled run a b c d e h = inr refl
+ends_well SomeFailed said docs f g w v spelled run a b c d e h = absurd (let fails = run.failing in let none = none_fails said run.answers h in cc (fails, none))
+ends_well BadWords said docs f g w v spelled run a b c d e h = absurd (a refl)
+ends_well (FileIo n p) said docs f g w v spelled run a b c d e h = absurd (b n p refl)
+ends_well ReadFault said docs f g w v spelled run a b c d e h = absurd (c refl)
+ends_well WriteFault said docs f g w v spelled run a b c d e h = absurd (d refl)
+ends_well InputTooLong said docs f g w v spelled run a b c d e h = absurd (e refl)
+ends_well (Refused n kind) said docs f g w v spelled run a b c d e h = absurd run
+ends_well (BadRequest n) said docs f g w v spelled run a b c d e h =
+    let s = run.stops in
+    let at = spelled_at s.done s.document s.later (subst AreSpelled s.cut spelled) in
+    absurd (no_request said run.stop.error run.stop.document n s.document s.between g s.sent v run.status_is s.stops at.0 at.1)
+
+chosen_in_place : (b : Bool) (r said : RunWords) → cond b (Some r) None ≡ Some said → r.update ≡ InPlace → said.update ≡ InPlace
+chosen_in_place true r said e h = let same : r ≡ said = cc in ap (λ x. x.update) (sym same) ∙ h
+chosen_in_place false r said e h = absurd (cc)
+
+-- the words that are built say to update in place
+pub words_in_place : (words : List (List ℕ)) (said : RunWords) → words_mean words ≡ Some said → said.update ≡ InPlace
+words_in_place [] said e = absurd (cc)
+words_in_place (a ∷ []) said e = absurd (cc)
+words_in_place (a ∷ b ∷ []) said e = absurd (cc)
+words_in_place (a ∷ b ∷ c ∷ []) said e = chosen_in_place _ _ said e refl
+words_in_place (a ∷ b ∷ c ∷ d ∷ more) said e = absurd (cc)

@@ -1,0 +1,62 @@
+-- What single reads add up to.
+use Rattle.std.proofs.Common.{◌≡◌, ℕ, ◌≤◌, List, [], ◌∷◌, ◌++◌, length, take, Option, None, Some, refl, sym, ◌∙◌, ap, arith, append_assoc, length-append, subst}
+use Rattle.std.proofs.lemmas.List.{append-nil, length-take-le}
+use Rattle.snap_outside.specs.Streams.{GivesFront}
+use Rattle.snap_assert.specs.Streams.{TakesPiece}
+
+-- these bytes were read of what was left first
+pub record IsRead (bytes : List ℕ) (first now : Option (List ℕ)) : Type 0 where
+  pub each : (xs : List ℕ) → first ≡ Some xs → GivesFront xs bytes now
+
+pub none_read : (first : Option (List ℕ)) → IsRead [] first first
+none_read first = record { each = λ xs e. record { rest = xs; told = e; whole = refl } }
+
+pub more_read : (count : ℕ) (bytes next : List ℕ) (first now later : Option (List ℕ)) → TakesPiece count bytes next now later → IsRead bytes first now → IsRead next first later
+more_read count bytes next first now later t r = record {
+  each = λ xs e.
+      let before = r.each xs e in
+      let after = t.given before.rest before.told in
+      record {
+        rest = after.rest;
+        told = after.told;
+        whole = before.whole ∙ ap (λ x. bytes ++ x) after.whole ∙ sym (append_assoc bytes t.piece after.rest) ∙ ap (λ b. b ++ after.rest) (sym t.added);
+      };
+}
+
+no_bytes : (xs : List ℕ) → length xs ≡ 0 → xs ≡ []
+no_bytes [] h = refl
+no_bytes (x ∷ xs) h = absurd (omega arith)
+
+-- where nothing more came all was read
+pub record IsAll (xs bytes : List ℕ) (now : Option (List ℕ)) : Type 0 where
+  pub same : bytes ≡ xs
+  pub nothing_left : now ≡ Some []
+
+same_some : (a b : List ℕ) → Some a ≡ Some b → a ≡ b
+same_some a b e = cc
+
+pub all_read : (count : ℕ) (bytes next : List ℕ) (first now later : Option (List ℕ)) (xs : List ℕ) → count ≡ 0 → TakesPiece count bytes next now later
+    → ((ys : List ℕ) → now ≡ Some ys → ys ≡ []) → IsRead bytes first now → first ≡ Some xs → IsAll xs next later
+all_read count bytes next first now later xs none t ended r e =
+    let before = r.each xs e in
+    let after = t.given before.rest before.told in
+    let nothing : before.rest ≡ [] = ended before.rest before.told in
+    let piece : t.piece ≡ [] = no_bytes t.piece (t.size ∙ none) in
+    let rest : after.rest ≡ [] = ap (λ p. p ++ after.rest) (sym piece) ∙ sym after.whole ∙ nothing in
+    record {
+      same = t.added ∙ ap (λ p. bytes ++ p) piece ∙ sym (before.whole ∙ ap (λ x. bytes ++ x) nothing);
+      nothing_left = after.told ∙ ap Some rest;
+    }
+
+pub as_long : (bytes : List ℕ) (first now : Option (List ℕ)) (xs : List ℕ) → IsRead bytes first now → first ≡ Some xs → length bytes ≤ length xs
+as_long bytes first now xs r e = let before = r.each xs e in omega (arith, ap length before.whole, length-append bytes before.rest)
+
+-- what one read gave
+pub taken : (count : ℕ) (buffer piece bytes next : List ℕ) (left left' : Option (List ℕ)) → count ≤ length buffer → piece ≡ take count buffer → next ≡ bytes ++ piece
+    → ((xs : List ℕ) → left ≡ Some xs → GivesFront xs (take count buffer) left') → TakesPiece count bytes next left left'
+taken count buffer piece bytes next left left' fits is added given = record {
+  piece = take count buffer;
+  size = length-take-le count buffer fits;
+  added = added ∙ ap (λ p. bytes ++ p) is;
+  given = given;
+}

@@ -1,0 +1,120 @@
+-- Which paths are left behind by payloads.
+use Rattle.std.proofs.Common.{◌≡◌, ◌==◌, ◌||◌, ◌&&◌, ℕ, Bool, true, false, not, cond, eqb, List, [], ◌∷◌, ◌++◌, map, Option, None, Some, refl, sym, ap, ◌∙◌, subst, append_assoc, eq-eqb, true-eqb, codes}
+use Rattle.std.specs.Prelude.{is_some, IsSome}
+use Rattle.std.specs.List.{list_any, filter, All}
+use Rattle.std.specs.Str.{bytes_eq}
+use Rattle.std.specs.FinMap.{get}
+use Rattle.std.proofs.lemmas.List.Elements.{All-head, All-tail}
+use Rattle.std.proofs.lemmas.Map.Views.{any-filter_same}
+use Rattle.std.proofs.lemmas.Slice.Eq.{bytes_eq-Decides}
+use Rattle.snap_path.specs.Names.{past_mark}
+use Rattle.snap_path.specs.Paths.{joined, parent_of, front_of, name_of, IsName}
+use Rattle.snap_path.proofs.Joining.{joined-name, parted, name_of-name, name-longer}
+use Rattle.snap_outside.specs.Files.{Files}
+use Rattle.snap_outside.specs.Listed.{AreNames}
+use Rattle.snap_assert.specs.Place.{holds_slash}
+use Rattle.snap_assert.specs.Steps.{stray_front, is_slashless, is_stray}
+use Rattle.snap_assert.specs.Strays.{IsFilePath, AreStrays}
+
+-- what follows one mark and then another
+abbrev pub then_past : List ℕ → Option (List ℕ) → Option (List ℕ)
+then_past mark None = None
+then_past mark (Some rest) = past_mark mark rest
+
+pub past_mark-append : (a b text : List ℕ) → past_mark (a ++ b) text ≡ then_past b (past_mark a text)
+past_mark-append [] b text = refl
+past_mark-append (x ∷ a) b [] = refl
+past_mark-append (x ∷ a) b (c ∷ text) = by (c == x)
+  where
+    by : (t : Bool) → cond t (past_mark (a ++ b) text) None ≡ then_past b (cond t (past_mark a text) None)
+    by true = past_mark-append a b text
+    by false = refl
+
+past_first : (m : ℕ) (mark : List ℕ) (c : ℕ) (cs rest : List ℕ) (t : Bool) → (c == m) ≡ t → (past_mark mark cs ≡ Some rest → cs ≡ mark ++ rest)
+    → cond t (past_mark mark cs) None ≡ Some rest → c ∷ cs ≡ m ∷ (mark ++ rest)
+past_first m mark c cs rest true same further h = ap (λ x. x ∷ cs) (true-eqb c m (sym same)) ∙ ap (λ r. m ∷ r) (further h)
+past_first m mark c cs rest false other further h = absurd (cc)
+
+past_mark-is : (mark text rest : List ℕ) → past_mark mark text ≡ Some rest → text ≡ mark ++ rest
+past_mark-is [] text rest h = cc
+past_mark-is (m ∷ mark) [] rest h = absurd (cc)
+past_mark-is (m ∷ mark) (c ∷ cs) rest h = past_first m mark c cs rest (c == m) refl (past_mark-is mark cs rest) h
+
+-- a stray path is the front, and more without a slash
+pub record IsBehind (front q : List ℕ) : Type 0 where
+  pub rest : List ℕ
+  pub is : q ≡ front ++ rest
+  pub slashless : holds_slash rest ≡ false
+
+not_false : (b : Bool) → not b ≡ true → b ≡ false
+not_false true h = absurd (cc)
+not_false false h = refl
+
+behind_found : (front q : List ℕ) (found : Option (List ℕ)) → past_mark front q ≡ found → is_slashless found ≡ true → IsBehind front q
+behind_found front q None is h = absurd (cc)
+behind_found front q (Some rest) is h = record { rest = rest; is = past_mark-is front q rest is; slashless = not_false (holds_slash rest) h }
+
+stray_behind : (path q : List ℕ) → is_stray path q ≡ true → IsBehind (stray_front path) q
+stray_behind path q h = behind_found (stray_front path) q (past_mark (stray_front path) q) refl h
+
+-- a stray path is a name's in the folder of the path
+pub record IsNamedIn (folder q : List ℕ) : Type 0 where
+  pub name : List ℕ
+  pub is_name : IsName name
+  pub is : joined folder name ≡ q
+
+named : (path last q : List ℕ) → IsFilePath path → name_of path ≡ Some last → IsBehind (stray_front path) q → IsNamedIn (parent_of path) q
+named path last q f l b =
+    let name = last ++ (codes ".new." ++ b.rest) in
+    let is_name : IsName name = name-longer last (codes ".new." ++ b.rest) (name_of-name path last l) b.slashless in
+    let front = front_of (parent_of path) in
+    record {
+      name = name;
+      is_name = is_name;
+      is = joined-name (parent_of path) name is_name
+          ∙ sym (append_assoc front last (codes ".new." ++ b.rest)) ∙ ap (λ p. p ++ (codes ".new." ++ b.rest)) (sym (parted path last f.normal l))
+          ∙ sym (append_assoc path (codes ".new.") b.rest) ∙ sym b.is;
+    }
+
+some_name : (path q : List ℕ) (found : Option (List ℕ)) → name_of path ≡ found → IsSome found → IsFilePath path → IsBehind (stray_front path) q → IsNamedIn (parent_of path) q
+some_name path q None is h f b = absurd h
+some_name path q (Some last) is h f b = named path last q f is b
+
+stray_named : (path q : List ℕ) → IsFilePath path → is_stray path q ≡ true → IsNamedIn (parent_of path) q
+stray_named path q f h = some_name path q (name_of path) refl f.named f (stray_behind path q h)
+
+same_behind : (front a b : List ℕ) → bytes_eq (front ++ a) (front ++ b) ≡ bytes_eq a b
+same_behind [] a b = refl
+same_behind (c ∷ front) a b = ap (λ t. t && bytes_eq (front ++ a) (front ++ b)) (eq-eqb c c refl) ∙ same_behind front a b
+
+same_joined : (folder a b : List ℕ) → IsName a → IsName b → bytes_eq (joined folder a) (joined folder b) ≡ bytes_eq a b
+same_joined folder a b h k =
+    ap (λ x. bytes_eq x (joined folder b)) (joined-name folder a h) ∙ ap (bytes_eq (front_of folder ++ a)) (joined-name folder b k) ∙ same_behind (front_of folder) a b
+
+any_joined : (folder a : List ℕ) (names : List (List ℕ)) → IsName a → All IsName names → list_any (bytes_eq (joined folder a)) (map (joined folder) names) ≡ list_any (bytes_eq a) names
+any_joined folder a [] h all = refl
+any_joined folder a (n ∷ names) h all =
+    ap (λ t. t || list_any (bytes_eq (joined folder a)) (map (joined folder) names)) (same_joined folder a n h (All-head IsName n names all))
+    ∙ ap (λ t. bytes_eq a n || t) (any_joined folder a names h (All-tail IsName n names all))
+
+among_names : (m : Files) (folder q : List ℕ) (names : List (List ℕ)) → AreNames m folder names → IsNamedIn folder q
+    → list_any (bytes_eq q) (map (joined folder) names) ≡ is_some (get m q)
+among_names m folder q names l n =
+    ap (λ t. list_any (bytes_eq t) (map (joined folder) names)) (sym n.is) ∙ any_joined folder n.name names n.is_name l.only ∙ l.each n.name n.is_name
+    ∙ ap (λ t. is_some (get m t)) n.is
+
+filtered : (test : List ℕ → Bool) (q : List ℕ) (xs : List (List ℕ)) → list_any (bytes_eq q) (filter test xs) ≡ (test q && list_any (bytes_eq q) xs)
+filtered test q xs = any-filter_same (bytes_eq q) test (test q) (λ k same. ap test (sym ((bytes_eq-Decides q k).0 same))) xs
+
+chosen : (s listed there : Bool) → (s ≡ true → listed ≡ there) → (s && listed) ≡ (s && there)
+chosen true listed there h = h refl
+chosen false listed there h = refl
+
+-- the stray names of the folder are the stray paths of the map
+pub strays_of_names : (m : Files) (path folder : List ℕ) (names : List (List ℕ)) → IsFilePath path → folder ≡ parent_of path → AreNames m folder names
+    → AreStrays path m (filter (is_stray path) (map (joined folder) names))
+strays_of_names m path folder names f is l = record {
+  each = λ q. filtered (is_stray path) q (map (joined folder) names)
+      ∙ chosen (is_stray path q) (list_any (bytes_eq q) (map (joined folder) names)) (is_some (get m q))
+      (λ s. among_names m folder q names l (subst (λ d. IsNamedIn d q) (sym is) (stray_named path q f s)));
+}

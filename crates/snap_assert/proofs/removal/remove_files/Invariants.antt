@@ -1,0 +1,10 @@
+use Rattle.std.proofs.Common.{◌≡◌, Some, take}
+use Rattle.snap_outside.specs.Files.{Files}
+use Rattle.snap_assert.specs.Removed.{remove_each}
+use Rattle.snap_assert.proofs.removal.remove_files.Given as goal
+
+abbrev pub invariant-loop-path : goal.invariant-loop-path
+invariant-loop-path g l = record {
+  gone : (m : Files) → g.S.Store.files l.fn.store ≡ Some m → g.S.Store.files l.store ≡ Some (remove_each (take l.path-index l.paths) m);
+  count : g.S.Store.faults l.store ≡ g.S.Store.faults l.fn.store;
+}

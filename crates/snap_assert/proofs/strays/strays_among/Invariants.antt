@@ -1,0 +1,8 @@
+use Rattle.std.proofs.Common.{◌≡◌, map, take}
+use Rattle.std.specs.List.{filter}
+use Rattle.snap_path.specs.Paths.{joined}
+use Rattle.snap_assert.specs.Steps.{is_stray}
+use Rattle.snap_assert.proofs.strays.strays_among.Given as goal
+
+abbrev pub invariant-loop-name : goal.invariant-loop-name
+invariant-loop-name l = l.strays.items ≡ filter (is_stray l.path) (map (joined l.folder) (take l.name-index l.names))
