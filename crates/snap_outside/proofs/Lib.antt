@@ -1,0 +1,3 @@
+pub mod Entries
+mod Joined
+mod Folders

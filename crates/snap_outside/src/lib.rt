@@ -1,9 +1,14 @@
 //! The outside as the product sees it: a source of bytes, a sink of bytes and a store of files,
 //! each with a count of its faults and, where it can tell, with what it holds.
+//! Beside the traits stand the forms in memory, and the adapters over real streams and folders.
 #![tactic(auto)]
 
+pub mod files;
+pub mod listing;
 pub mod names;
 pub mod outside;
+pub mod schedule;
 
+pub use files::MemoryFiles;
 pub use names::Names;
 pub use outside::{Fault, Sink, Source, Store, StoreError};

@@ -1,0 +1,194 @@
+//! A store, a source and a sink in memory, of which the listed calls fail.
+ghost use Rattle.std.specs.Prelude.{◌≡◌, ◌++◌, [], Some, length, take, IfOk, OnOk, OnErr, option_map};
+ghost use Rattle.std.specs.FinMap.{empty, insert, get, len};
+ghost use Rattle.snap_outside.specs.Held.{files_in, left_in, written_in};
+
+use crate::files::MemoryFiles;
+use crate::names::Names;
+use crate::outside::{Fault, Sink, Source, Store, StoreError};
+use crate::pieces::Pieces;
+use crate::schedule::Schedule;
+use snap_content::{Blob, OutOfMemory, Text};
+use std::alloc::Global;
+
+/// Files in memory.
+#[derive(Drop)]
+pub struct MemoryStore {
+    files: MemoryFiles,
+    schedule: Schedule,
+}
+
+impl MemoryStore {
+    /// No file, and no call fails.
+    pub fn new(alloc: Global) -> MemoryStore
+        ensures { files_in result ≡ empty }
+    {
+        MemoryStore {
+            files: MemoryFiles::new(alloc),
+            schedule: Schedule::new(),
+        }
+    }
+
+    /// The calls with these numbers fail: from 1 on, counted from the making of the store.
+    pub fn fail_at(&mut self, calls: Vec<u64>)
+        ensures { files_in self.new ≡ files_in self.old }
+    {
+        self.schedule.fail_at(calls);
+    }
+
+    /// Makes these the bytes of the file; it is no call of the store. After want of memory nothing has changed.
+    pub fn put(&mut self, path: &Text, bytes: &[u8]) -> Result<(), OutOfMemory>
+        ensures ok { OnOk result (files_in self.new ≡ insert (files_in self.old) path.now bytes.now) }
+        ensures err { OnErr result (files_in self.new ≡ files_in self.old) }
+    {
+        self.files.put(path, bytes)
+    }
+
+    /// The bytes of the file, where there is one; it is no call of the store.
+    pub fn get(&self, path: &Text) -> Option<&[u8]>
+        ensures { option_map (λ bytes. bytes.now) result ≡ get (files_in self.now) path.now }
+    {
+        match self.files.get(path) {
+            Some(bytes) => Some(bytes.as_slice()),
+            None => None,
+        }
+    }
+
+    /// How many files there are.
+    pub fn len(&self) -> usize
+        ensures { result ≡ len (files_in self.now) }
+    {
+        self.files.len()
+    }
+}
+
+impl Store for MemoryStore {
+    ghost files = { λ store. Some store.files };
+
+    ghost faults = { λ store. store.schedule.faults };
+
+    fn read(&mut self, alloc: Global, path: &Text) -> Result<Option<Blob>, StoreError> {
+        if self.schedule.call_fails() {
+            return Err(StoreError::Failed);
+        }
+        match self.files.get(path) {
+            Some(bytes) => Ok(Some(bytes.try_clone(alloc)?)),
+            None => Ok(None),
+        }
+    }
+
+    fn write(&mut self, path: &Text, bytes: &[u8]) -> Result<(), StoreError> {
+        if self.schedule.call_fails() {
+            return Err(StoreError::Failed);
+        }
+        match self.files.put(path, bytes) {
+            Ok(()) => Ok(()),
+            Err(_) => Err(StoreError::OutOfMemory),
+        }
+    }
+
+    fn remove(&mut self, path: &Text) -> Result<bool, StoreError> {
+        if self.schedule.call_fails() {
+            return Err(StoreError::Failed);
+        }
+        let found = self.files.get(path).is_some();
+        self.files.remove(path);
+        Ok(found)
+    }
+
+    fn list(&mut self, alloc: Global, folder: &Text) -> Result<Names, StoreError> {
+        if self.schedule.call_fails() {
+            return Err(StoreError::Failed);
+        }
+        Ok(self.files.names_in(alloc, folder)?)
+    }
+}
+
+/// Gives its bytes in pieces.
+#[derive(Drop)]
+pub struct MemorySource {
+    pieces: Pieces,
+    schedule: Schedule,
+}
+
+impl MemorySource {
+    /// Gives these bytes in pieces of this length, and no call fails. A piece of 0 counts as 1.
+    pub fn new(bytes: Blob, piece: usize) -> MemorySource
+        ensures { left_in result ≡ bytes }
+    {
+        MemorySource {
+            pieces: Pieces::new(bytes, piece),
+            schedule: Schedule::new(),
+        }
+    }
+
+    /// The calls with these numbers fail: from 1 on, counted from the making of the source.
+    pub fn fail_at(&mut self, calls: Vec<u64>)
+        ensures { left_in self.new ≡ left_in self.old }
+    {
+        self.schedule.fail_at(calls);
+    }
+}
+
+impl Source for MemorySource {
+    ghost left = { λ source. Some source.pieces };
+
+    ghost faults = { λ source. source.schedule.faults };
+
+    fn read(&mut self, buffer: &mut [u8]) -> Result<usize, Fault> {
+        if self.schedule.call_fails() {
+            return Err(Fault);
+        }
+        Ok(self.pieces.take(buffer))
+    }
+}
+
+/// Keeps what is written.
+#[derive(Drop)]
+pub struct MemorySink {
+    bytes: Vec<u8>,
+    schedule: Schedule,
+}
+
+impl MemorySink {
+    /// Nothing is written, and no call fails.
+    pub fn new(alloc: Global) -> MemorySink
+        ensures { written_in result ≡ [] }
+    {
+        MemorySink {
+            bytes: Vec::new(alloc),
+            schedule: Schedule::new(),
+        }
+    }
+
+    /// The calls with these numbers fail: from 1 on, counted from the making of the sink.
+    pub fn fail_at(&mut self, calls: Vec<u64>)
+        ensures { written_in self.new ≡ written_in self.old }
+    {
+        self.schedule.fail_at(calls);
+    }
+
+    pub fn written(&self) -> &[u8]
+        ensures { result.now ≡ written_in self.now }
+    {
+        self.bytes.as_slice()
+    }
+}
+
+impl Sink for MemorySink {
+    ghost written = { λ sink. Some sink.bytes.items };
+
+    ghost faults = { λ sink. sink.schedule.faults };
+
+    /// A growth that is refused is a fault too.
+    fn write(&mut self, bytes: &[u8]) -> Result<usize, Fault> {
+        if self.schedule.call_fails() {
+            return Err(Fault);
+        }
+        if self.bytes.extend_from_slice(bytes).is_err() {
+            self.schedule.fault();
+            return Err(Fault);
+        }
+        Ok(bytes.len())
+    }
+}
