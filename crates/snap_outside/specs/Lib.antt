@@ -1,5 +1,6 @@
 pub mod Causes
 pub mod Files
+pub mod Held
 pub mod Listed
 pub mod Schedules
 pub mod Streams

@@ -4,11 +4,20 @@
 #![tactic(auto)]
 
 pub mod files;
+pub mod folder;
 pub mod listing;
+pub mod memory;
 pub mod names;
 pub mod outside;
+pub mod pieces;
 pub mod schedule;
+pub mod steady;
+pub mod stream;
 
 pub use files::MemoryFiles;
+pub use folder::FolderStore;
+pub use memory::{MemorySink, MemorySource, MemoryStore};
 pub use names::Names;
 pub use outside::{Fault, Sink, Source, Store, StoreError};
+pub use steady::{SteadySink, SteadySource, SteadyStore};
+pub use stream::{StreamSink, StreamSource};
