@@ -26,3 +26,21 @@ fails_next s = list_any (λ call. call == next_call s) (listed_calls s)
 pub record Counts (before now : Schedule) : Type 0 where
   pub calls : now.calls ≡ next_call before
   pub listed : listed_calls now ≡ listed_calls before
+
+-- no call was made, none is to fail, and none failed
+pub record IsFresh (s : Schedule) : Type 0 where
+  pub calls : s.calls ≡ 0
+  pub listed : listed_calls s ≡ []
+  pub faults : s.faults ≡ 0
+
+-- these calls are to fail, and nothing else has changed
+pub record ListsCalls (calls : List ℕ) (before now : Schedule) : Type 0 where
+  pub listed : listed_calls now ≡ calls
+  pub same_calls : now.calls ≡ before.calls
+  pub same_faults : now.faults ≡ before.faults
+
+-- a store's call fails exactly where it is listed
+abbrev pub FailsAsListed : {T : Type 0} → Bool → Result T StoreError → Type 0
+FailsAsListed listed (Ok value) = listed ≡ false
+FailsAsListed listed (Err Failed) = listed ≡ true
+FailsAsListed listed (Err OutOfMemory) = listed ≡ false

@@ -1,7 +1,12 @@
 //! A store, a source and a sink in memory, of which the listed calls fail.
-ghost use Rattle.std.specs.Prelude.{◌≡◌, ◌++◌, [], Some, length, take, IfOk, OnOk, OnErr, option_map};
-ghost use Rattle.std.specs.FinMap.{empty, insert, get, len};
-ghost use Rattle.snap_outside.specs.Held.{files_in, left_in, written_in};
+ghost use Rattle.std.specs.Prelude.{◌≡◌, ◌<◌, ◌↔◌, ◌++◌, [], List, ℕ, Some, false, length, take, IfOk, OnOk, OnErr, IsTrue, IsSome, is_err, option_map};
+ghost use Rattle.std.specs.FinMap.{empty, insert, remove, get, len};
+ghost use Rattle.std.specs.Io.{ReadsAtMost, WritesAtMost};
+ghost use Rattle.snap_outside.specs.Causes.{HasCause, StoreCause};
+ghost use Rattle.snap_outside.specs.Files.{Files, SameBut};
+ghost use Rattle.snap_outside.specs.Held.{files_in, left_in, written_in, store_calls, source_calls, sink_calls};
+ghost use Rattle.snap_outside.specs.Listed.{AreNames};
+ghost use Rattle.snap_outside.specs.Schedules.{fails_next, Counts, IsFresh, ListsCalls, FailsAsListed};
 
 use crate::files::MemoryFiles;
 use crate::names::Names;
@@ -21,7 +26,8 @@ pub struct MemoryStore {
 impl MemoryStore {
     /// No file, and no call fails.
     pub fn new(alloc: Global) -> MemoryStore
-        ensures { files_in result ≡ empty }
+        ensures empty { files_in result ≡ empty }
+        ensures fresh { IsFresh (store_calls result) }
     {
         MemoryStore {
             files: MemoryFiles::new(alloc),
@@ -31,7 +37,8 @@ impl MemoryStore {
 
     /// The calls with these numbers fail: from 1 on, counted from the making of the store.
     pub fn fail_at(&mut self, calls: Vec<u64>)
-        ensures { files_in self.new ≡ files_in self.old }
+        ensures same { files_in self.new ≡ files_in self.old }
+        ensures listed { ListsCalls calls.items (store_calls self.old) (store_calls self.new) }
     {
         self.schedule.fail_at(calls);
     }
@@ -40,6 +47,7 @@ impl MemoryStore {
     pub fn put(&mut self, path: &Text, bytes: &[u8]) -> Result<(), OutOfMemory>
         ensures ok { OnOk result (files_in self.new ≡ insert (files_in self.old) path.now bytes.now) }
         ensures err { OnErr result (files_in self.new ≡ files_in self.old) }
+        ensures same { store_calls self.new ≡ store_calls self.old }
     {
         self.files.put(path, bytes)
     }
@@ -67,7 +75,13 @@ impl Store for MemoryStore {
 
     ghost faults = { λ store. store.schedule.faults };
 
-    fn read(&mut self, alloc: Global, path: &Text) -> Result<Option<Blob>, StoreError> {
+    fn read(&mut self, alloc: Global, path: &Text) -> Result<Option<Blob>, StoreError>
+        ensures found { IfOk result (λ found. found ≡ get (files_in self.old) path.now) }
+        ensures same { files_in self.new ≡ files_in self.old }
+        ensures cause { StoreCause (store_calls self.old).faults (store_calls self.new).faults result }
+        ensures listed { FailsAsListed (fails_next (store_calls self.old)) result }
+        ensures counts { Counts (store_calls self.old) (store_calls self.new) }
+    {
         if self.schedule.call_fails() {
             return Err(StoreError::Failed);
         }
@@ -77,7 +91,14 @@ impl Store for MemoryStore {
         }
     }
 
-    fn write(&mut self, path: &Text, bytes: &[u8]) -> Result<(), StoreError> {
+    fn write(&mut self, path: &Text, bytes: &[u8]) -> Result<(), StoreError>
+        ensures written { OnOk result (files_in self.new ≡ insert (files_in self.old) path.now bytes.now) }
+        ensures kept { OnErr result (files_in self.new ≡ files_in self.old) }
+        ensures unknown { OnErr result ((m : Files) → Some (files_in self.old) ≡ Some m → SameBut path.now m (Some (files_in self.new))) }
+        ensures cause { StoreCause (store_calls self.old).faults (store_calls self.new).faults result }
+        ensures listed { FailsAsListed (fails_next (store_calls self.old)) result }
+        ensures counts { Counts (store_calls self.old) (store_calls self.new) }
+    {
         if self.schedule.call_fails() {
             return Err(StoreError::Failed);
         }
@@ -87,7 +108,15 @@ impl Store for MemoryStore {
         }
     }
 
-    fn remove(&mut self, path: &Text) -> Result<bool, StoreError> {
+    fn remove(&mut self, path: &Text) -> Result<bool, StoreError>
+        ensures found { IfOk result (λ found. IsTrue found ↔ IsSome (get (files_in self.old) path.now)) }
+        ensures removed { OnOk result (files_in self.new ≡ remove (files_in self.old) path.now) }
+        ensures kept { OnErr result (files_in self.new ≡ files_in self.old) }
+        ensures unknown { OnErr result ((m : Files) → Some (files_in self.old) ≡ Some m → SameBut path.now m (Some (files_in self.new))) }
+        ensures cause { StoreCause (store_calls self.old).faults (store_calls self.new).faults result }
+        ensures listed { FailsAsListed (fails_next (store_calls self.old)) result }
+        ensures counts { Counts (store_calls self.old) (store_calls self.new) }
+    {
         if self.schedule.call_fails() {
             return Err(StoreError::Failed);
         }
@@ -96,7 +125,13 @@ impl Store for MemoryStore {
         Ok(found)
     }
 
-    fn list(&mut self, alloc: Global, folder: &Text) -> Result<Names, StoreError> {
+    fn list(&mut self, alloc: Global, folder: &Text) -> Result<Names, StoreError>
+        ensures names { IfOk result (λ names. AreNames (files_in self.old) folder.now names) }
+        ensures same { files_in self.new ≡ files_in self.old }
+        ensures cause { StoreCause (store_calls self.old).faults (store_calls self.new).faults result }
+        ensures listed { FailsAsListed (fails_next (store_calls self.old)) result }
+        ensures counts { Counts (store_calls self.old) (store_calls self.new) }
+    {
         if self.schedule.call_fails() {
             return Err(StoreError::Failed);
         }
@@ -114,7 +149,8 @@ pub struct MemorySource {
 impl MemorySource {
     /// Gives these bytes in pieces of this length, and no call fails. A piece of 0 counts as 1.
     pub fn new(bytes: Blob, piece: usize) -> MemorySource
-        ensures { left_in result ≡ bytes }
+        ensures bytes { left_in result ≡ bytes }
+        ensures fresh { IsFresh (source_calls result) }
     {
         MemorySource {
             pieces: Pieces::new(bytes, piece),
@@ -124,7 +160,8 @@ impl MemorySource {
 
     /// The calls with these numbers fail: from 1 on, counted from the making of the source.
     pub fn fail_at(&mut self, calls: Vec<u64>)
-        ensures { left_in self.new ≡ left_in self.old }
+        ensures same { left_in self.new ≡ left_in self.old }
+        ensures listed { ListsCalls calls.items (source_calls self.old) (source_calls self.new) }
     {
         self.schedule.fail_at(calls);
     }
@@ -135,7 +172,15 @@ impl Source for MemorySource {
 
     ghost faults = { λ source. source.schedule.faults };
 
-    fn read(&mut self, buffer: &mut [u8]) -> Result<usize, Fault> {
+    fn read(&mut self, buffer: &mut [u8]) -> Result<usize, Fault>
+        ensures bound { ReadsAtMost result buffer.new }
+        ensures bytes { IfOk result (λ count. left_in self.old ≡ take count buffer.new ++ left_in self.new) }
+        ensures end { IfOk result (λ count. count ≡ 0 → 0 < length buffer.new → (xs : List ℕ) → Some (left_in self.old) ≡ Some xs → xs ≡ []) }
+        ensures kept { OnErr result (left_in self.new ≡ left_in self.old) }
+        ensures cause { HasCause (source_calls self.old).faults (source_calls self.new).faults result }
+        ensures listed { IsTrue (is_err result) ↔ IsTrue (fails_next (source_calls self.old)) }
+        ensures counts { Counts (source_calls self.old) (source_calls self.new) }
+    {
         if self.schedule.call_fails() {
             return Err(Fault);
         }
@@ -153,7 +198,8 @@ pub struct MemorySink {
 impl MemorySink {
     /// Nothing is written, and no call fails.
     pub fn new(alloc: Global) -> MemorySink
-        ensures { written_in result ≡ [] }
+        ensures empty { written_in result ≡ [] }
+        ensures fresh { IsFresh (sink_calls result) }
     {
         MemorySink {
             bytes: Vec::new(alloc),
@@ -163,7 +209,8 @@ impl MemorySink {
 
     /// The calls with these numbers fail: from 1 on, counted from the making of the sink.
     pub fn fail_at(&mut self, calls: Vec<u64>)
-        ensures { written_in self.new ≡ written_in self.old }
+        ensures same { written_in self.new ≡ written_in self.old }
+        ensures listed { ListsCalls calls.items (sink_calls self.old) (sink_calls self.new) }
     {
         self.schedule.fail_at(calls);
     }
@@ -181,7 +228,15 @@ impl Sink for MemorySink {
     ghost faults = { λ sink. sink.schedule.faults };
 
     /// A growth that is refused is a fault too.
-    fn write(&mut self, bytes: &[u8]) -> Result<usize, Fault> {
+    fn write(&mut self, bytes: &[u8]) -> Result<usize, Fault>
+        ensures bound { WritesAtMost result bytes.now }
+        ensures some { IfOk result (λ count. 0 < length bytes.now → 0 < count) }
+        ensures bytes { IfOk result (λ count. written_in self.new ≡ written_in self.old ++ take count bytes.now) }
+        ensures kept { OnErr result (written_in self.new ≡ written_in self.old) }
+        ensures cause { HasCause (sink_calls self.old).faults (sink_calls self.new).faults result }
+        ensures listed { IfOk result (λ _. fails_next (sink_calls self.old) ≡ false) }
+        ensures counts { Counts (sink_calls self.old) (sink_calls self.new) }
+    {
         if self.schedule.call_fails() {
             return Err(Fault);
         }

@@ -2,7 +2,7 @@
 ghost use Rattle.std.specs.Prelude.{◌≡◌, IsTrue};
 ghost use Rattle.std.specs.Bool.{OnTrue, OnFalse};
 ghost use Rattle.snap_outside.specs.Causes.{Rose};
-ghost use Rattle.snap_outside.specs.Schedules.{listed_calls, fails_next, Counts};
+ghost use Rattle.snap_outside.specs.Schedules.{listed_calls, fails_next, Counts, IsFresh, ListsCalls};
 
 /// The calls that fail by their numbers, from 1 on, and the counts of calls and of faults so far.
 #[derive(Drop)]
@@ -15,8 +15,7 @@ pub struct Schedule {
 impl Schedule {
     /// No call fails.
     pub fn new() -> Schedule
-        ensures faults { result.faults ≡ 0 }
-        ensures calls { result.calls ≡ 0 }
+        ensures { IsFresh result }
     {
         Schedule {
             calls: 0,
@@ -27,9 +26,7 @@ impl Schedule {
 
     /// The calls with these numbers fail.
     pub fn fail_at(&mut self, calls: Vec<u64>)
-        ensures listed { listed_calls self.new ≡ calls.items }
-        ensures calls { self.new.calls ≡ self.old.calls }
-        ensures faults { self.new.faults ≡ self.old.faults }
+        ensures { ListsCalls calls.items self.old self.new }
     {
         self.listed = Some(calls);
     }
