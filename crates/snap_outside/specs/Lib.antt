@@ -1,3 +1,4 @@
+pub mod Adapters
 pub mod Causes
 pub mod Files
 pub mod Held

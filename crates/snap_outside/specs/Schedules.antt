@@ -14,9 +14,17 @@ numbers (Some calls) = calls.items
 abbrev pub listed_calls : Schedule → List ℕ
 listed_calls s = numbers s.listed
 
--- the number of the next call, from 1 on; it stops at the largest number
+-- how many calls there were, up to the largest number
+abbrev pub calls_so_far : Schedule → ℕ
+calls_so_far s = s.calls
+
+-- how many of them failed, up to the largest number
+abbrev pub faults_so_far : Schedule → ℕ
+faults_so_far s = s.faults
+
+-- the number of the next call, from 1 on
 abbrev pub next_call : Schedule → ℕ
-next_call s = min (s.calls + 1) (2 ^ 64 - 1)
+next_call s = min (calls_so_far s + 1) (2 ^ 64 - 1)
 
 -- whether the next call is one of those that fail
 abbrev pub fails_next : Schedule → Bool
@@ -24,20 +32,20 @@ fails_next s = list_any (λ call. call == next_call s) (listed_calls s)
 
 -- one more call was made, and the same calls fail
 pub record Counts (before now : Schedule) : Type 0 where
-  pub calls : now.calls ≡ next_call before
+  pub calls : calls_so_far now ≡ next_call before
   pub listed : listed_calls now ≡ listed_calls before
 
 -- no call was made, none is to fail, and none failed
 pub record IsFresh (s : Schedule) : Type 0 where
-  pub calls : s.calls ≡ 0
+  pub calls : calls_so_far s ≡ 0
   pub listed : listed_calls s ≡ []
-  pub faults : s.faults ≡ 0
+  pub faults : faults_so_far s ≡ 0
 
 -- these calls are to fail, and nothing else has changed
 pub record ListsCalls (calls : List ℕ) (before now : Schedule) : Type 0 where
   pub listed : listed_calls now ≡ calls
-  pub same_calls : now.calls ≡ before.calls
-  pub same_faults : now.faults ≡ before.faults
+  pub same_calls : calls_so_far now ≡ calls_so_far before
+  pub same_faults : faults_so_far now ≡ faults_so_far before
 
 -- a store's call fails exactly where it is listed
 abbrev pub FailsAsListed : {T : Type 0} → Bool → Result T StoreError → Type 0

@@ -1,5 +1,6 @@
 //! Real files in folders. The store tells nothing of what they hold.
 ghost use Rattle.std.specs.Prelude.{◌≡◌, None};
+ghost use Rattle.snap_outside.specs.Adapters.{store_faults};
 ghost use Rattle.snap_outside.specs.Causes.{StoreCause};
 
 use crate::names::Names;
@@ -27,14 +28,14 @@ pub struct FolderStore<R: Runtime> {
 
 impl<R: Runtime> FolderStore<R> {
     pub fn new(rt: R) -> FolderStore<R>
-        ensures { result.faults ≡ 0 }
+        ensures { store_faults result ≡ 0 }
     {
         FolderStore { rt, faults: 0 }
     }
 
     /// The answer, which is counted where it is a fault.
     fn counted<T>(&mut self, answer: Result<T, StoreError>) -> Result<T, StoreError>
-        ensures { StoreCause self.old.faults self.new.faults result }
+        ensures { StoreCause (store_faults self.old) (store_faults self.new) result }
     {
         match answer {
             Err(StoreError::Failed) => {

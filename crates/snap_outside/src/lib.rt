@@ -5,14 +5,16 @@
 
 pub mod files;
 pub mod folder;
-pub mod listing;
+mod listing;
 pub mod memory;
 pub mod names;
 pub mod outside;
-pub mod pieces;
+mod pieces;
 pub mod schedule;
 pub mod steady;
 pub mod stream;
+#[cfg(test)]
+mod tests;
 
 pub use files::MemoryFiles;
 pub use folder::FolderStore;

@@ -6,7 +6,7 @@ ghost use Rattle.snap_outside.specs.Causes.{HasCause, StoreCause};
 ghost use Rattle.snap_outside.specs.Files.{Files, SameBut};
 ghost use Rattle.snap_outside.specs.Held.{files_in, left_in, written_in, store_calls, source_calls, sink_calls};
 ghost use Rattle.snap_outside.specs.Listed.{AreNames};
-ghost use Rattle.snap_outside.specs.Schedules.{fails_next, Counts, IsFresh, ListsCalls, FailsAsListed};
+ghost use Rattle.snap_outside.specs.Schedules.{faults_so_far, fails_next, Counts, IsFresh, ListsCalls, FailsAsListed};
 
 use crate::files::MemoryFiles;
 use crate::names::Names;
@@ -78,7 +78,7 @@ impl Store for MemoryStore {
     fn read(&mut self, alloc: Global, path: &Text) -> Result<Option<Blob>, StoreError>
         ensures found { IfOk result (λ found. found ≡ get (files_in self.old) path.now) }
         ensures same { files_in self.new ≡ files_in self.old }
-        ensures cause { StoreCause (store_calls self.old).faults (store_calls self.new).faults result }
+        ensures cause { StoreCause (faults_so_far (store_calls self.old)) (faults_so_far (store_calls self.new)) result }
         ensures listed { FailsAsListed (fails_next (store_calls self.old)) result }
         ensures counts { Counts (store_calls self.old) (store_calls self.new) }
     {
@@ -95,7 +95,7 @@ impl Store for MemoryStore {
         ensures written { OnOk result (files_in self.new ≡ insert (files_in self.old) path.now bytes.now) }
         ensures kept { OnErr result (files_in self.new ≡ files_in self.old) }
         ensures unknown { OnErr result ((m : Files) → Some (files_in self.old) ≡ Some m → SameBut path.now m (Some (files_in self.new))) }
-        ensures cause { StoreCause (store_calls self.old).faults (store_calls self.new).faults result }
+        ensures cause { StoreCause (faults_so_far (store_calls self.old)) (faults_so_far (store_calls self.new)) result }
         ensures listed { FailsAsListed (fails_next (store_calls self.old)) result }
         ensures counts { Counts (store_calls self.old) (store_calls self.new) }
     {
@@ -113,7 +113,7 @@ impl Store for MemoryStore {
         ensures removed { OnOk result (files_in self.new ≡ remove (files_in self.old) path.now) }
         ensures kept { OnErr result (files_in self.new ≡ files_in self.old) }
         ensures unknown { OnErr result ((m : Files) → Some (files_in self.old) ≡ Some m → SameBut path.now m (Some (files_in self.new))) }
-        ensures cause { StoreCause (store_calls self.old).faults (store_calls self.new).faults result }
+        ensures cause { StoreCause (faults_so_far (store_calls self.old)) (faults_so_far (store_calls self.new)) result }
         ensures listed { FailsAsListed (fails_next (store_calls self.old)) result }
         ensures counts { Counts (store_calls self.old) (store_calls self.new) }
     {
@@ -128,7 +128,7 @@ impl Store for MemoryStore {
     fn list(&mut self, alloc: Global, folder: &Text) -> Result<Names, StoreError>
         ensures names { IfOk result (λ names. AreNames (files_in self.old) folder.now names) }
         ensures same { files_in self.new ≡ files_in self.old }
-        ensures cause { StoreCause (store_calls self.old).faults (store_calls self.new).faults result }
+        ensures cause { StoreCause (faults_so_far (store_calls self.old)) (faults_so_far (store_calls self.new)) result }
         ensures listed { FailsAsListed (fails_next (store_calls self.old)) result }
         ensures counts { Counts (store_calls self.old) (store_calls self.new) }
     {
@@ -177,7 +177,7 @@ impl Source for MemorySource {
         ensures bytes { IfOk result (λ count. left_in self.old ≡ take count buffer.new ++ left_in self.new) }
         ensures end { IfOk result (λ count. count ≡ 0 → 0 < length buffer.new → (xs : List ℕ) → Some (left_in self.old) ≡ Some xs → xs ≡ []) }
         ensures kept { OnErr result (left_in self.new ≡ left_in self.old) }
-        ensures cause { HasCause (source_calls self.old).faults (source_calls self.new).faults result }
+        ensures cause { HasCause (faults_so_far (source_calls self.old)) (faults_so_far (source_calls self.new)) result }
         ensures listed { IsTrue (is_err result) ↔ IsTrue (fails_next (source_calls self.old)) }
         ensures counts { Counts (source_calls self.old) (source_calls self.new) }
     {
@@ -233,7 +233,7 @@ impl Sink for MemorySink {
         ensures some { IfOk result (λ count. 0 < length bytes.now → 0 < count) }
         ensures bytes { IfOk result (λ count. written_in self.new ≡ written_in self.old ++ take count bytes.now) }
         ensures kept { OnErr result (written_in self.new ≡ written_in self.old) }
-        ensures cause { HasCause (sink_calls self.old).faults (sink_calls self.new).faults result }
+        ensures cause { HasCause (faults_so_far (sink_calls self.old)) (faults_so_far (sink_calls self.new)) result }
         ensures listed { IfOk result (λ _. fails_next (sink_calls self.old) ≡ false) }
         ensures counts { Counts (sink_calls self.old) (sink_calls self.new) }
     {

@@ -2,7 +2,7 @@
 ghost use Rattle.std.specs.Prelude.{◌≡◌, IsTrue};
 ghost use Rattle.std.specs.Bool.{OnTrue, OnFalse};
 ghost use Rattle.snap_outside.specs.Causes.{Rose};
-ghost use Rattle.snap_outside.specs.Schedules.{listed_calls, fails_next, Counts, IsFresh, ListsCalls};
+ghost use Rattle.snap_outside.specs.Schedules.{listed_calls, calls_so_far, faults_so_far, fails_next, Counts, IsFresh, ListsCalls};
 
 /// The calls that fail by their numbers, from 1 on, and the counts of calls and of faults so far.
 #[derive(Drop)]
@@ -35,8 +35,8 @@ impl Schedule {
     pub fn call_fails(&mut self) -> bool
         ensures listed { result ≡ fails_next self.old }
         ensures counts { Counts self.old self.new }
-        ensures fails { OnTrue result (Rose self.old.faults self.new.faults) }
-        ensures goes_on { OnFalse result (self.new.faults ≡ self.old.faults) }
+        ensures fails { OnTrue result (Rose (faults_so_far self.old) (faults_so_far self.new)) }
+        ensures goes_on { OnFalse result (faults_so_far self.new ≡ faults_so_far self.old) }
     {
         self.calls = self.calls.saturating_add(1);
         let fails = match &self.listed {
@@ -51,8 +51,8 @@ impl Schedule {
 
     /// Raises the count of faults.
     pub fn fault(&mut self)
-        ensures rose { Rose self.old.faults self.new.faults }
-        ensures calls { self.new.calls ≡ self.old.calls }
+        ensures rose { Rose (faults_so_far self.old) (faults_so_far self.new) }
+        ensures calls { calls_so_far self.new ≡ calls_so_far self.old }
         ensures listed { listed_calls self.new ≡ listed_calls self.old }
     {
         self.faults = self.faults.saturating_add(1);

@@ -1,5 +1,6 @@
 //! A source over a reader, and a sink over a writer. They tell nothing of their bytes.
 ghost use Rattle.std.specs.Prelude.{◌≡◌, None};
+ghost use Rattle.snap_outside.specs.Adapters.{source_faults, sink_faults};
 ghost use Rattle.snap_outside.specs.Causes.{Rose};
 
 use crate::outside::{Fault, Sink, Source};
@@ -14,7 +15,7 @@ pub struct StreamSource<R: Read + Drop> {
 
 impl<R: Read + Drop> StreamSource<R> {
     pub fn new(reader: R) -> StreamSource<R>
-        ensures { result.faults ≡ 0 }
+        ensures { source_faults result ≡ 0 }
     {
         StreamSource { reader, faults: 0 }
     }
@@ -46,13 +47,13 @@ pub struct StreamSink<W: Write + Drop> {
 
 impl<W: Write + Drop> StreamSink<W> {
     pub fn new(writer: W) -> StreamSink<W>
-        ensures { result.faults ≡ 0 }
+        ensures { sink_faults result ≡ 0 }
     {
         StreamSink { writer, faults: 0 }
     }
 
     fn fault(&mut self) -> Fault
-        ensures { Rose self.old.faults self.new.faults }
+        ensures { Rose (sink_faults self.old) (sink_faults self.new) }
     {
         self.faults = self.faults.saturating_add(1);
         Fault
