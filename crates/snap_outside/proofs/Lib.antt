@@ -1,0 +1,5 @@
+pub mod Entries
+mod Joined
+mod Folders
+mod Parts
+pub mod Unchanged

@@ -1,0 +1,7 @@
+use Rattle.std.proofs.Common.{ap, sym, ◌∙◌}
+use Rattle.std.specs.FinMap.{len}
+use Rattle.snap_outside.proofs.Entries.{len-entries}
+use Rattle.snap_outside.proofs.files.MemoryFiles.len.Goals as goal
+
+pub returns : goal.returns
+returns c = c.len.ensures.len ∙ sym (len-entries c.self.inside.tree.entries c.len.ensures.ordered) ∙ ap len c.self.view_is

@@ -1,0 +1,176 @@
+//! Real files in folders. The store tells nothing of what they hold.
+ghost use Rattle.std.specs.Prelude.{◌≡◌, None};
+ghost use Rattle.snap_outside.specs.Adapters.{store_faults};
+ghost use Rattle.snap_outside.specs.Causes.{StoreCause};
+
+use crate::names::Names;
+use crate::outside::{Store, StoreError};
+use snap_content::{Blob, Text};
+use std::alloc::{AllocError, Allocator, Global};
+use std::fs;
+use std::fs::{DirEntry, Files, OpenFile};
+use std::io;
+use std::io::{ErrorKind, Read, Write};
+use std::rt::Runtime;
+
+/// A longer file is a fault.
+const MAX_FILE: usize = 67_108_864;
+
+/// More names in a folder are a fault.
+const MAX_NAMES: usize = 1_000_000;
+
+/// Files of the system by their paths; a path that does not begin with a slash is one of the working folder.
+#[derive(Drop)]
+pub struct FolderStore<R: Runtime> {
+    rt: R,
+    faults: u64,
+}
+
+impl<R: Runtime> FolderStore<R> {
+    pub fn new(rt: R) -> FolderStore<R>
+        ensures { store_faults result ≡ 0 }
+    {
+        FolderStore { rt, faults: 0 }
+    }
+
+    /// The answer, which is counted where it is a fault.
+    fn counted<T>(&mut self, answer: Result<T, StoreError>) -> Result<T, StoreError>
+        ensures { StoreCause (store_faults self.old) (store_faults self.new) result }
+    {
+        match answer {
+            Err(StoreError::Failed) => {
+                self.faults = self.faults.saturating_add(1);
+                Err(StoreError::Failed)
+            }
+            Err(StoreError::OutOfMemory) => Err(StoreError::OutOfMemory),
+            Ok(value) => Ok(value),
+        }
+    }
+}
+
+impl<R: Runtime> Store for FolderStore<R> {
+    ghost files = { λ _. None };
+
+    ghost faults = { λ store. store.faults };
+
+    fn read(&mut self, alloc: Global, path: &Text) -> Result<Option<Blob>, StoreError> {
+        let answer = read_file(&self.rt, alloc, path.as_str());
+        self.counted(answer)
+    }
+
+    fn write(&mut self, path: &Text, bytes: &[u8]) -> Result<(), StoreError> {
+        let answer = write_file(&self.rt, path.as_str(), bytes);
+        self.counted(answer)
+    }
+
+    fn remove(&mut self, path: &Text) -> Result<bool, StoreError> {
+        let answer = remove_file(&self.rt, path.as_str());
+        self.counted(answer)
+    }
+
+    fn list(&mut self, alloc: Global, folder: &Text) -> Result<Names, StoreError> {
+        let answer = list_folder(&self.rt, alloc, folder.as_str());
+        self.counted(answer)
+    }
+}
+
+fn read_file<R: Runtime>(rt: &R, alloc: Global, path: &str) -> Result<Option<Blob>, StoreError> {
+    let mut file = match fs::open(rt, path) {
+        Ok(file) => file,
+        Err(error) if error.kind() == ErrorKind::NotFound => return Ok(None),
+        Err(_) => return Err(StoreError::Failed),
+    };
+    let bytes = read_to_end(alloc, &mut file)?;
+    Ok(Some(Blob::from_slice(alloc, bytes.as_slice())?))
+}
+
+/// All bytes that are left, where they are not too many.
+fn read_to_end<F: Read>(alloc: Global, file: &mut F) -> Result<Vec<u8>, StoreError> {
+    let mut bytes = Vec::new(alloc);
+    let mut buffer = [0u8; 4096];
+    // Each turn takes a byte at least.
+    for _ in 0..=MAX_FILE {
+        match file.read(&mut buffer) {
+            Ok(0) => return Ok(bytes),
+            Ok(count) => bytes.extend_from_slice(&buffer[..count])?,
+            Err(_) => return Err(StoreError::Failed),
+        }
+        if bytes.len() > MAX_FILE {
+            break;
+        }
+    }
+    Err(StoreError::Failed)
+}
+
+/// Writes the bytes to a helper beside the file, and moves it to the file's place: a write that is cut off
+/// leaves the file whole, old or new. The helper is a hidden file, so no name of the product begins as it does.
+/// The folder's own entry is not synced, for which the kit has no call; a link at the path gives way to the file.
+fn write_file<R: Runtime>(rt: &R, path: &str, bytes: &[u8]) -> Result<(), StoreError> {
+    let alloc = rt.alloc();
+    let helper = match path.rsplit_once('/') {
+        Some((folder, name)) => {
+            if fs::create_dir_all(rt, folder).is_err() {
+                return Err(StoreError::Failed);
+            }
+            format!(in alloc; "{folder}/.{name}.snap-writing")?
+        }
+        None => format!(in alloc; ".{path}.snap-writing")?,
+    };
+    let written = write_helper(rt, helper.as_str(), bytes);
+    if written.is_err() || fs::rename(rt, helper.as_str(), path).is_err() {
+        // What is left of the helper does no harm.
+        let _ = fs::remove_file(rt, helper.as_str());
+        return Err(StoreError::Failed);
+    }
+    Ok(())
+}
+
+fn write_helper<R: Runtime>(rt: &R, helper: &str, bytes: &[u8]) -> io::Result<()> {
+    let mut file = fs::create(rt, helper)?;
+    file.write_all(bytes)?;
+    file.sync_all()
+}
+
+fn remove_file<R: Runtime>(rt: &R, path: &str) -> Result<bool, StoreError> {
+    match fs::remove_file(rt, path) {
+        Ok(()) => Ok(true),
+        Err(error) if error.kind() == ErrorKind::NotFound => Ok(false),
+        Err(_) => Err(StoreError::Failed),
+    }
+}
+
+/// The names of the files in a folder: no folders, and no names that are not UTF-8.
+fn list_folder<R: Runtime>(rt: &R, alloc: Global, folder: &str) -> Result<Names, StoreError> {
+    let folder = if folder.is_empty() { "." } else { folder };
+    let entries = match fs::read_dir(rt, folder) {
+        Ok(entries) => entries,
+        Err(error) if error.kind() == ErrorKind::NotFound => return Ok(Names::new(alloc)),
+        Err(_) => return Err(StoreError::Failed),
+    };
+    let mut names = Names::new(alloc);
+    for entry in entries {
+        match entry {
+            Ok(entry) => {
+                if is_file(&entry)? {
+                    if names.len() >= MAX_NAMES {
+                        return Err(StoreError::Failed);
+                    }
+                    names.push(Text::from_str(alloc, entry.file_name())?)?;
+                }
+            }
+            // So the kit answers at a name that is not UTF-8.
+            Err(error) if error.kind() == ErrorKind::InvalidFilename => {}
+            Err(_) => return Err(StoreError::Failed),
+        }
+    }
+    Ok(names)
+}
+
+/// Whether the entry is no folder, and still there.
+fn is_file<R: Files, A: Allocator>(entry: &DirEntry<R, A>) -> Result<bool, StoreError> {
+    match entry.file_type() {
+        Ok(kind) => Ok(!kind.is_dir()),
+        Err(error) if error.kind() == ErrorKind::NotFound => Ok(false),
+        Err(_) => Err(StoreError::Failed),
+    }
+}
