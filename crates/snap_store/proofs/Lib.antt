@@ -1,0 +1,4 @@
+mod BeforeRest
+mod Pieces
+mod LineEnds
+pub mod Splitting

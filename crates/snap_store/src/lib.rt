@@ -1,0 +1,4 @@
+//! Snapshot files.
+#![tactic(auto)]
+
+pub mod split;
