@@ -1,8 +1,10 @@
 -- How a snapshot file falls into its header and its body.
-use Rattle.std.specs.Prelude.{◌≡◌, ◌==◌, ◌&&◌, ◌||◌, ℕ, List, [], ◌∷◌, ◌++◌, Bool, true, false, if◌then◌else◌, Option, None, Some, option_map, map, drop, codes}
+use Rattle.std.specs.Prelude.{◌≡◌, ◌==◌, ◌&&◌, ℕ, List, [], ◌∷◌, ◌++◌, Bool, true, false, if◌then◌else◌, Option, None, Some, option_map, map, drop, codes}
 use Rattle.std.specs.Char.{is_whitespace, to_ascii_lowercase}
 use Rattle.std.specs.List.{concat}
 use Rattle.std.specs.Str.{bytes_eq}
+use Rattle.snap_content.specs.Lines.{document_of, text_of}
+use Rattle.snap_content.specs.Plain.{Plain}
 use Rattle.snap_text.specs.Normal.{trimmed}
 
 -- the character in front of the first of the texts
@@ -76,6 +78,16 @@ pub record IsSplit (text header body : List ℕ) : Type 0 where
   pub headed : is_headed text ≡ true
   pub header_is : header ≡ header_of text
   pub body_is : body ≡ body_of text
+
+-- the text is headed, and falls into this header and this body but for the body's last line's end
+pub record FallsInto (text header body : List ℕ) : Type 0 where
+  pub headed : is_headed text ≡ true
+  pub header_is : header_of text ≡ header
+  pub body_is : body_of text ++ 10 ∷ [] ≡ body
+
+-- a file of a header and a body that are printed
+abbrev pub file_text : Plain → Plain → List ℕ
+file_text header body = document_of header ++ codes "---\n" ++ text_of body
 
 -- a text that is not headed: its first line is dropped
 abbrev pub legacy_lines : List ℕ → List (List ℕ)

@@ -2,7 +2,10 @@
 ghost use Rattle.std.specs.Prelude.{◌≡◌, ◌<◌, ℕ, List, [], ◌∷◌, ◌++◌, false, length, IfOk, IfSome, MatchOption, OnOk};
 ghost use Rattle.std.specs.List.{concat};
 ghost use Rattle.std.specs.Str.{chars};
-ghost use Rattle.snap_store.specs.FileSplit.{pieces, is_fence, line_of, lines_text, up_to_fence, past_fence, is_headed, IsSplit};
+ghost use Rattle.snap_store.specs.FileSplit.{pieces, is_fence, line_of, lines_text, up_to_fence, past_fence, is_headed, IsSplit, FallsInto, file_text};
+ghost use Rattle.snap_content.specs.Lines.{lines_of, text_of, document_of};
+ghost use Rattle.snap_content.specs.Plain.{Plain};
+ghost use Rattle.snap_content.specs.Printed.{AreLines};
 
 use snap_content::characters::{is_same, split_first, split_last};
 use snap_content::{OutOfMemory, Text};
@@ -44,16 +47,26 @@ fn is_fence(piece: &str) -> bool
     is_same(trimmed_text(piece), "---")
 }
 
+/// What stands before the character, where the text ends with it.
+fn before_character(text: &str, character: char) -> Option<&str>
+    ensures { MatchOption result ((cs : List ℕ) → chars text.now ≡ cs ++ character ∷ [] → ⊥) (λ front. chars text.now ≡ chars front.now ++ character ∷ []) }
+{
+    match split_last(text) {
+        Some((front, last)) if last == character => Some(front),
+        _ => None,
+    }
+}
+
 /// The line without its end.
 fn line_text(piece: &str) -> &str
     ensures { chars result.now ≡ line_of (chars piece.now) }
 {
-    match split_last(piece) {
-        Some((line, '\n')) => match split_last(line) {
-            Some((shorter, '\r')) => shorter,
-            _ => line,
-        },
-        _ => piece,
+    let Some(line) = before_character(piece, '\n') else {
+        return piece;
+    };
+    match before_character(line, '\r') {
+        None => line,
+        Some(shorter) => shorter,
     }
 }
 
@@ -121,6 +134,12 @@ pub fn split_file(alloc: Global, text: &str) -> Result<Option<Headed>, OutOfMemo
     Ok(Some(Headed { header, body }))
 }
 
+/// A file of a printed header and a printed body falls into both again.
+pub const fn printed_files_split()
+    ensures { (header body : Plain) → AreLines (lines_of header) → AreLines (lines_of body)
+        → FallsInto (file_text header body) (document_of header) (text_of body) }
+{}
+
 #[cfg(test)]
 mod tests {
     use super::*;
@@ -134,7 +153,11 @@ mod tests {
             ("---\na: 1\nx\n", "---\na: 1\nx\n", ""),
             ("--- \na: 1\n---\t\nx", "--- \na: 1\n", "x"),
             ("---\na: 1\n---\nx\n---\ny\n", "---\na: 1\n", "x\n---\ny"),
-            ("---\r\na: 1\r\n---\r\nx\r\n\r\ny\r", "---\r\na: 1\r\n", "x\n\ny\r"),
+            (
+                "---\r\na: 1\r\n---\r\nx\r\n\r\ny\r",
+                "---\r\na: 1\r\n",
+                "x\n\ny\r",
+            ),
             ("---", "---", ""),
             ("---\n---\n\nx\n\n", "---\n", "\nx\n"),
         ] {
