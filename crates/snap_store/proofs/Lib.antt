@@ -1,1 +1,5 @@
+mod BeforeRest
+mod Pieces
+mod LineEnds
+pub mod Splitting
 pub mod Told

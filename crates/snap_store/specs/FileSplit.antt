@@ -1,8 +1,16 @@
 -- How a snapshot file falls into its header and its body.
-use Rattle.std.specs.Prelude.{◌==◌, ◌&&◌, ℕ, List, [], ◌∷◌, ◌++◌, Bool, true, false, map, codes, if◌then◌else◌}
+use Rattle.std.specs.Prelude.{◌≡◌, ◌==◌, ◌&&◌, ℕ, List, [], ◌∷◌, ◌++◌, Bool, true, false, if◌then◌else◌, Option, None, Some, option_map, map, drop, codes}
+use Rattle.std.specs.Char.{is_whitespace, to_ascii_lowercase}
+use Rattle.std.specs.List.{concat}
 use Rattle.std.specs.Str.{bytes_eq}
-use Rattle.snap_path.specs.Paths.{attached}
+use Rattle.snap_content.specs.Lines.{document_of, text_of}
+use Rattle.snap_content.specs.Plain.{Plain}
 use Rattle.snap_text.specs.Normal.{trimmed}
+
+-- the character in front of the first of the texts
+abbrev pub attached : ℕ → List (List ℕ) → List (List ℕ)
+attached c [] = (c ∷ []) ∷ []
+attached c (d ∷ ds) = (c ∷ d) ∷ ds
 
 -- the text, cut behind each line's end
 abbrev pub pieces : List ℕ → List (List ℕ)
@@ -13,16 +21,17 @@ pieces (c ∷ cs) = if c == 10 then (c ∷ []) ∷ pieces cs else attached c (pi
 abbrev pub is_fence : List ℕ → Bool
 is_fence piece = bytes_eq (trimmed piece) (codes "---")
 
--- a text without a line's end at its end: LF, and one return before it
-abbrev pub before_end : ℕ → List ℕ → List ℕ
-before_end c [] = if c == 10 then [] else c ∷ []
-before_end c (d ∷ ds) = c ∷ d ∷ ds
+-- a line's end: LF, or CR and LF
+abbrev pub is_end : List ℕ → Bool
+is_end [] = false
+is_end (c ∷ []) = c == 10
+is_end (c ∷ d ∷ []) = c == 13 && d == 10
+is_end (c ∷ d ∷ e ∷ cs) = false
 
-abbrev pub without_end : List ℕ → List ℕ
-without_end [] = []
-without_end (c ∷ []) = if c == 10 then [] else c ∷ []
-without_end (c ∷ d ∷ []) = if c == 13 && d == 10 then [] else before_end c (without_end (d ∷ []))
-without_end (c ∷ d ∷ e ∷ cs) = c ∷ without_end (d ∷ e ∷ cs)
+-- a piece without its line's end
+abbrev pub line_of : List ℕ → List ℕ
+line_of [] = []
+line_of (c ∷ cs) = if is_end (c ∷ cs) then [] else c ∷ line_of cs
 
 -- the lines with LF between each two
 abbrev pub joined_lines : List (List ℕ) → List ℕ
@@ -30,32 +39,100 @@ joined_lines [] = []
 joined_lines (line ∷ []) = line
 joined_lines (line ∷ next ∷ lines) = line ++ 10 ∷ joined_lines (next ∷ lines)
 
--- the pieces before the next fence, and those behind it
-abbrev pub up_to_fence : List (List ℕ) → List ℕ
+-- the pieces before the next fence
+abbrev pub up_to_fence : List (List ℕ) → List (List ℕ)
 up_to_fence [] = []
-up_to_fence (p ∷ ps) = if is_fence p then [] else p ++ up_to_fence ps
+up_to_fence (piece ∷ rest) = if is_fence piece then [] else piece ∷ up_to_fence rest
 
+-- the pieces behind the next fence
 abbrev pub past_fence : List (List ℕ) → List (List ℕ)
 past_fence [] = []
-past_fence (p ∷ ps) = if is_fence p then ps else past_fence ps
+past_fence (piece ∷ rest) = if is_fence piece then rest else past_fence rest
 
-abbrev pub headed_by : List (List ℕ) → Bool
-headed_by [] = false
-headed_by (p ∷ ps) = is_fence p
+abbrev pub first_is_fence : List (List ℕ) → Bool
+first_is_fence [] = false
+first_is_fence (piece ∷ rest) = is_fence piece
 
-abbrev pub header_in : List (List ℕ) → List ℕ
-header_in [] = []
-header_in (p ∷ ps) = p ++ up_to_fence ps
+-- the first piece opens the header, which goes up to the next fence
+abbrev pub header_text : List (List ℕ) → List ℕ
+header_text [] = []
+header_text (piece ∷ rest) = piece ++ concat (up_to_fence rest)
 
-abbrev pub body_in : List (List ℕ) → List ℕ
-body_in [] = []
-body_in (p ∷ ps) = joined_lines (map without_end (past_fence ps))
+-- the lines of some pieces, joined
+abbrev pub lines_text : List (List ℕ) → List ℕ
+lines_text rest = joined_lines (map line_of rest)
 
 abbrev pub is_headed : List ℕ → Bool
-is_headed text = headed_by (pieces text)
+is_headed text = first_is_fence (pieces text)
 
+-- of a headed text: its header with the lines' ends
 abbrev pub header_of : List ℕ → List ℕ
-header_of text = header_in (pieces text)
+header_of text = header_text (pieces text)
 
+-- of a headed text: the lines behind the header's end
 abbrev pub body_of : List ℕ → List ℕ
-body_of text = body_in (pieces text)
+body_of text = lines_text (past_fence (drop 1 (pieces text)))
+
+-- the text is headed, and these are its header and its body
+pub record IsSplit (text header body : List ℕ) : Type 0 where
+  pub headed : is_headed text ≡ true
+  pub header_is : header ≡ header_of text
+  pub body_is : body ≡ body_of text
+
+-- the text is headed, and falls into this header and this body but for the body's last line's end
+pub record FallsInto (text header body : List ℕ) : Type 0 where
+  pub headed : is_headed text ≡ true
+  pub header_is : header_of text ≡ header
+  pub body_is : body_of text ++ 10 ∷ [] ≡ body
+
+-- a file of a header and a body that are printed
+abbrev pub file_text : Plain → Plain → List ℕ
+file_text header body = document_of header ++ codes "---\n" ++ text_of body
+
+-- a text that is not headed: its first line is dropped
+abbrev pub legacy_lines : List ℕ → List (List ℕ)
+legacy_lines text = map line_of (drop 1 (pieces text))
+
+abbrev pub is_blank : List ℕ → Bool
+is_blank line = bytes_eq (trimmed line) []
+
+-- the lines before the first blank one tell fields
+abbrev pub before_blank : List (List ℕ) → List (List ℕ)
+before_blank [] = []
+before_blank (line ∷ lines) = if is_blank line then [] else line ∷ before_blank lines
+
+-- the lines behind the first blank one are the body
+abbrev pub past_blank : List (List ℕ) → List (List ℕ)
+past_blank [] = []
+past_blank (line ∷ lines) = if is_blank line then lines else past_blank lines
+
+abbrev pub legacy_body : List ℕ → List ℕ
+legacy_body text = joined_lines (past_blank (legacy_lines text))
+
+abbrev pub trimmed_front : List ℕ → List ℕ
+trimmed_front [] = []
+trimmed_front (c ∷ cs) = if is_whitespace c then trimmed_front cs else c ∷ cs
+
+-- what stands behind the name and a colon, where the line begins with them; case does not count in ASCII
+abbrev pub behind_name : List ℕ → List ℕ → Option (List ℕ)
+behind_name name [] = None
+behind_name [] (c ∷ cs) = if c == 58 then Some cs else None
+behind_name (n ∷ name) (c ∷ cs) = if to_ascii_lowercase c == n then behind_name name cs else None
+
+abbrev pub value_of : List ℕ → List ℕ
+value_of text = trimmed (trimmed_front text)
+
+abbrev pub later_or : Option (List ℕ) → Option (List ℕ) → Option (List ℕ)
+later_or None here = here
+later_or (Some later) here = Some later
+
+-- the value of the last of the lines that name the field, which is written in small letters
+abbrev pub legacy_field : List ℕ → List (List ℕ) → Option (List ℕ)
+legacy_field name [] = None
+legacy_field name (line ∷ lines) = later_or (legacy_field name lines) (option_map value_of (behind_name name line))
+
+abbrev pub legacy_expression : List ℕ → Option (List ℕ)
+legacy_expression text = legacy_field (codes "expression") (before_blank (legacy_lines text))
+
+abbrev pub legacy_source : List ℕ → Option (List ℕ)
+legacy_source text = legacy_field (codes "source") (before_blank (legacy_lines text))

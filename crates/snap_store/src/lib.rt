@@ -4,6 +4,7 @@
 pub mod contents;
 pub mod metadata;
 pub mod snapshot;
+pub mod split;
 
 pub use contents::SnapshotContents;
 pub use metadata::{MetaData, SnapshotKind};

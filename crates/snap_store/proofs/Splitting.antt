@@ -1,0 +1,139 @@
+-- A file that is made of two printed texts falls into them again.
+use Rattle.std.proofs.Common.{◌≡◌, ◌==◌, ℕ, List, [], ◌∷◌, ◌++◌, Bool, true, false, ◌||◌, cond, codes, map, refl, sym, ap, ◌∙◌, append_assoc, append-nil, subst, drop}
+use Rattle.std.specs.List.{list_any, flat_map, concat}
+use Rattle.std.specs.Str.{bytes_eq}
+use Rattle.std.proofs.lemmas.Slice.Eq.{bytes_eq-Decides}
+use Rattle.snap_content.specs.Plain.{Plain, null, bool, int, text, list, dict, no_items, item, no_entries, entry}
+use Rattle.snap_content.specs.Lines.{lines_of, text_of, document_of, ended, behind, is_simple, indented, item_lines, entry_lines}
+use Rattle.snap_content.specs.Printed.{IsLine, AreLines, is_break, begins_dashes}
+use Rattle.snap_content.specs.Spell.{spelling, is_flat}
+use Rattle.snap_text.specs.Lines.{is_line_end, IsUnbroken}
+use Rattle.snap_text.proofs.Trimming.{trimmed-push, trimmed-well}
+use Rattle.snap_store.specs.FileSplit.{pieces, is_fence, line_of, joined_lines, up_to_fence, past_fence, header_text, lines_text, first_is_fence, file_text, FallsInto}
+use Rattle.snap_store.proofs.Pieces.{pieces-line}
+use Rattle.snap_store.proofs.LineEnds.{ended_by_feed}
+
+or_left : (a b : Bool) → (a || b) ≡ false → a ≡ false
+or_left true b h = h
+or_left false b h = refl
+
+or_right : (a b : Bool) → (a || b) ≡ false → b ≡ false
+or_right true b h = absurd (cc)
+or_right false b h = h
+
+-- a line holds no LF, and ends in no CR
+unbroken_line : (line : List ℕ) → list_any is_break line ≡ false → IsUnbroken line
+unbroken_line [] h = refl
+unbroken_line (c ∷ cs) h =
+    ap (λ b. b || list_any is_line_end cs) (or_left (c == 10) (c == 13) (or_left (is_break c) (list_any is_break cs) h))
+    ∙ unbroken_line cs (or_right (is_break c) (list_any is_break cs) h)
+
+no_return : (front : List ℕ) → list_any is_break (front ++ 13 ∷ []) ≡ false → ⊥
+no_return [] h = cc
+no_return (c ∷ cs) h = no_return cs (or_right (is_break c) (list_any is_break (cs ++ 13 ∷ [])) h)
+
+line-ended : (line : List ℕ) → IsLine line → line_of (ended line) ≡ line
+line-ended line h = ended_by_feed line (λ front e. no_return front (ap (list_any is_break) (sym e) ∙ h.unbroken))
+
+-- no line is a fence
+no_dashes : (line : List ℕ) → begins_dashes line ≡ false → (same : Bool) → bytes_eq line (codes "---") ≡ same → same ≡ false
+no_dashes line h true is = absurd (let e = ap begins_dashes (sym ((bytes_eq-Decides line (codes "---")).0 is)) ∙ h in cc (e))
+no_dashes line h false is = refl
+
+no_fence : (line : List ℕ) → IsLine line → is_fence (ended line) ≡ false
+no_fence line h =
+    ap (λ t. bytes_eq t (codes "---")) (trimmed-push line 10 refl ∙ trimmed-well line h.trimmed)
+    ∙ no_dashes line h.no_dashes (bytes_eq line (codes "---")) refl
+
+-- the pieces of lines are those lines with their ends
+pub pieces-lines : (lines : List (List ℕ)) (more : List ℕ) → AreLines lines → pieces (flat_map ended lines ++ more) ≡ map ended lines ++ pieces more
+pieces-lines [] more h = refl
+pieces-lines (line ∷ lines) more h =
+    ap pieces (append_assoc (ended line) (flat_map ended lines) more ∙ append_assoc line (10 ∷ []) (flat_map ended lines ++ more))
+    ∙ pieces-line line (flat_map ended lines ++ more) (unbroken_line line h.0.unbroken)
+    ∙ ap (λ ps. ended line ∷ ps) (pieces-lines lines more h.1)
+
+up_to : (lines more : List (List ℕ)) → AreLines lines → up_to_fence (map ended lines ++ codes "---\n" ∷ more) ≡ map ended lines
+up_to [] more h = refl
+up_to (line ∷ lines) more h =
+    ap (λ b. cond b [] (ended line ∷ up_to_fence (map ended lines ++ codes "---\n" ∷ more))) (no_fence line h.0) ∙ ap (λ ps. ended line ∷ ps) (up_to lines more h.1)
+
+past : (lines more : List (List ℕ)) → AreLines lines → past_fence (map ended lines ++ codes "---\n" ∷ more) ≡ more
+past [] more h = refl
+past (line ∷ lines) more h =
+    ap (λ b. cond b (map ended lines ++ codes "---\n" ∷ more) (past_fence (map ended lines ++ codes "---\n" ∷ more))) (no_fence line h.0) ∙ past lines more h.1
+
+concat-ended : (lines : List (List ℕ)) → concat (map ended lines) ≡ flat_map ended lines
+concat-ended [] = refl
+concat-ended (line ∷ lines) = ap (λ t. ended line ++ t) (concat-ended lines)
+
+lines-ended : (lines : List (List ℕ)) → AreLines lines → map line_of (map ended lines) ≡ lines
+lines-ended [] h = refl
+lines-ended (line ∷ lines) h = ap (λ l. l ∷ map line_of (map ended lines)) (line-ended line h.0) ∙ ap (λ ls. line ∷ ls) (lines-ended lines h.1)
+
+joined-ended : (line : List ℕ) (lines : List (List ℕ)) → joined_lines (line ∷ lines) ++ 10 ∷ [] ≡ flat_map ended (line ∷ lines)
+joined-ended line [] = sym (append-nil (ended line))
+joined-ended line (next ∷ lines) =
+    append_assoc line (10 ∷ joined_lines (next ∷ lines)) (10 ∷ []) ∙ ap (λ t. line ++ 10 ∷ t) (joined-ended next lines)
+    ∙ sym (append_assoc line (10 ∷ []) (flat_map ended (next ∷ lines)))
+
+pub lines-split : (header : List (List ℕ)) (line : List ℕ) (lines : List (List ℕ)) → AreLines header → AreLines (line ∷ lines)
+    → FallsInto ((codes "---\n" ++ flat_map ended header) ++ codes "---\n" ++ flat_map ended (line ∷ lines)) (codes "---\n" ++ flat_map ended header) (flat_map ended (line ∷ lines))
+lines-split header line lines h k =
+    let body = flat_map ended (line ∷ lines) in
+    let text = (codes "---\n" ++ flat_map ended header) ++ codes "---\n" ++ body in
+    let rest = map ended (line ∷ lines) in
+    let body_pieces : pieces body ≡ rest =
+    ap pieces (sym (append-nil body)) ∙ pieces-lines (line ∷ lines) [] k ∙ append-nil rest in
+    let cut : pieces text ≡ codes "---\n" ∷ (map ended header ++ codes "---\n" ∷ rest) =
+    ap pieces (append_assoc (codes "---\n" ++ flat_map ended header) (codes "---\n") body)
+    ∙ ap (λ ps. codes "---\n" ∷ ps) (pieces-lines header (codes "---\n" ++ body) h)
+    ∙ ap (λ ps. codes "---\n" ∷ (map ended header ++ codes "---\n" ∷ ps)) body_pieces in
+    record {
+      headed = ap first_is_fence cut;
+      header_is = ap header_text cut ∙ ap (λ t. codes "---\n" ++ t) (ap concat (up_to header rest h) ∙ concat-ended header);
+      body_is =
+          ap (λ t. t ++ 10 ∷ [])
+          (ap (λ ps. lines_text (past_fence (drop 1 ps))) cut ∙ ap lines_text (past header rest h) ∙ ap joined_lines (lines-ended (line ∷ lines) k))
+          ∙ joined-ended line lines;
+    }
+
+-- a plain tree has a line
+pub record HasLine (lines : List (List ℕ)) : Type 0 where
+  pub first : List ℕ
+  pub others : List (List ℕ)
+  pub is : lines ≡ first ∷ others
+
+behind_line : (mark : ℕ) (lines more : List (List ℕ)) → HasLine lines → HasLine (behind mark lines ++ more)
+behind_line mark lines more h = record {
+  first = mark ∷ 32 ∷ h.first;
+  others = map indented h.others ++ more;
+  is = ap (λ ls. behind mark ls ++ more) h.is;
+}
+
+entry_line : (simple flat : Bool) (key value : List ℕ) (key_lines value_lines more : List (List ℕ)) → HasLine key_lines
+    → HasLine (cond simple (cond flat ((key ++ 58 ∷ 32 ∷ value) ∷ []) ((key ++ 58 ∷ []) ∷ map indented value_lines)) (behind 63 key_lines ++ behind 58 value_lines) ++ more)
+entry_line true true key value key_lines value_lines more h = record { first = key ++ 58 ∷ 32 ∷ value; others = more; is = refl }
+entry_line true false key value key_lines value_lines more h = record { first = key ++ 58 ∷ []; others = map indented value_lines ++ more; is = refl }
+entry_line false flat key value key_lines value_lines more h =
+    let both = behind_line 63 key_lines (behind 58 value_lines ++ more) h in
+    record { first = both.first; others = both.others; is = append_assoc (behind 63 key_lines) (behind 58 value_lines) more ∙ both.is }
+
+pub has_line : (t : Plain) → HasLine (lines_of t)
+has_line null = record { first = codes "~"; others = []; is = refl }
+has_line (bool b) = record { first = spelling (bool b); others = []; is = refl }
+has_line (int z) = record { first = spelling (int z); others = []; is = refl }
+has_line (text s) = record { first = spelling (text s); others = []; is = refl }
+has_line (list no_items) = record { first = codes "[]"; others = []; is = refl }
+has_line (list (item t ts)) = behind_line 45 (lines_of t) (item_lines ts) (has_line t)
+has_line (dict no_entries) = record { first = codes "{}"; others = []; is = refl }
+has_line (dict (entry k v es)) = entry_line (is_simple k) (is_flat v) (spelling k) (spelling v) (lines_of k) (lines_of v) (entry_lines es) (has_line k)
+
+-- the file of a header and a body that are printed falls into both
+pub file-split : (header body : Plain) → AreLines (lines_of header) → AreLines (lines_of body)
+    → FallsInto (file_text header body) (document_of header) (text_of body)
+file-split header body h k =
+    let filled = has_line body in
+    let P : List (List ℕ) → Type 0 = λ lines. FallsInto (document_of header ++ codes "---\n" ++ flat_map ended lines) (document_of header) (flat_map ended lines) in
+    let Q : List (List ℕ) → Type 0 = λ lines. AreLines lines in
+    subst P (sym filled.is) (lines-split (lines_of header) filled.first filled.others h (subst Q filled.is k))

@@ -1,0 +1,18 @@
+use Rattle.std.proofs.Common.{◌≡◌, ◌++◌, length, map}
+use denote.Text.{Utf8}
+use denote.Shadow.{shadow}
+use Rattle.std.specs.List.{flat_map}
+use Rattle.std.specs.Str.{chars}
+use Rattle.snap_store.specs.FileSplit.{pieces, line_of, lines_text}
+use Rattle.snap_store.proofs.Pieces.{behind_break}
+use Rattle.snap_store.proofs.split.body_text.Given as goal
+
+-- the lines so far, and those that are left, each behind a line's end
+abbrev pub invariant-loop-piece : goal.invariant-loop-piece
+invariant-loop-piece l = record {
+  utf8 : shadow (Utf8 l.rest);
+  so_far : l.body ++ flat_map behind_break (map line_of (pieces (chars l.rest))) ≡ lines_text (pieces (chars l.fn.text));
+}
+
+abbrev pub decreases-loop-piece : goal.decreases-loop-piece
+decreases-loop-piece l = length (chars l.rest)

@@ -1,0 +1,179 @@
+//! How a snapshot file falls into its header and its body.
+ghost use Rattle.std.specs.Prelude.{◌≡◌, ◌<◌, ℕ, List, [], ◌∷◌, ◌++◌, false, length, IfOk, IfSome, MatchOption, OnOk};
+ghost use Rattle.std.specs.List.{concat};
+ghost use Rattle.std.specs.Str.{chars};
+ghost use Rattle.snap_store.specs.FileSplit.{pieces, is_fence, line_of, lines_text, up_to_fence, past_fence, is_headed, IsSplit, FallsInto, file_text};
+ghost use Rattle.snap_content.specs.Lines.{lines_of, text_of, document_of};
+ghost use Rattle.snap_content.specs.Plain.{Plain};
+ghost use Rattle.snap_content.specs.Printed.{AreLines};
+
+use snap_content::characters::{is_same, split_first, split_last};
+use snap_content::{OutOfMemory, Text};
+use snap_text::lines::split_line;
+use snap_text::normal::trimmed_text;
+use std::alloc::Global;
+
+/// A headed file: its header with the lines' ends, and its body.
+#[derive(Debug, Drop)]
+pub struct Headed {
+    pub header: Text,
+    pub body: Text,
+}
+
+/// What stands before the rest of a text.
+fn before_rest<'a>(text: &'a str, rest: &str) -> &'a str
+    requires { (cs : List ℕ) × (chars text.now ≡ cs ++ chars rest.now) }
+    ensures { (cs : List ℕ) → chars text.now ≡ cs ++ chars rest.now → chars result.now ≡ cs }
+{
+    &text[..text.len() - rest.len()]
+}
+
+/// The first line with its end, and what follows; none where nothing is left.
+fn split_piece(text: &str) -> Option<(&str, &str)>
+    ensures piece { MatchOption result (chars text.now ≡ []) (λ p. pieces (chars text.now) ≡ chars p.0.now ∷ pieces (chars p.1.now)) }
+    ensures shorter { IfSome result (λ p. length (chars p.1.now) < length (chars text.now)) }
+{
+    split_first(text)?;
+    match split_line(text) {
+        None => Some((text, "")),
+        Some((_, more)) => Some((before_rest(text, more), more)),
+    }
+}
+
+/// Whether the line is `---` but for white space at its end.
+fn is_fence(piece: &str) -> bool
+    ensures { result ≡ is_fence (chars piece.now) }
+{
+    is_same(trimmed_text(piece), "---")
+}
+
+/// What stands before the character, where the text ends with it.
+fn before_character(text: &str, character: char) -> Option<&str>
+    ensures { MatchOption result ((cs : List ℕ) → chars text.now ≡ cs ++ character ∷ [] → ⊥) (λ front. chars text.now ≡ chars front.now ++ character ∷ []) }
+{
+    match split_last(text) {
+        Some((front, last)) if last == character => Some(front),
+        _ => None,
+    }
+}
+
+/// The line without its end.
+fn line_text(piece: &str) -> &str
+    ensures { chars result.now ≡ line_of (chars piece.now) }
+{
+    let Some(line) = before_character(piece, '\n') else {
+        return piece;
+    };
+    match before_character(line, '\r') {
+        None => line,
+        Some(shorter) => shorter,
+    }
+}
+
+/// Adds the lines up to the next fence, with their ends.
+fn push_header(alloc: Global, header: &mut Text, text: &str) -> Result<(), OutOfMemory>
+    ensures { OnOk result (header.new ≡ header.old ++ concat (up_to_fence (pieces (chars text.now)))) }
+{
+    let mut rest = text;
+    while let Some((piece, more)) = split_piece(rest) {
+        if is_fence(piece) {
+            return Ok(());
+        }
+        header.push_str(alloc, piece)?;
+        rest = more;
+    }
+    Ok(())
+}
+
+/// What stands behind the next fence.
+fn behind_fence(text: &str) -> &str
+    ensures { pieces (chars result.now) ≡ past_fence (pieces (chars text.now)) }
+{
+    let mut rest = text;
+    while let Some((piece, more)) = split_piece(rest) {
+        rest = more;
+        if is_fence(piece) {
+            return rest;
+        }
+    }
+    rest
+}
+
+/// The lines of the text, joined.
+fn body_text(alloc: Global, text: &str) -> Result<Text, OutOfMemory>
+    ensures { IfOk result (λ body. body ≡ lines_text (pieces (chars text.now))) }
+{
+    let mut body = Text::empty();
+    let Some((first, others)) = split_piece(text) else {
+        return Ok(body);
+    };
+    body.push_str(alloc, line_text(first))?;
+    let mut rest = others;
+    while let Some((piece, more)) = split_piece(rest) {
+        body.push(alloc, '\n')?;
+        body.push_str(alloc, line_text(piece))?;
+        rest = more;
+    }
+    Ok(body)
+}
+
+/// The header and the body; none where the first line is no `---`.
+pub fn split_file(alloc: Global, text: &str) -> Result<Option<Headed>, OutOfMemory>
+    ensures { IfOk result (λ found. MatchOption found (is_headed (chars text.now) ≡ false)
+        (λ headed. IsSplit (chars text.now) headed.header headed.body)) }
+{
+    let Some((first, rest)) = split_piece(text) else {
+        return Ok(None);
+    };
+    if !is_fence(first) {
+        return Ok(None);
+    }
+    let mut header = Text::from_str(alloc, first)?;
+    push_header(alloc, &mut header, rest)?;
+    let body = body_text(alloc, behind_fence(rest))?;
+    Ok(Some(Headed { header, body }))
+}
+
+/// A file of a printed header and a printed body falls into both again.
+pub const fn printed_files_split()
+    ensures { (header body : Plain) → AreLines (lines_of header) → AreLines (lines_of body)
+        → FallsInto (file_text header body) (document_of header) (text_of body) }
+{}
+
+#[cfg(test)]
+mod tests {
+    use super::*;
+    use std::test::Fail;
+
+    #[test]
+    fn headed_files(rt: HostRuntime) -> Result<(), Fail> {
+        let alloc = rt.alloc();
+        for (text, header, body) in [
+            ("---\na: 1\n---\nx\n", "---\na: 1\n", "x"),
+            ("---\na: 1\nx\n", "---\na: 1\nx\n", ""),
+            ("--- \na: 1\n---\t\nx", "--- \na: 1\n", "x"),
+            ("---\na: 1\n---\nx\n---\ny\n", "---\na: 1\n", "x\n---\ny"),
+            (
+                "---\r\na: 1\r\n---\r\nx\r\n\r\ny\r",
+                "---\r\na: 1\r\n",
+                "x\n\ny\r",
+            ),
+            ("---", "---", ""),
+            ("---\n---\n\nx\n\n", "---\n", "\nx\n"),
+        ] {
+            let found = split_file(alloc, text)?.ok_or("headed")?;
+            assert_eq!(rt; found.header.as_str(), header);
+            assert_eq!(rt; found.body.as_str(), body);
+        }
+        Ok(())
+    }
+
+    #[test]
+    fn other_files(rt: HostRuntime) -> Result<(), Fail> {
+        let alloc = rt.alloc();
+        for text in ["", "\n---\n", "----\n", " ---\n", "a\n---\n"] {
+            assert!(rt; split_file(alloc, text)?.is_none());
+        }
+        Ok(())
+    }
+}
