@@ -1,11 +1,7 @@
 -- What one document leaves.
 use Rattle.std.proofs.Common.{◌≡◌, ℕ, List, [], ◌∷◌, ◌++◌, Bool, true, false, cond, Option, None, Some, refl, sym, ap, ◌∙◌, subst}
 use Rattle.snap_outside.specs.Files.{Files, SameOutside}
-use Rattle.snap_content.specs.Plain as p
-use Rattle.snap_content.specs.Plain.{Plain, dict, Entries}
-use Rattle.snap_store.specs.Fields.{last_value, text_value, line_value}
-use Rattle.snap_assert.specs.Place.{names_file}
-use Rattle.snap_assert.specs.Requests.{RequestView, Spells, ReadsAs, needed, request_from, request_in, is_keyed}
+use Rattle.snap_assert.specs.Requests.{RequestView}
 use Rattle.snap_assert.specs.Answers.{RunWords, Answer, asked_by, step_of}
 use Rattle.snap_assert.specs.Outcomes.{OnlyNear}
 use Rattle.snap_assert.specs.Runs.{AssertionStops, StopsAt, SomewhereNear, FileFails}
@@ -28,11 +24,3 @@ stepped_near words answer f g stands = record {
   path = (asked_by words.workspace answer.request).path;
   others = λ m told. step_near words.update words.force_update (asked_by words.workspace answer.request) answer.passed m g (stands m told);
 }
-
--- the file of a request is the path of a file
-file_chosen : (b : Bool) (r s : RequestView) → cond b (Some r) None ≡ Some s → names_file r.file ≡ b → names_file s.file ≡ true
-file_chosen true r s e h = let same : r ≡ s = cc in ap (λ x. names_file x.file) (sym same) ∙ h
-file_chosen false r s e h = absurd (cc)
-
-pub file_named : (tree : Plain) (r : RequestView) → request_in tree ≡ Some r → names_file r.file ≡ true
-file_named tree r e = ?

@@ -11,3 +11,6 @@ mod Running
 mod Statuses
 mod Completeness
 mod Documents
+mod Looking
+mod Settling
+mod Requesting

@@ -9,7 +9,7 @@ use Rattle.snap_store.specs.FileSplit.{body_of}
 use Rattle.snap_store.specs.Image.{file_of}
 use Rattle.snap_store.specs.Reading.{IsTextFile, HasHeader}
 use Rattle.snap_assert.specs.Judging.{BodyAgrees, HasCanonicalHeader, IsSavedFor}
-use Rattle.snap_assert.proofs.Below.{normal-text_of, headed-file_of, header-file_of, body-file_of, normal-ended}
+use Rattle.snap_assert.proofs.Below.{normal-text_of, splits-file_of, normal-ended}
 use Rattle.snap_assert.proofs.Readings.{one_text}
 
 -- two printed trees with one normal form are one tree
@@ -21,7 +21,7 @@ normals_same a b h k e =
 body_normal : (file : Option (List ℕ)) (q : Plain) (s : IsSavedFor file q) → normal (body_of (file_of (dict s.entries) q)) ≡ normal (text_of q)
 body_normal file q s =
     let d = dict s.entries in
-    sym (normal-ended (body_of (file_of d q))) ∙ ap normal (body-file_of d q s.header.within s.readable.within)
+    sym (normal-ended (body_of (file_of d q))) ∙ ap normal (splits-file_of d q s.header.within s.readable.within).body_is
 
 pub saved_header : (file : Option (List ℕ)) (q : Plain) → IsSavedFor file q → HasCanonicalHeader file
 saved_header file q s = record {
@@ -29,9 +29,9 @@ saved_header file q s = record {
   there = s.there;
   entries = s.entries;
   header = record {
-    headed = headed-file_of (dict s.entries) q s.header.within s.readable.within;
+    headed = (splits-file_of (dict s.entries) q s.header.within s.readable.within).headed;
     readable = s.header;
-    header = header-file_of (dict s.entries) q s.header.within s.readable.within;
+    header = (splits-file_of (dict s.entries) q s.header.within s.readable.within).header_is;
   };
   not_binary = s.not_binary;
 }

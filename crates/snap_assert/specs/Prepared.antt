@@ -1,7 +1,8 @@
 -- What is ready before anything is looked at, and what was seen.
 use Rattle.std.specs.Prelude.{◌≡◌, ℕ, List, [], ◌∷◌, false, Some, Result, Ok, Err}
 use Rattle.std.specs.FinMap.{get}
-use Rattle.snap_content.specs.Lines.{text_of}
+use Rattle.snap_content.specs.Lines.{text_of, lines_of}
+use Rattle.snap_content.specs.Printed.{AreLines}
 use Rattle.snap_outside.specs.Files.{Files}
 use Rattle.snap_store.specs.Views.{meta_in, contents_in, text_in}
 use Rattle.snap_assert.specs.Steps.{Asked, pending_path}
@@ -24,6 +25,7 @@ pub record IsPrepared (asked : Asked) (prepared : Prepared) : Type 0 where
   pub file_path : IsFilePath asked.path
   pub pending : prepared.pending ≡ pending_path asked.path
   pub printed : text_in (contents_in prepared.snapshot) ≡ Some (text_of asked.tree)
+  pub lines : AreLines (lines_of asked.tree)
   pub metadata : meta_in prepared.snapshot ≡ asked.meta
 
 -- whether it passes, and what is to be said of the file

@@ -38,3 +38,6 @@ pub use request::Request;
 pub use session::Session;
 pub use settings::Settings;
 pub use status::{RefusalKind, Status};
+
+#[cfg(test)]
+mod tests;

@@ -3,7 +3,8 @@ ghost use Rattle.std.specs.Prelude.{◌≡◌, ◌++◌, List, ℕ, Some, codes,
 ghost use Rattle.std.specs.Str.{chars};
 ghost use Rattle.snap_content.specs.Plain.{plain};
 ghost use Rattle.snap_content.specs.View.{tree};
-ghost use Rattle.snap_content.specs.Lines.{text_of};
+ghost use Rattle.snap_content.specs.Lines.{text_of, lines_of};
+ghost use Rattle.snap_content.specs.Printed.{AreLines};
 ghost use Rattle.snap_assert.specs.Settings.{settings_of};
 ghost use Rattle.snap_assert.specs.Place.{place_of};
 ghost use Rattle.snap_store.specs.Views.{meta_in, contents_in, text_in};
@@ -51,7 +52,8 @@ fn body_of_document(document: &str) -> &str
 
 /// The text of the tree, without the line `---`.
 fn printed(alloc: Global, content: &Content) -> Result<Text, OutOfMemory>
-    ensures { IfOk result (λ text. text ≡ text_of (plain (tree content.now))) }
+    ensures text { IfOk result (λ text. text ≡ text_of (plain (tree content.now))) }
+    ensures lines { IfOk result (λ text. AreLines (lines_of (plain (tree content.now)))) }
 {
     let document = yaml::to_string(alloc, content, false)?;
     Text::from_str(alloc, body_of_document(document.as_str()))
@@ -65,6 +67,7 @@ fn new_snapshot(
     content: &Content,
 ) -> Result<Snapshot, OutOfMemory>
     ensures printed { IfOk result (λ snapshot. text_in (contents_in snapshot) ≡ Some (text_of (plain (tree content.now)))) }
+    ensures lines { IfOk result (λ snapshot. AreLines (lines_of (plain (tree content.now)))) }
     ensures metadata { IfOk result (λ snapshot. meta_in snapshot ≡ new_meta (settings_of settings.now) (place_of place.now)) }
 {
     let text = printed(alloc, content)?;

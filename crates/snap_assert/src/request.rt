@@ -1,17 +1,17 @@
 //! A request: what a document of a stream asks for.
-ghost use Rattle.std.specs.Prelude.{◌≡◌, Option, List, ℕ, Some, None, IfOk, IsErrOf, IsTrue, option_map, option_copied, count_by};
+ghost use Rattle.std.specs.Prelude.{◌≡◌, List, ℕ, IfOk, IsErrOf, IsTrue, option_map, count_by, ◌≤◌, if◌then◌else◌};
 ghost use Rattle.std.specs.Str.{chars};
 ghost use Rattle.std.specs.Char.{is_ascii};
 ghost use Rattle.std.specs.List.{list_all};
-ghost use Rattle.snap_content.specs.Plain.{dict, Entries, Plain, content_of, pairs_made};
-ghost use Rattle.snap_content.specs.View.{tree, pair_trees};
-ghost use Rattle.snap_store.specs.Fields.{last_value, text_value, line_value};
+ghost use Rattle.snap_content.specs.Plain.{dict, Entries, pairs_made};
+ghost use Rattle.snap_content.specs.View.{pair_trees};
 ghost use Rattle.snap_assert.specs.Requests.{RequestView, Spells, ReadsAs, is_keyed, holds_key, request_keys, request_in};
 ghost use Rattle.snap_assert.specs.RequestOf.{request_of};
 
 use crate::file_path::is_file_path;
 use snap_content::{Content, Error, OutOfMemory, Text};
 use snap_emit::yaml;
+use snap_store::fields::{line_named, text_named, value_named};
 use std::alloc::Global;
 
 /// A tree that is to be asserted, with its name and its place.
@@ -43,33 +43,6 @@ impl From<OutOfMemory> for RequestError {
     }
 }
 
-/// The value of the last pair of this name.
-fn last_value_of<'a>(pairs: &'a [(Content, Content)], name: &str) -> Option<&'a Content>
-    requires { IsTrue (list_all is_ascii name.now) }
-    ensures { (entries : Entries) → pair_trees pairs.now ≡ pairs_made entries → option_map (λ found. tree found.now) result ≡ option_map content_of (last_value name.now entries) }
-{
-    None
-}
-
-fn text_of_value<'a>(value: Option<&'a Content>) -> Option<&'a Text>
-    ensures { (found : Option Plain) → option_map (λ held. tree held.now) value.entry ≡ option_map content_of found → option_copied result ≡ text_value found }
-{
-    match value {
-        Some(Content::String(text)) => Some(text),
-        _ => None,
-    }
-}
-
-/// A line's number, which is below 2^32.
-fn line_of_value(value: Option<&Content>) -> Option<u32>
-    ensures { (found : Option Plain) → option_map (λ held. tree held.now) value.entry ≡ option_map content_of found → result ≡ line_value found }
-{
-    match value {
-        Some(Content::I64(number)) => u32::try_from(*number).ok(),
-        _ => None,
-    }
-}
-
 /// The request that a map of these pairs is, if it is one.
 fn request_of_pairs(
     alloc: Global,
@@ -80,43 +53,55 @@ fn request_of_pairs(
     if !are_keyed(pairs) {
         return Ok(None);
     }
-    let Some(module_name) = text_of_value(last_value_of(pairs, "module")) else {
+    let Some(module_name) = text_named(pairs, "module") else {
         return Ok(None);
     };
-    let Some(file) = text_of_value(last_value_of(pairs, "file")) else {
+    let Some(file) = text_named(pairs, "file") else {
         return Ok(None);
     };
-    let Some(line) = line_of_value(last_value_of(pairs, "line")) else {
+    let Some(line) = line_named(pairs, "line") else {
         return Ok(None);
     };
-    let Some(name) = text_of_value(last_value_of(pairs, "name")) else {
+    let Some(name) = text_named(pairs, "name") else {
         return Ok(None);
     };
-    let Some(expr) = text_of_value(last_value_of(pairs, "expr")) else {
+    let Some(expr) = text_named(pairs, "expr") else {
         return Ok(None);
     };
-    let Some(value) = last_value_of(pairs, "value") else {
+    let Some(value) = value_named(pairs, "value") else {
         return Ok(None);
     };
-    if !is_file_path(file.as_str()) {
+    if !is_file_path(file) {
         return Ok(None);
     }
     Ok(Some(Request {
-        module_name: module_name.try_clone(alloc)?,
-        file: file.try_clone(alloc)?,
+        module_name: Text::from_str(alloc, module_name)?,
+        file: Text::from_str(alloc, file)?,
         line,
-        name: name.try_clone(alloc)?,
-        expr: expr.try_clone(alloc)?,
+        name: Text::from_str(alloc, name)?,
+        expr: Text::from_str(alloc, expr)?,
         value: value.try_clone(alloc)?,
     }))
+}
+
+/// One where the key is among the pairs, else none.
+fn count_of_key(pairs: &[(Content, Content)], name: &str) -> usize
+    requires { IsTrue (list_all is_ascii name.now) }
+    ensures count { (entries : Entries) → pair_trees pairs.now ≡ pairs_made entries → result ≡ (if holds_key entries name.now then 1 else 0) }
+    ensures small { result ≤ 1 }
+{
+    match value_named(pairs, name) {
+        Some(_) => 1,
+        None => 0,
+    }
 }
 
 /// How many keys of a request are among the pairs.
 fn held_keys(pairs: &[(Content, Content)]) -> usize
     ensures { (entries : Entries) → pair_trees pairs.now ≡ pairs_made entries → result ≡ count_by (holds_key entries) request_keys }
 {
-    let keys = ["module", "file", "line", "name", "expr", "value"];
-    keys.iter().filter(|key| last_value_of(pairs, key).is_some()).count()
+    let place = count_of_key(pairs, "module") + count_of_key(pairs, "file") + count_of_key(pairs, "line");
+    place + count_of_key(pairs, "name") + count_of_key(pairs, "expr") + count_of_key(pairs, "value")
 }
 
 /// Whether there are as many pairs as keys of a request among them.

@@ -1,7 +1,8 @@
 //! What an assertion leaves in the store.
-ghost use Rattle.std.specs.Prelude.{◌≡◌, false, Some, OnOk, OnErr};
+ghost use Rattle.std.specs.Prelude.{◌≡◌, false, Some, IsSome, OnOk, OnErr};
 ghost use Rattle.std.specs.FinMap.{remove};
 ghost use Rattle.snap_outside.specs.Files.{Files, SameBut, SameOutside};
+ghost use Rattle.snap_store.specs.Views.{contents_in, text_in};
 ghost use Rattle.snap_assert.specs.Outcomes.{AssertCause};
 ghost use Rattle.snap_assert.specs.Steps.{Asked, step, written, is_near};
 ghost use Rattle.snap_assert.specs.Prepared.{IsPrepared};
@@ -41,6 +42,7 @@ fn update<S: Store>(
     store: &mut S,
     prepared: &Prepared,
 ) -> Result<(), AssertError>
+    requires { IsSome (text_in (contents_in prepared.now.snapshot)) }
     ensures ok { OnOk result ((asked : Asked) (m : Files) → IsPrepared asked prepared.now → S.files store.old ≡ Some m → S.files store.new ≡ Some (written InPlace asked m)) }
     ensures err { OnErr result ((m : Files) → S.files store.old ≡ Some m → SameBut prepared.now.path m (S.files store.new)) }
     ensures cause { AssertCause (S.faults store.old) (S.faults store.new) result }
@@ -61,6 +63,7 @@ pub fn settle<S: Store>(
     passed: bool,
     strays: &[Text],
 ) -> Result<(), AssertError>
+    requires { IsSome (text_in (contents_in prepared.now.snapshot)) }
     ensures ok { OnOk result ((asked : Asked) (m : Files) → IsPrepared asked prepared.now → S.files store.old ≡ Some m → AreStrays asked.path m strays.now
         → S.files store.new ≡ Some (step InPlace false asked passed m)) }
     ensures err { OnErr result ((asked : Asked) (m : Files) → IsPrepared asked prepared.now → S.files store.old ≡ Some m → AreStrays asked.path m strays.now

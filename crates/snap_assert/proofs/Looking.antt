@@ -1,0 +1,91 @@
+-- What was seen of a file, and of what is asked.
+use Rattle.std.proofs.Common.{◌≡◌, ◌↔◌, IsTrue, ℕ, Bool, true, false, List, [], ◌∷◌, Option, None, Some, Result, Ok, Err, refl, sym, ap, ◌∙◌, subst, inl, inr}
+use Rattle.std.specs.Prelude.{IfOk}
+use Rattle.std.specs.FinMap.{get}
+use Rattle.snap_content.specs.Plain.{Plain}
+use Rattle.snap_content.specs.Lines.{text_of}
+use Rattle.snap_content.specs.declared.error.Error.{Error}
+use Rattle.snap_content.specs.declared.error.Error.TheVariants.{FailedParsingYaml, UnexpectedDataType, MissingField, FileIo, FloatText, JsonKey, NotText, NoFile, OutOfMemory}
+use Rattle.snap_outside.specs.Files.{Files}
+use Rattle.snap_store.specs.Agreement.{Agree}
+use Rattle.snap_store.specs.Reading.{IsReadAs, IsReadFrom, IsRefused}
+use Rattle.snap_store.specs.Views.{contents_in, text_in}
+use Rattle.snap_store.specs.declared.contents.SnapshotContents.{SnapshotContents}
+use Rattle.snap_store.specs.declared.snapshot.Snapshot.{Snapshot}
+use Rattle.snap_assert.specs.Judging.{May}
+use Rattle.snap_assert.specs.Steps.{Asked}
+use Rattle.snap_assert.specs.Outcomes.{AreWarnings, IsUnderstood, IsNotUnderstood, warnings_in}
+use Rattle.snap_assert.specs.Prepared.{IsPrepared, IsJudged, NoPass, RefusedEnd}
+use Rattle.snap_assert.specs.declared.error.AssertError.{AssertError}
+use Rattle.snap_assert.specs.declared.error.AssertError.TheVariants as stop
+use Rattle.snap_assert.specs.declared.look.Judged.{Judged}
+use Rattle.snap_assert.specs.declared.outcome.Warning.{Warning}
+use Rattle.snap_assert.specs.declared.outcome.Warning.TheVariants.{Unreadable}
+use Rattle.snap_assert.specs.declared.outcome.Warnings.{Warnings}
+use Rattle.snap_assert.specs.declared.prepare.Prepared.{Prepared}
+use Rattle.snap_assert.proofs.Judgements.{read_judged, refused_no_pass}
+
+understood : (file : Option (List ℕ)) (snapshot : Snapshot) → IsReadAs file snapshot → IsUnderstood file
+understood file snapshot r = record { whole = r.text; there = r.there; entries = r.entries; header = r.header; kind = r.kind; kind_is = r.kind_is }
+
+no_warning : (path : List ℕ) (file : Option (List ℕ)) (ws : List Warning) → ws ≡ [] → AreWarnings path file [] → AreWarnings path file ws
+no_warning path file ws none h = let P : List Warning → Type 0 = λ w. AreWarnings path file w in subst P (sym none) h
+
+one_warning : (path : List ℕ) (file : Option (List ℕ)) (ws : List Warning) (error : Error) → ws ≡ Unreadable error ∷ [] → IsNotUnderstood path file error → AreWarnings path file ws
+one_warning path file ws error one h = let P : List Warning → Type 0 = λ w. AreWarnings path file w in subst P (sym one) h
+
+-- a file that was read is judged by the comparison
+pub judge_read : (asked : Asked) (m : Files) (prepared : Prepared) (files : Option Files) (snapshot : Snapshot) (old new : SnapshotContents) (passed : Bool) (warnings : Warnings)
+    → IsPrepared asked prepared → files ≡ Some m → IsReadFrom prepared.path files (Ok snapshot) → old ≡ contents_in snapshot → new ≡ contents_in prepared.snapshot
+    → (IsTrue passed ↔ Agree old new) → warnings_in warnings ≡ [] → IsJudged asked m (record { passed = passed; warnings = warnings })
+judge_read asked m prepared files snapshot old new passed warnings p told r is_old is_new tells none =
+    let file : r.file ≡ get m asked.path = r.told m told ∙ ap (get m) p.path in
+    let May_at : Option (List ℕ) → Type 0 = λ f. May passed f asked.tree in
+    let Warned_at : Option (List ℕ) → Type 0 = λ f. AreWarnings asked.path f (warnings_in warnings) in
+    let Compared : SnapshotContents → Type 0 = λ c. IsTrue passed ↔ Agree c new in
+    let tells_old : IsTrue passed ↔ Agree (contents_in snapshot) new = subst Compared is_old tells in
+    record {
+      allowed = subst May_at file (read_judged r.file asked.tree snapshot new passed r.comes_to (record {
+        tells = tells_old;
+        printed_is = ap (λ c. text_in c) is_new ∙ p.printed;
+      }));
+      warned = subst Warned_at file (no_warning asked.path r.file (warnings_in warnings) none (inr (understood r.file snapshot r.comes_to)));
+    }
+
+not_passed : (asked : Asked) (m : Files) (file : Option (List ℕ)) (judged : Judged) → file ≡ get m asked.path → judged.passed ≡ false
+    → May false file asked.tree → AreWarnings asked.path file (warnings_in judged.warnings) → IsJudged asked m judged
+not_passed asked m file judged is none may warned =
+    let May_at : Option (List ℕ) → Type 0 = λ f. May judged.passed f asked.tree in
+    let Warned_at : Option (List ℕ) → Type 0 = λ f. AreWarnings asked.path f (warnings_in judged.warnings) in
+    let Passed_at : Bool → Type 0 = λ b. May b file asked.tree in
+    record { allowed = subst May_at is (subst Passed_at (sym none) may); warned = subst Warned_at is warned }
+
+by_error : (asked : Asked) (m : Files) (file : Option (List ℕ)) (error : Error) (result : Result Judged AssertError) → file ≡ get m asked.path → IsRefused asked.path file error
+    → RefusedEnd error result → IfOk result (λ judged. IsJudged asked m judged)
+by_error asked m file error (Err e) is h end = tt
+by_error asked m file (NoFile named) (Ok judged) is h end =
+    not_passed asked m file judged is end.0 (refused_no_pass asked.path file asked.tree (NoFile named) h (λ n e. cc) (λ e. cc))
+    (no_warning asked.path file (warnings_in judged.warnings) end.1 (inl h.1))
+by_error asked m file (FileIo named) (Ok judged) is h end = absurd (cc end)
+by_error asked m file OutOfMemory (Ok judged) is h end = absurd (cc end)
+by_error asked m file (NotText named) (Ok judged) is h end =
+    not_passed asked m file judged is end.0 (refused_no_pass asked.path file asked.tree (NotText named) h (λ n e. cc) (λ e. cc))
+    (one_warning asked.path file (warnings_in judged.warnings) (NotText named) end.1 h)
+by_error asked m file (FailedParsingYaml named) (Ok judged) is h end =
+    not_passed asked m file judged is end.0 (refused_no_pass asked.path file asked.tree (FailedParsingYaml named) h (λ n e. cc) (λ e. cc))
+    (one_warning asked.path file (warnings_in judged.warnings) (FailedParsingYaml named) end.1 h)
+by_error asked m file UnexpectedDataType (Ok judged) is h end =
+    not_passed asked m file judged is end.0 (refused_no_pass asked.path file asked.tree UnexpectedDataType h (λ n e. cc) (λ e. cc))
+    (one_warning asked.path file (warnings_in judged.warnings) UnexpectedDataType end.1 h)
+by_error asked m file MissingField (Ok judged) is h end =
+    not_passed asked m file judged is end.0 (refused_no_pass asked.path file asked.tree MissingField h (λ n e. cc) (λ e. cc))
+    (one_warning asked.path file (warnings_in judged.warnings) MissingField end.1 h)
+by_error asked m file (FloatText named) (Ok judged) is h end = absurd h
+by_error asked m file JsonKey (Ok judged) is h end = absurd h
+
+-- a file that is refused is no pass
+pub judge_refused : (asked : Asked) (m : Files) (prepared : Prepared) (files : Option Files) (error : Error) (result : Result Judged AssertError)
+    → IsPrepared asked prepared → files ≡ Some m → IsReadFrom prepared.path files (Err error) → RefusedEnd error result → IfOk result (λ judged. IsJudged asked m judged)
+judge_refused asked m prepared files error result p told r end =
+    let Refused_at : List ℕ → Type 0 = λ path. IsRefused path r.file error in
+    by_error asked m r.file error result (r.told m told ∙ ap (get m) p.path) (subst Refused_at p.path r.comes_to) end
