@@ -1,4 +1,4 @@
-//! A path in its components, and a path of components.
+//! A path in its components, and a path of components. The one error is want of memory.
 ghost use Rattle.std.specs.Prelude.{◌≡◌, [], ◌∷◌, ◌++◌, IfOk, OnOk};
 ghost use Rattle.std.specs.List.{filter, flat_map};
 ghost use Rattle.std.specs.Str.{chars};
@@ -9,7 +9,7 @@ use snap_content::{OutOfMemory, Text};
 use std::alloc::Global;
 
 /// Whether the text between two slashes is a component: neither empty nor a dot.
-pub fn names_something(part: &str) -> bool
+pub fn is_component(part: &str) -> bool
     ensures { result ≡ is_component (chars part.now) }
 {
     match split_first(part) {
@@ -22,7 +22,7 @@ pub fn names_something(part: &str) -> bool
 fn push_part(parts: &mut Vec<Text>, part: Text) -> Result<(), OutOfMemory>
     ensures { OnOk result (parts.new.items ≡ parts.old.items ++ filter is_component (part ∷ [])) }
 {
-    if names_something(part.as_str()) {
+    if is_component(part.as_str()) {
         parts.push(part)?;
     }
     Ok(())

@@ -6,7 +6,7 @@ ghost use Rattle.std.specs.Str.{chars};
 ghost use Rattle.snap_path.specs.Names.{cut_last, cut_of, stem_of, snapshot_name, module_name};
 ghost use Rattle.snap_path.specs.Paths.{name_of};
 
-use crate::components::names_something;
+use crate::components::is_component;
 use snap_content::characters::is_same;
 use snap_content::{OutOfMemory, Text};
 use std::alloc::Global;
@@ -28,16 +28,12 @@ pub fn path_name(path: &Text) -> Option<&str>
 {
     let mut rest = path.as_str();
     while let Some((front, part)) = cut_at_last(rest, "/") {
-        if names_something(part) {
+        if is_component(part) {
             return Some(part);
         }
         rest = front;
     }
-    if names_something(rest) {
-        Some(rest)
-    } else {
-        None
-    }
+    if is_component(rest) { Some(rest) } else { None }
 }
 
 /// The name without its last part behind a dot. A dot in front begins no such part.

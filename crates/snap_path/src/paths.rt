@@ -1,4 +1,5 @@
 //! Paths as texts. The paths that are made here are components with one slash between each two.
+//! The one error of these calls is want of memory.
 ghost use Rattle.std.specs.Prelude.{◌≡◌, IfOk};
 ghost use Rattle.snap_path.specs.Paths.{joined, parent_of, relative_from, front_of, apart};
 

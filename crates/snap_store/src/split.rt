@@ -117,7 +117,7 @@ fn body_text(alloc: Global, text: &str) -> Result<Text, OutOfMemory>
     Ok(body)
 }
 
-/// The header and the body; none where the first line is no `---`.
+/// The header and the body; none where the first line is no `---`. The one error is want of memory.
 pub fn split_file(alloc: Global, text: &str) -> Result<Option<Headed>, OutOfMemory>
     ensures { IfOk result (λ found. MatchOption found (is_headed (chars text.now) ≡ false)
         (λ headed. IsSplit (chars text.now) headed.header headed.body)) }

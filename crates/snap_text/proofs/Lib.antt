@@ -1,4 +1,5 @@
 mod LineTexts
 mod Returns
+mod Shown
 pub mod Trimming
 pub mod NormalForms

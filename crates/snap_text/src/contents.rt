@@ -1,4 +1,4 @@
-//! The text of a snapshot, with its kind.
+//! The text of a snapshot, with its kind. The one error of these calls is want of memory.
 ghost use Rattle.std.specs.Prelude.{◌≡◌, ◌↔◌, IsTrue, IfOk};
 ghost use Rattle.std.specs.Str.{chars};
 ghost use Rattle.snap_text.specs.Normal.{normal};
@@ -26,6 +26,7 @@ pub struct TextSnapshotContents {
 impl TextSnapshotContents {
     ghost use Rattle.snap_text.specs.Contents.{raw_of, kind_of};
 
+    /// The contents of a snapshot of this kind.
     pub fn new(contents: Text, kind: TextSnapshotKind) -> TextSnapshotContents
         ensures text { raw_of result ≡ contents }
         ensures kind { kind_of result ≡ kind }
@@ -36,6 +37,7 @@ impl TextSnapshotContents {
         }
     }
 
+    /// Where the text stands.
     pub fn kind(&self) -> TextSnapshotKind
         ensures { result ≡ kind_of self.now }
     {
@@ -56,6 +58,7 @@ impl TextSnapshotContents {
         normal_text(alloc, self.as_raw())
     }
 
+    /// A copy with the text as it was given.
     pub fn try_clone(&self, alloc: Global) -> Result<TextSnapshotContents, OutOfMemory>
         ensures text { IfOk result (λ copy. raw_of copy ≡ raw_of self.now) }
         ensures kind { IfOk result (λ copy. kind_of copy ≡ kind_of self.now) }
@@ -90,6 +93,12 @@ impl TextSnapshotContents {
 
 /// The normal form, written line by line.
 impl fmt::Display for TextSnapshotContents {
+    ghost use Rattle.std.specs.Prelude.{Some, encode_utf8_all};
+    ghost use Rattle.snap_text.specs.Normal.{normal};
+    ghost use Rattle.snap_text.specs.Contents.{raw_of};
+
+    ghost output = { λ contents. Some (encode_utf8_all (normal (raw_of contents))) };
+
     fn fmt<W: fmt::Write>(&self, f: &mut fmt::Formatter<W>) -> fmt::Result {
         let mut rest = trimmed_text(self.as_raw());
         while let Some((line, more)) = split_line(rest) {
