@@ -1,5 +1,5 @@
 -- The names behind the front that a folder's files share.
-use Rattle.std.proofs.Common.{◌≡◌, ◌≢◌, ◌==◌, ℕ, Bool, true, false, not, cond, ◌&&◌, ◌||◌, List, [], ◌∷◌, ◌++◌, length, Option, None, Some, refl, sym, ◌∙◌, ap, subst, eq-eqb, arith, append_assoc, append-nil}
+use Rattle.std.proofs.Common.{◌≡◌, ◌≢◌, ◌==◌, ℕ, Bool, true, false, not, cond, ◌&&◌, ◌||◌, List, [], ◌∷◌, ◌++◌, Option, None, Some, refl, sym, ◌∙◌, ap, subst, eq-eqb, arith, append_assoc, append-nil}
 use Rattle.std.proofs.lemmas.Bool.{eqb-true, false_from_ne_true}
 use Rattle.std.proofs.lemmas.Cmp.{nat_list_cmp_total, tied_itself}
 use Rattle.std.proofs.lemmas.List.Elements.{All-cons}
@@ -17,7 +17,7 @@ use Rattle.std.specs.Ordering.{nat_cmp}
 use Rattle.std.specs.declared.cmp.Ordering.TheVariants.{Less}
 use Rattle.std.specs.Cmp.Lexicographic.{slice_cmp}
 use Rattle.std.specs.FinMap.{get, from_entries}
-use Rattle.snap_path.specs.Paths.{is_component, joined, IsName, front_of}
+use Rattle.snap_path.specs.Paths.{is_component, IsName, front_of}
 use Rattle.snap_outside.specs.Listed.{AreNames}
 use Rattle.snap_outside.proofs.Entries.{get-entries}
 use Rattle.snap_outside.proofs.Joined.{has_slash, name_from_tests, tests_from_name, joined-name}

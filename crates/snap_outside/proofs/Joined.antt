@@ -1,11 +1,10 @@
 -- A name of one component, and its path in a folder.
-use Rattle.std.proofs.Common.{◌≡◌, ◌≢◌, ◌==◌, ℕ, Bool, true, false, not, cond, ◌&&◌, ◌||◌, List, [], ◌∷◌, ◌++◌, length, take, drop, refl, sym, ◌∙◌, ap, subst, append_assoc}
+use Rattle.std.proofs.Common.{◌≡◌, ◌≢◌, ◌==◌, ℕ, Bool, true, false, not, cond, ◌&&◌, ◌||◌, List, [], ◌∷◌, ◌++◌, length, drop, refl, sym, ◌∙◌, ap, subst, append_assoc}
 use Rattle.std.proofs.Math.Seq.{drop-append_seam}
 use Rattle.std.proofs.lemmas.Str.{chars-append, encodes-append, encodes-chars}
 use Rattle.std.specs.Prelude.{IsTrue, ◌↔◌}
 use Rattle.std.specs.List.{list_any, filter}
 use Rattle.std.specs.Str.{bytes_eq, chars, IsUtf8}
-use Rattle.snap_content.specs.Front.{begins}
 use Rattle.snap_path.specs.Paths.{attached, between_slashes, is_component, components, is_absolute, slashed, path_of_parts, joined, IsName, front_behind, front_of}
 use lib.Utf8.{encodes}
 
@@ -65,9 +64,9 @@ attached_free c (p ∷ ps) other f = (or_false (c == 47) (has_slash p) other f.0
 parts_free : (cs : List ℕ) → Free (between_slashes cs)
 parts_free [] = (refl, tt)
 parts_free (c ∷ cs) = elim (c == 47) as (λ b. (c == 47) ≡ b → Free (cond b ([] ∷ between_slashes cs) (attached c (between_slashes cs)))) [
-    | true ↦ λ t. (refl, parts_free cs)
-    | false ↦ λ t. attached_free c (between_slashes cs) t (parts_free cs)
-  ] refl
+  | true ↦ λ t. (refl, parts_free cs)
+  | false ↦ λ t. attached_free c (between_slashes cs) t (parts_free cs)
+] refl
 
 only_part : (ps : List (List ℕ)) (n : List ℕ) → Free ps → filter is_component ps ≡ n ∷ [] → (is_component n ≡ true) × (has_slash n ≡ false)
 only_part [] n f is = absurd (cc)

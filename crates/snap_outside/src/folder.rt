@@ -7,11 +7,10 @@ use crate::names::Names;
 use crate::outside::{Store, StoreError};
 use snap_content::{Blob, Text};
 use std::alloc::{AllocError, Allocator, Global};
-use std::fs;
 use std::fs::{DirEntry, Files, OpenFile};
-use std::io;
 use std::io::{ErrorKind, Read, Write};
 use std::rt::Runtime;
+use std::{fs, io};
 
 /// A longer file is a fault.
 const MAX_FILE: usize = 67_108_864;

@@ -1,15 +1,14 @@
 //! The forms in memory and the adapters, each once.
 use crate::{
-    Fault, FolderStore, MemorySink, MemorySource, MemoryStore, Names, Sink, Source, SteadySink,
+    Fault, FolderStore, MemorySink, MemorySource, MemoryStore, Sink, Source, SteadySink,
     SteadySource, SteadyStore, Store, StoreError, StreamSink, StreamSource,
 };
 use snap_content::{Blob, OutOfMemory, Text};
 use std::alloc::Global;
-use std::fs;
-use std::io;
 use std::io::{ErrorKind, Read, Write};
 use std::process::Abort;
 use std::test::Fail;
+use std::{fs, io};
 
 fn text(alloc: Global, value: &str) -> Result<Text, OutOfMemory> {
     Text::from_str(alloc, value)
@@ -19,11 +18,76 @@ fn blob(alloc: Global, value: &[u8]) -> Result<Blob, OutOfMemory> {
     Blob::from_slice(alloc, value)
 }
 
-fn assert_names(rt: &impl Abort, names: &Names, want: &[&str]) {
-    assert_eq!(rt; names.len(), want.len());
-    for (name, want) in names.as_slice().iter().zip(want) {
-        assert_eq!(rt; name.as_str(), *want);
+/// A call of a store.
+#[derive(Clone, Copy)]
+enum Call {
+    Read,
+    Write(&'static [u8]),
+    Remove,
+    List,
+}
+
+/// A path, the call there, and its answer in words: what was read, or the names with a blank behind each.
+type Step = (&'static str, Call, &'static str);
+
+fn after_read<S: Store>(alloc: Global, store: &mut S, path: &Text) -> Result<Text, OutOfMemory> {
+    match store.read(alloc, path) {
+        Ok(Some(bytes)) => text(alloc, str::from_utf8(bytes.as_slice()).unwrap_or("no text")),
+        Ok(None) => text(alloc, "nothing"),
+        Err(error) => after_error(alloc, error),
     }
+}
+
+fn after_list<S: Store>(alloc: Global, store: &mut S, folder: &Text) -> Result<Text, OutOfMemory> {
+    let names = match store.list(alloc, folder) {
+        Ok(names) => names,
+        Err(error) => return after_error(alloc, error),
+    };
+    let mut all = Text::empty();
+    for name in names.as_slice() {
+        all.push_str(alloc, name.as_str())?;
+        all.push(alloc, ' ')?;
+    }
+    Ok(all)
+}
+
+fn after_error(alloc: Global, error: StoreError) -> Result<Text, OutOfMemory> {
+    let words = format!(in alloc; "{error}")?;
+    text(alloc, words.as_str())
+}
+
+fn after_call<S: Store>(
+    alloc: Global,
+    store: &mut S,
+    path: &Text,
+    call: Call,
+) -> Result<Text, OutOfMemory> {
+    match call {
+        Call::Read => after_read(alloc, store, path),
+        Call::Write(bytes) => match store.write(path, bytes) {
+            Ok(()) => text(alloc, "written"),
+            Err(error) => after_error(alloc, error),
+        },
+        Call::Remove => match store.remove(path) {
+            Ok(true) => text(alloc, "removed"),
+            Ok(false) => text(alloc, "nothing"),
+            Err(error) => after_error(alloc, error),
+        },
+        Call::List => after_list(alloc, store, path),
+    }
+}
+
+fn assert_steps<S: Store>(
+    rt: &impl Abort,
+    alloc: Global,
+    store: &mut S,
+    steps: &[Step],
+) -> Result<(), OutOfMemory> {
+    for (path, call, want) in steps {
+        let answer = after_call(alloc, store, &text(alloc, path)?, *call)?;
+        assert_eq!(rt; answer.as_str(), *want, "at {path}");
+    }
+    Ok(())
 }
 
 #[test]
@@ -33,37 +97,48 @@ fn memory_store_fails_at_the_listed_calls(rt: HostRuntime) -> Result<(), Fail> {
     let mut store = MemoryStore::new(alloc);
     store.put(&path, b"one")?;
     store.fail_at(vec![in alloc; 1, 3, 5]?);
-    assert_eq!(rt; store.read(alloc, &path), Err(StoreError::Failed));
-    assert_eq!(rt; store.read(alloc, &path), Ok(Some(blob(alloc, b"one")?)));
-    assert_eq!(rt; store.write(&path, b"two"), Err(StoreError::Failed));
-    assert_eq!(rt; store.get(&path), Some(b"one".as_slice()));
-    assert_eq!(rt; store.write(&path, b"two"), Ok(()));
-    assert_eq!(rt; store.remove(&path), Err(StoreError::Failed));
-    assert_eq!(rt; store.len(), 1);
+    let steps = [
+        ("w/a", Call::Read, "Failed"),
+        ("w/a", Call::Read, "one"),
+        ("w/a", Call::Write(b"two"), "Failed"),
+        ("w/a", Call::Read, "one"),
+        ("w/a", Call::Remove, "Failed"),
+        ("w/a", Call::Write(b"two"), "written"),
+    ];
+    assert_steps(&rt, alloc, &mut store, &steps)?;
     assert_eq!(rt; store.get(&path), Some(b"two".as_slice()));
-    assert_eq!(rt; store.remove(&path), Ok(true));
-    assert_eq!(rt; store.remove(&path), Ok(false));
-    assert_eq!(rt; store.get(&path), None);
+    assert_eq!(rt; store.len(), 1);
+    let steps = [
+        ("w/a", Call::Remove, "removed"),
+        ("w/a", Call::Remove, "nothing"),
+        ("w/a", Call::Read, "nothing"),
+    ];
+    assert_steps(&rt, alloc, &mut store, &steps)?;
     Ok(())
 }
 
 #[test]
-fn memory_stores_list_a_folder(rt: HostRuntime) -> Result<(), Fail> {
+fn stores_list_a_folder(rt: HostRuntime) -> Result<(), Fail> {
     let alloc = rt.alloc();
+    let steps = [
+        ("w/b", Call::Write(b"1"), "written"),
+        ("w/a", Call::Write(b"2"), "written"),
+        ("w/s/c", Call::Write(b"3"), "written"),
+        ("e", Call::Write(b"4"), "written"),
+        ("wa/d", Call::Write(b"5"), "written"),
+        ("./w//", Call::List, "a b "),
+        ("", Call::List, "e "),
+        ("x", Call::List, ""),
+        ("w/b", Call::Remove, "removed"),
+        ("w", Call::List, "a "),
+    ];
     let mut memory = MemoryStore::new(alloc);
+    assert_steps(&rt, alloc, &mut memory, &steps)?;
     let mut steady = SteadyStore::new(alloc);
-    for path in ["w/b", "w/a", "w/s/c", "w", "wa/d", "e"] {
-        memory.put(&text(alloc, path)?, b"")?;
-        steady.put(&text(alloc, path)?, b"")?;
-    }
-    assert_eq!(rt; steady.len(), 6);
-    let folder = text(alloc, "./w//")?;
-    assert_names(&rt, &memory.list(alloc, &folder)?, &["a", "b"]);
-    assert_names(&rt, &steady.list(alloc, &folder)?, &["a", "b"]);
-    assert_names(&rt, &steady.list(alloc, &text(alloc, "")?)?, &["e", "w"]);
-    assert_names(&rt, &steady.list(alloc, &text(alloc, "x")?)?, &[]);
-    assert_eq!(rt; steady.remove(&text(alloc, "w/b")?), Ok(true));
-    assert_names(&rt, &steady.list(alloc, &folder)?, &["a"]);
+    assert_steps(&rt, alloc, &mut steady, &steps)?;
+    steady.put(&text(alloc, "w/c")?, b"6")?;
+    assert_eq!(rt; steady.get(&text(alloc, "w/c")?), Some(b"6".as_slice()));
+    assert_eq!(rt; steady.len(), 5);
     Ok(())
 }
 
@@ -83,13 +158,27 @@ fn read_all<S: Source>(alloc: Global, source: &mut S, reads: u8) -> Result<Vec<u
 #[test]
 fn sources_give_their_bytes_in_pieces(rt: HostRuntime) -> Result<(), Fail> {
     let alloc = rt.alloc();
-    for (piece, want) in [(0, b"a!bc".as_slice()), (1, b"a!bc"), (3, b"abc!def"), (7, b"abcd!efgh")] {
+    for (piece, want) in [
+        (0, b"a!bc".as_slice()),
+        (1, b"a!bc"),
+        (3, b"abc!def"),
+        (7, b"abcd!efgh"),
+    ] {
         let bytes = blob(alloc, b"abcdefgh")?;
         let mut source = MemorySource::new(bytes, piece);
         source.fail_at(vec![in alloc; 2]?);
-        assert!(rt; read_all(alloc, &mut source, 4)?.as_slice().starts_with(want), "at {piece}");
+        assert!(rt;
+            read_all(alloc, &mut source, 4)?
+                .as_slice()
+                .starts_with(want),
+            "at {piece}"
+        );
         let mut source = SteadySource::new(blob(alloc, b"abcdefgh")?, piece);
-        assert_eq!(rt; read_all(alloc, &mut source, 9)?.as_slice(), b"abcdefgh".as_slice(), "at {piece}");
+        assert_eq!(rt;
+            read_all(alloc, &mut source, 9)?.as_slice(),
+            b"abcdefgh".as_slice(),
+            "at {piece}"
+        );
     }
     Ok(())
 }
@@ -114,25 +203,25 @@ fn sinks_keep_what_is_written(rt: HostRuntime) -> Result<(), Fail> {
 fn folder_store_keeps_files(rt: HostRuntime) -> Result<(), Fail> {
     let alloc = rt.alloc();
     let _ = fs::remove_dir_all(&rt, "folder_store_test");
-    let folder = text(alloc, "folder_store_test/x")?;
-    let path = text(alloc, "folder_store_test/x/a")?;
-    let deeper = text(alloc, "folder_store_test/x/s/b")?;
     let mut store = FolderStore::new(rt.clone()?);
-    assert_names(&rt, &store.list(alloc, &folder)?, &[]);
-    assert_eq!(rt; store.read(alloc, &path), Ok(None));
-    assert_eq!(rt; store.write(&deeper, b"deep"), Ok(()));
-    assert_eq!(rt; store.write(&path, b"one"), Ok(()));
-    assert_eq!(rt; store.write(&path, b"two"), Ok(()));
-    assert_eq!(rt; store.read(alloc, &path), Ok(Some(blob(alloc, b"two")?)));
-    assert_names(&rt, &store.list(alloc, &folder)?, &["a"]);
-    assert_eq!(rt; store.remove(&path), Ok(true));
-    assert_eq!(rt; store.remove(&path), Ok(false));
-    // A folder in a file's place, and a file in a folder's.
-    assert_eq!(rt; store.read(alloc, &folder), Err(StoreError::Failed));
-    assert_eq!(rt; store.write(&folder, b""), Err(StoreError::Failed));
-    assert_eq!(rt; store.remove(&folder), Err(StoreError::Failed));
-    assert!(rt; store.list(alloc, &deeper).is_err());
-    assert_names(&rt, &store.list(alloc, &text(alloc, "folder_store_test")?)?, &[]);
+    let steps = [
+        ("folder_store_test/x", Call::List, ""),
+        ("folder_store_test/x/a", Call::Read, "nothing"),
+        ("folder_store_test/x/s/b", Call::Write(b"deep"), "written"),
+        ("folder_store_test/x/a", Call::Write(b"one"), "written"),
+        ("folder_store_test/x/a", Call::Write(b"two"), "written"),
+        ("folder_store_test/x/a", Call::Read, "two"),
+        ("folder_store_test/x", Call::List, "a "),
+        ("folder_store_test/x/a", Call::Remove, "removed"),
+        ("folder_store_test/x/a", Call::Remove, "nothing"),
+        // A folder in a file's place, and a file in a folder's.
+        ("folder_store_test/x", Call::Read, "Failed"),
+        ("folder_store_test/x", Call::Write(b"one"), "Failed"),
+        ("folder_store_test/x", Call::Remove, "Failed"),
+        ("folder_store_test/x/s/b", Call::List, "Failed"),
+        ("folder_store_test", Call::List, ""),
+    ];
+    assert_steps(&rt, alloc, &mut store, &steps)?;
     fs::remove_dir_all(&rt, "folder_store_test")?;
     Ok(())
 }
@@ -169,7 +258,11 @@ impl Write for Stubborn {
     }
 
     fn flush(&mut self) -> io::Result<()> {
-        if self.calls == 3 { Err(refused()) } else { Ok(()) }
+        if self.calls == 3 {
+            Err(refused())
+        } else {
+            Ok(())
+        }
     }
 }
 
@@ -177,9 +270,15 @@ impl Write for Stubborn {
 fn streams_answer_faults(rt: HostRuntime) -> Result<(), Fail> {
     let alloc = rt.alloc();
     let mut source = StreamSource::new(Stubborn { calls: 0 });
-    assert_eq!(rt; read_all(alloc, &mut source, 3)?.as_slice(), b"!abc".as_slice());
+    assert_eq!(rt;
+        read_all(alloc, &mut source, 3)?.as_slice(),
+        b"!abc".as_slice()
+    );
     let mut source = StreamSource::new(b"abcdef".as_slice());
-    assert_eq!(rt; read_all(alloc, &mut source, 3)?.as_slice(), b"abcdef".as_slice());
+    assert_eq!(rt;
+        read_all(alloc, &mut source, 3)?.as_slice(),
+        b"abcdef".as_slice()
+    );
     let mut sink = StreamSink::new(Stubborn { calls: 0 });
     for want in [Err(Fault), Err(Fault), Err(Fault), Ok(2)] {
         assert_eq!(rt; sink.write(b"ab"), want);
