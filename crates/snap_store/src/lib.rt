@@ -2,8 +2,10 @@
 #![tactic(auto)]
 
 pub mod contents;
+mod header;
 pub mod metadata;
 pub mod snapshot;
+mod split;
 
 pub use contents::SnapshotContents;
 pub use metadata::{MetaData, SnapshotKind};

@@ -30,13 +30,13 @@ impl SnapshotKind {
 /// What is known of a snapshot beside its contents.
 #[derive(Drop)]
 pub struct MetaData {
-    source: Option<Text>,
-    assertion_line: Option<u32>,
-    description: Option<Text>,
-    expression: Option<Text>,
-    info: Option<Content>,
-    input_file: Option<Text>,
-    kind: SnapshotKind,
+    pub(crate) source: Option<Text>,
+    pub(crate) assertion_line: Option<u32>,
+    pub(crate) description: Option<Text>,
+    pub(crate) expression: Option<Text>,
+    pub(crate) info: Option<Content>,
+    pub(crate) input_file: Option<Text>,
+    pub(crate) kind: SnapshotKind,
 }
 
 impl MetaData {
