@@ -1,6 +1,8 @@
 -- The tree of a header, as it is made and as it is read.
-use Rattle.std.specs.Prelude.{◌≡◌, ℕ, List, [], ◌∷◌, Option, None, Some, Result, Ok, Err}
+use Rattle.std.specs.Prelude.{◌≡◌, ℕ, Bool, false, List, [], ◌∷◌, Option, None, Some, Result, Ok, Err}
+use Rattle.std.specs.Str.{bytes_eq}
 use Rattle.snap_content.specs.Plain.{Plain, plain, dict, Entries, entry}
+use Rattle.snap_content.specs.Tree.{Tree, string}
 use Rattle.snap_content.specs.View.{tree}
 use Rattle.snap_content.specs.declared.content.Content.{Content}
 use Rattle.snap_content.specs.declared.error.Error.{Error}
@@ -14,6 +16,11 @@ use Rattle.snap_store.specs.declared.metadata.MetaData.{MetaData}
 abbrev pub in_front : List (Content × Content) → Entries → Entries
 in_front [] rest = rest
 in_front (p ∷ ps) rest = entry (plain (tree p.0)) (plain (tree p.1)) (in_front ps rest)
+
+-- a key is this name
+abbrev pub is_key : List ℕ → Tree → Bool
+is_key name (string key) = bytes_eq key name
+is_key name _ = false
 
 -- the metadata are the fields of the header
 pub record HasFields (header : Plain) (metadata : MetaData) : Type 0 where

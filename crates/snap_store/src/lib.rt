@@ -2,8 +2,12 @@
 #![tactic(auto)]
 
 pub mod contents;
+mod fields;
 mod header;
 pub mod metadata;
+mod names;
+pub mod reading;
+pub mod saving;
 pub mod snapshot;
 mod split;
 
