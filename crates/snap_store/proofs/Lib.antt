@@ -1,4 +1,6 @@
 pub mod Told
+pub mod Images
+pub mod Agreeing
 mod Headers
 mod Lookups
 mod Mapped

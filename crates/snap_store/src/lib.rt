@@ -4,12 +4,16 @@
 pub mod contents;
 mod fields;
 mod header;
+pub mod laws;
 pub mod metadata;
 mod names;
-pub mod reading;
-pub mod saving;
+mod reading;
+mod saving;
 pub mod snapshot;
 mod split;
+
+#[cfg(test)]
+mod tests;
 
 pub use contents::SnapshotContents;
 pub use metadata::{MetaData, SnapshotKind};

@@ -7,7 +7,7 @@ use snap_content::{Content, OutOfMemory, Text};
 use std::alloc::Global;
 
 /// What a snapshot's contents are.
-#[derive(Debug, Drop)]
+#[derive(Debug, PartialEq, Eq, Drop)]
 pub enum SnapshotKind {
     Text,
     Binary { extension: Text },
