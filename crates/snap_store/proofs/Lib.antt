@@ -3,3 +3,10 @@ mod Pieces
 mod LineEnds
 pub mod Splitting
 pub mod Told
+pub mod Images
+pub mod Agreeing
+mod Headers
+mod Lookups
+mod Mapped
+mod Outcomes
+mod Written

@@ -2,7 +2,8 @@
 use Rattle.std.proofs.Common.{◌≡◌, ℕ, List, [], ◌∷◌, ◌++◌, Bool, true, false, ◌||◌, cond, map, refl, sym, ap, ◌∙◌, append_assoc, append-nil}
 use Rattle.std.specs.List.{list_any, flat_map}
 use Rattle.snap_text.specs.Lines.{is_line_end, IsUnbroken, IsLineThen}
-use Rattle.snap_store.specs.FileSplit.{attached, pieces, line_of, joined_lines, lines_text}
+use Rattle.snap_path.specs.Paths.{attached}
+use Rattle.snap_store.specs.FileSplit.{pieces, line_of, joined_lines, lines_text}
 
 or_left : (a b : Bool) → (a || b) ≡ false → a ≡ false
 or_left true b h = h

@@ -5,12 +5,8 @@ use Rattle.std.specs.List.{concat}
 use Rattle.std.specs.Str.{bytes_eq}
 use Rattle.snap_content.specs.Lines.{document_of, text_of}
 use Rattle.snap_content.specs.Plain.{Plain}
+use Rattle.snap_path.specs.Paths.{attached}
 use Rattle.snap_text.specs.Normal.{trimmed}
-
--- the character in front of the first of the texts
-abbrev pub attached : ℕ → List (List ℕ) → List (List ℕ)
-attached c [] = (c ∷ []) ∷ []
-attached c (d ∷ ds) = (c ∷ d) ∷ ds
 
 -- the text, cut behind each line's end
 abbrev pub pieces : List ℕ → List (List ℕ)
@@ -72,12 +68,6 @@ header_of text = header_text (pieces text)
 -- of a headed text: the lines behind the header's end
 abbrev pub body_of : List ℕ → List ℕ
 body_of text = lines_text (past_fence (drop 1 (pieces text)))
-
--- the text is headed, and these are its header and its body
-pub record IsSplit (text header body : List ℕ) : Type 0 where
-  pub headed : is_headed text ≡ true
-  pub header_is : header ≡ header_of text
-  pub body_is : body ≡ body_of text
 
 -- the text is headed, and falls into this header and this body but for the body's last line's end
 pub record FallsInto (text header body : List ℕ) : Type 0 where

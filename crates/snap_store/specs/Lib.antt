@@ -1,7 +1,9 @@
 pub mod FileSplit
+pub mod Split
 pub mod Meta
 pub mod Fields
 pub mod Views
+pub mod Header
 pub mod Agreement
 pub mod Image
 pub mod Reading

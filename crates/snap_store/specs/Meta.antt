@@ -1,5 +1,5 @@
 -- The metadata of a snapshot, and the tree that they are written as.
-use Rattle.std.specs.Prelude.{ℕ, ℤ, pos, List, Option, None, Some, option_map, codes}
+use Rattle.std.specs.Prelude.{ℕ, ℤ, pos, List, [], ◌∷◌, Option, None, Some, option_map, codes}
 use Rattle.snap_content.specs.Plain.{Plain, plain, text, int, dict, Entries, entry, no_entries}
 use Rattle.snap_content.specs.Tree.{Tree}
 use Rattle.snap_content.specs.View.{tree}
@@ -17,6 +17,12 @@ pub record Meta : Type 0 where
 
 abbrev pub empty_meta : Meta
 empty_meta = record { source = None; assertion_line = None; description = None; expression = None; info = None; input_file = None; kind = Text }
+
+-- an empty text is not shown
+abbrev pub shown_text : Option (List ℕ) → Option (List ℕ)
+shown_text None = None
+shown_text (Some []) = None
+shown_text (Some (c ∷ cs)) = Some (c ∷ cs)
 
 -- what is written into the file of an approved snapshot
 abbrev pub without_line : Meta → Meta

@@ -1,6 +1,5 @@
 //! The contents of a snapshot.
-ghost use Rattle.std.specs.Prelude.{◌≡◌, ◌↔◌, IsTrue, IfOk, Some};
-ghost use Rattle.snap_text.specs.Contents.{raw_of};
+ghost use Rattle.std.specs.Prelude.{◌≡◌, ◌↔◌, IsTrue, IfOk, MatchOption};
 
 use snap_content::{Blob, OutOfMemory};
 use snap_text::TextSnapshotContents;
@@ -23,11 +22,47 @@ impl SnapshotContents {
         SnapshotContents::Text(value)
     }
 
+    /// Whether the contents are a payload, which may be absent.
+    pub fn is_binary(&self) -> bool
+        ensures { IsTrue result ↔ (text_in self.now ≡ None) }
+    {
+        matches!(self, SnapshotContents::Binary(_))
+    }
+
+    /// The text, where the contents are one.
+    pub fn as_text(&self) -> Option<&TextSnapshotContents>
+        ensures { MatchOption result (text_in self.now ≡ None) (λ text. self.now ≡ SnapshotContents.Text text.now) }
+    {
+        match self {
+            SnapshotContents::Text(text) => Some(text),
+            SnapshotContents::Binary(_) => None,
+        }
+    }
+
+    /// Equal contents.
+    pub fn try_clone(&self, alloc: Global) -> Result<SnapshotContents, OutOfMemory>
+        ensures { IfOk result (λ copy. copy ≡ self.now) }
+    {
+        match self {
+            SnapshotContents::Text(text) => Ok(SnapshotContents::Text(text.try_clone(alloc)?)),
+            SnapshotContents::Binary(None) => Ok(SnapshotContents::Binary(None)),
+            SnapshotContents::Binary(Some(payload)) => {
+                Ok(SnapshotContents::Binary(Some(payload.try_clone(alloc)?)))
+            }
+        }
+    }
+
     /// Whether both agree: two texts by their normal forms, two payloads where they are equal or
     /// both absent. A text and a payload never do.
     pub fn agrees(&self, alloc: Global, other: &SnapshotContents) -> Result<bool, OutOfMemory>
         ensures { IfOk result (λ same. IsTrue same ↔ Agree self.now other.now) }
     {
-        Err(OutOfMemory)
+        match (self, other) {
+            (SnapshotContents::Text(left), SnapshotContents::Text(right)) => {
+                left.matches_latest(alloc, right)
+            }
+            (SnapshotContents::Binary(left), SnapshotContents::Binary(right)) => Ok(left == right),
+            _ => Ok(false),
+        }
     }
 }

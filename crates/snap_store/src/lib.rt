@@ -1,13 +1,22 @@
-//! Snapshots and their files: metadata, contents, reading and saving.
+//! Snapshots and their files, in the order in which a file is read: it is split into header and body, the header's
+//! fields are read as metadata, and both make a snapshot; a snapshot is saved the other way round.
 #![tactic(auto)]
 
 pub mod contents;
+pub mod fields;
+mod header;
+pub mod laws;
 pub mod metadata;
+mod reading;
+mod saving;
 pub mod snapshot;
 pub mod split;
+
+#[cfg(test)]
+mod tests;
 
 pub use contents::SnapshotContents;
 pub use metadata::{MetaData, SnapshotKind};
 pub use snap_outside::{Fault, Names, Sink, Source, Store, StoreError};
-pub use snap_path::{path_join, path_parent, path_relative_from};
+pub use snap_path::{names_of_path, path_join, path_name, path_parent, path_relative_from};
 pub use snapshot::Snapshot;

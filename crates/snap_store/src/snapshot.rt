@@ -1,14 +1,11 @@
-//! A snapshot, and its file.
-ghost use Rattle.std.specs.Prelude.{◌≡◌, List, ℕ, Some, IsSome, IfOk, OnOk, OnErr, encode_utf8_all};
-ghost use Rattle.std.specs.FinMap.{insert};
-ghost use Rattle.snap_outside.specs.Files.{Files, SameBut};
-ghost use Rattle.snap_store.specs.Causes.{FileCause};
-ghost use Rattle.snap_store.specs.Image.{saved_text};
+//! A snapshot.
+ghost use Rattle.std.specs.Prelude.{◌≡◌, false, IfOk, MatchOption, option_map};
+ghost use Rattle.std.specs.Str.{chars};
 
 use crate::contents::SnapshotContents;
-use crate::metadata::MetaData;
-use snap_content::{Error, Text};
-use snap_outside::Store;
+use crate::metadata::{MetaData, clone_text};
+use snap_content::{OutOfMemory, Text};
+use snap_text::TextSnapshotContents;
 use std::alloc::Global;
 
 /// A snapshot: its names, its metadata and its contents.
@@ -22,7 +19,6 @@ pub struct Snapshot {
 
 impl Snapshot {
     ghost use Rattle.snap_store.specs.Views.{meta_of, module_in, name_in, meta_in, contents_in, text_in};
-    ghost use Rattle.snap_store.specs.Reading.{IsReadFrom, SaveEnd};
 
     pub fn from_components(
         module_name: Text,
@@ -43,35 +39,64 @@ impl Snapshot {
         }
     }
 
+    /// The module of the assertion.
+    pub fn module_name(&self) -> &str
+        ensures { chars result.now ≡ module_in self.now }
+    {
+        self.module_name.as_str()
+    }
+
+    pub fn snapshot_name(&self) -> Option<&str>
+        ensures { option_map (λ text. chars text.now) result ≡ name_in self.now }
+    {
+        self.snapshot_name.as_ref().map(|text| text.as_str())
+    }
+
+    pub fn metadata(&self) -> &MetaData
+        ensures { meta_of result.now ≡ meta_in self.now }
+    {
+        &self.metadata
+    }
+
     pub fn contents(&self) -> &SnapshotContents
         ensures { result.now ≡ contents_in self.now }
     {
         &self.contents
     }
 
-    /// The snapshot that the file at the path holds. The store is not changed.
-    pub fn from_file<S: Store>(
-        alloc: Global,
-        store: &mut S,
-        path: &Text,
-    ) -> Result<Snapshot, Error>
-        ensures end { IsReadFrom path.now (S.files store.old) result }
-        ensures same { S.files store.new ≡ S.files store.old }
-        ensures cause { FileCause (S.faults store.old) (S.faults store.new) result }
+    /// The text, where the contents are one.
+    pub fn as_text(&self) -> Option<&TextSnapshotContents>
+        ensures { MatchOption result (text_in (contents_in self.now) ≡ None) (λ text. contents_in self.now ≡ SnapshotContents.Text text.now) }
     {
-        Err(Error::OutOfMemory)
+        self.contents.as_text()
     }
 
-    /// Writes the snapshot to the file at the path, without the line of its assertion.
-    /// After an error only that file is unknown. Payloads are not built yet, so the contents are a text.
-    pub fn save<S: Store>(&self, alloc: Global, store: &mut S, path: &Text) -> Result<(), Error>
-        requires { IsSome (text_in (contents_in self.now)) }
-        ensures written { OnOk result ((m : Files) (raw : List ℕ) → S.files store.old ≡ Some m → text_in (contents_in self.now) ≡ Some raw
-            → S.files store.new ≡ Some (insert m path.now (encode_utf8_all (saved_text (meta_in self.now) raw)))) }
-        ensures unknown { OnErr result ((m : Files) → S.files store.old ≡ Some m → SameBut path.now m (S.files store.new)) }
-        ensures error { SaveEnd path.now result }
-        ensures cause { FileCause (S.faults store.old) (S.faults store.new) result }
+    /// Whether the file had no header. Such files are not read yet.
+    pub fn was_legacy(&self) -> bool
+        ensures { result ≡ false }
     {
-        Err(Error::OutOfMemory)
+        false
+    }
+
+    /// Whether a number of the header was kept as a text. Such headers are not read yet.
+    pub fn has_number_text(&self) -> bool
+        ensures { result ≡ false }
+    {
+        false
+    }
+
+    /// An equal snapshot.
+    pub fn try_clone(&self, alloc: Global) -> Result<Snapshot, OutOfMemory>
+        ensures module { IfOk result (λ copy. module_in copy ≡ module_in self.now) }
+        ensures name { IfOk result (λ copy. name_in copy ≡ name_in self.now) }
+        ensures metadata { IfOk result (λ copy. meta_in copy ≡ meta_in self.now) }
+        ensures contents { IfOk result (λ copy. contents_in copy ≡ contents_in self.now) }
+    {
+        Ok(Snapshot {
+            module_name: self.module_name.try_clone(alloc)?,
+            snapshot_name: clone_text(alloc, &self.snapshot_name)?,
+            metadata: self.metadata.try_clone(alloc)?,
+            contents: self.contents.try_clone(alloc)?,
+        })
     }
 }

@@ -2,7 +2,8 @@
 ghost use Rattle.std.specs.Prelude.{◌≡◌, ◌<◌, ℕ, List, [], ◌∷◌, ◌++◌, false, length, IfOk, IfSome, MatchOption, OnOk};
 ghost use Rattle.std.specs.List.{concat};
 ghost use Rattle.std.specs.Str.{chars};
-ghost use Rattle.snap_store.specs.FileSplit.{pieces, is_fence, line_of, lines_text, up_to_fence, past_fence, is_headed, IsSplit, FallsInto, file_text};
+ghost use Rattle.snap_store.specs.FileSplit.{pieces, is_fence, line_of, lines_text, up_to_fence, past_fence, is_headed, FallsInto, file_text};
+ghost use Rattle.snap_store.specs.Split.{IsSplit};
 ghost use Rattle.snap_content.specs.Lines.{lines_of, text_of, document_of};
 ghost use Rattle.snap_content.specs.Plain.{Plain};
 ghost use Rattle.snap_content.specs.Printed.{AreLines};
@@ -120,7 +121,7 @@ fn body_text(alloc: Global, text: &str) -> Result<Text, OutOfMemory>
 /// The header and the body; none where the first line is no `---`. The one error is want of memory.
 pub fn split_file(alloc: Global, text: &str) -> Result<Option<Headed>, OutOfMemory>
     ensures { IfOk result (λ found. MatchOption found (is_headed (chars text.now) ≡ false)
-        (λ headed. IsSplit (chars text.now) headed.header headed.body)) }
+        (λ headed. IsSplit headed (chars text.now))) }
 {
     let Some((first, rest)) = split_piece(text) else {
         return Ok(None);

@@ -1,0 +1,15 @@
+-- Agreement is reflexive and symmetric.
+use Rattle.std.proofs.Common.{◌≡◌, refl, sym}
+use Rattle.snap_store.specs.Agreement.{Agree}
+use Rattle.snap_store.specs.declared.contents.SnapshotContents.{SnapshotContents}
+use Rattle.snap_store.specs.declared.contents.SnapshotContents.TheVariants.{Text, Binary}
+
+pub Agree-refl : (a : SnapshotContents) → Agree a a
+Agree-refl (Text a) = refl
+Agree-refl (Binary a) = refl
+
+pub Agree-sym : (a b : SnapshotContents) → Agree a b → Agree b a
+Agree-sym (Text a) (Text b) h = sym h
+Agree-sym (Text a) (Binary b) h = absurd h
+Agree-sym (Binary a) (Text b) h = absurd h
+Agree-sym (Binary a) (Binary b) h = sym h

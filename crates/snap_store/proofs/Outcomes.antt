@@ -1,0 +1,85 @@
+-- What reading a file comes to, exit by exit.
+use Rattle.std.proofs.Common.{◌≡◌, ℕ, List, Option, None, Some, Result, Ok, Err, true, refl, ap, sym, ◌∙◌, subst, IsErrAnd}
+use Rattle.snap_content.specs.Plain.{Plain, dict, Entries, content_of}
+use Rattle.snap_content.specs.View.{tree}
+use Rattle.snap_content.specs.declared.content.Content.{Content}
+use Rattle.snap_content.specs.declared.error.Error.{Error}
+use Rattle.snap_content.specs.declared.error.Error.TheVariants.{FailedParsingYaml, UnexpectedDataType, MissingField, FileIo, FloatText, JsonKey, NotText, NoFile, OutOfMemory}
+use Rattle.snap_emit.specs.Parsed.{IsReadFrom}
+use Rattle.snap_store.specs.Causes.{ErrorCause}
+use Rattle.snap_store.specs.FileSplit.{is_headed, header_of, body_of}
+use Rattle.snap_store.specs.Fields.{kind_in, fields}
+use Rattle.snap_store.specs.Header.{FieldsEnd, HasFields, HasNoExtension}
+use Rattle.snap_store.specs.Reading.{IsTextFile, HasHeader, HoldsBody, IsRefused, FileEnd, IsReadAs}
+use Rattle.snap_store.specs.Split.{IsSplit}
+use Rattle.snap_store.specs.Views.{meta_of, meta_in, contents_in}
+use Rattle.snap_store.specs.declared.contents.SnapshotContents.{SnapshotContents}
+use Rattle.snap_store.specs.declared.metadata.MetaData.{MetaData}
+use Rattle.snap_store.specs.declared.metadata.SnapshotKind.{SnapshotKind}
+use Rattle.snap_store.specs.declared.snapshot.Snapshot.{Snapshot}
+use Rattle.snap_store.specs.declared.split.Headed.{Headed}
+
+-- the header of the text is the plain form of this tree
+pub record HasTree (text : List ℕ) (made : Content) : Type 0 where
+  pub plain : Plain
+  pub tree_is : tree made ≡ content_of plain
+  pub header : HasHeader text plain
+
+pub header_read : (text shown : List ℕ) (headed : Headed) (made : Content) → IsSplit headed text → shown ≡ headed.header → IsReadFrom made shown → HasTree text made
+header_read text shown headed made split same read = record {
+  plain = read.plain;
+  tree_is = read.tree_is;
+  header = record { headed = split.headed_is; readable = read.readable; header = sym (same ∙ split.header_is) ∙ read.text_is }
+}
+
+other_header : (text : List ℕ) (file : Option (List ℕ)) (plain : Plain) (held : Entries) → HasHeader text plain → plain ≡ dict held → HasHeader text (dict held)
+other_header text file plain held has is = let P : Plain → Type 0 = λ t. HasHeader text t in subst P is has
+
+pub refused_fields : (text path : List ℕ) (file : Option (List ℕ)) (plain : Plain) (e : Error) → IsTextFile file text → HasHeader text plain
+    → FieldsEnd plain (Err e) → IsRefused path file e
+refused_fields text path file plain (FailedParsingYaml named) there has h = absurd h
+refused_fields text path file plain UnexpectedDataType there has h = record { text = text; there = there; tree = plain; header = has; other = h }
+refused_fields text path file plain MissingField there has h =
+    record { text = text; there = there; entries = h.entries; header = other_header text file plain h.entries has h.header_is; lacking = h.lacking }
+refused_fields text path file plain (FileIo named) there has h = absurd h
+refused_fields text path file plain (FloatText named) there has h = absurd h
+refused_fields text path file plain JsonKey there has h = absurd h
+refused_fields text path file plain (NotText named) there has h = absurd h
+refused_fields text path file plain (NoFile named) there has h = absurd h
+refused_fields text path file plain OutOfMemory there has h = tt
+
+pub fields_no_fault : (plain : Plain) (e : Error) (n : ℕ) → FieldsEnd plain (Err e) → ErrorCause n n e
+fields_no_fault plain (FailedParsingYaml named) n h = absurd h
+fields_no_fault plain UnexpectedDataType n h = refl
+fields_no_fault plain MissingField n h = refl
+fields_no_fault plain (FileIo named) n h = absurd h
+fields_no_fault plain (FloatText named) n h = absurd h
+fields_no_fault plain JsonKey n h = absurd h
+fields_no_fault plain (NotText named) n h = absurd h
+fields_no_fault plain (NoFile named) n h = absurd h
+fields_no_fault plain OutOfMemory n h = refl
+
+same_body : (kind k : SnapshotKind) (body b : List ℕ) (x y : SnapshotContents) → k ≡ kind → b ≡ body → x ≡ y → HoldsBody k b x → HoldsBody kind body y
+same_body kind k body b x y same_kind same_text same h =
+    let P : SnapshotKind → Type 0 = λ v. HoldsBody v body y in
+    let Q : List ℕ → Type 0 = λ v. HoldsBody k v y in
+    let R : SnapshotContents → Type 0 = λ v. HoldsBody k b v in
+    subst P same_kind (subst Q same_text (subst R same h))
+
+pub read_as : (text body : List ℕ) (file : Option (List ℕ)) (plain : Plain) (metadata : MetaData) (snapshot : Snapshot) (kind : SnapshotKind) (contents : SnapshotContents)
+    → IsTextFile file text → HasHeader text plain → HasFields plain metadata → kind ≡ (meta_of metadata).kind → body ≡ body_of text
+    → meta_in snapshot ≡ meta_of metadata → contents ≡ contents_in snapshot → HoldsBody kind body contents → IsReadAs file snapshot
+read_as text body file plain metadata snapshot kind contents there has read kind_is body_is metadata_is contents_are holds = record {
+  text = text;
+  there = there;
+  entries = read.entries;
+  header = other_header text file plain read.entries has read.header_is;
+  kind = read.kind;
+  kind_is = read.kind_is;
+  metadata = metadata_is ∙ read.fields_are;
+  contents = same_body read.kind kind (body_of text) body contents (contents_in snapshot) (kind_is ∙ ap (λ m. m.kind) read.fields_are) body_is contents_are holds
+}
+
+pub no_memory : (path : List ℕ) (file : Option (List ℕ)) (result : Result Snapshot Error) → IsErrAnd result (λ e. e ≡ OutOfMemory) → FileEnd path file result
+no_memory path file (Ok snapshot) is = absurd is
+no_memory path file (Err e) is = let P : Error → Type 0 = λ x. IsRefused path file x in subst P (sym is) tt

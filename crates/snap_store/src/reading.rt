@@ -1,0 +1,89 @@
+//! Reading the file of a snapshot.
+ghost use Rattle.std.specs.Prelude.{◌≡◌, ℕ, List, Option};
+ghost use Rattle.std.specs.Str.{chars};
+ghost use Rattle.snap_store.specs.Causes.{FileCause};
+ghost use Rattle.snap_store.specs.Reading.{IsTextFile, HoldsBody, FileEnd, IsReadFrom};
+
+use crate::contents::SnapshotContents;
+use crate::fields::metadata_in;
+use crate::metadata::{MetaData, SnapshotKind};
+use snap_path::names_of_path;
+use crate::snapshot::Snapshot;
+use crate::split::{Headed, split_file};
+use snap_content::{Blob, Error, Text};
+use snap_emit::yaml::parse_header;
+use snap_outside::{Store, StoreError};
+use snap_text::{TextSnapshotContents, TextSnapshotKind};
+use std::alloc::Global;
+use std::str;
+
+impl Snapshot {
+    /// The snapshot that the file at the path holds. The store is not changed.
+    pub fn from_file<S: Store>(
+        alloc: Global,
+        store: &mut S,
+        path: &Text,
+    ) -> Result<Snapshot, Error>
+        ensures end { IsReadFrom path.now (S.files store.old) result }
+        ensures same { S.files store.new ≡ S.files store.old }
+        ensures cause { FileCause (S.faults store.old) (S.faults store.new) result }
+    {
+        let named = path.try_clone(alloc)?;
+        match store.read(alloc, path) {
+            Ok(found) => snapshot_of_file(alloc, found, named),
+            Err(StoreError::Failed) => Err(Error::FileIo(named)),
+            Err(StoreError::OutOfMemory) => Err(Error::OutOfMemory),
+        }
+    }
+}
+
+/// The snapshot that the bytes of a file are, or why there is none.
+fn snapshot_of_file(alloc: Global, file: Option<Blob>, path: Text) -> Result<Snapshot, Error>
+    ensures end { FileEnd path file result }
+    ensures no_fault { (count : ℕ) → FileCause count count result }
+{
+    let Some(bytes) = file else {
+        return Err(Error::NoFile(path));
+    };
+    match str::from_utf8(bytes.as_slice()) {
+        Ok(text) => snapshot_of_text(alloc, text, path),
+        Err(_) => Err(Error::NotText(path)),
+    }
+}
+
+fn snapshot_of_text(alloc: Global, text: &str, path: Text) -> Result<Snapshot, Error>
+    ensures end { (file : Option (List ℕ)) → IsTextFile file (chars text.now) → FileEnd path file result }
+    ensures no_fault { (count : ℕ) → FileCause count count result }
+{
+    let Some(Headed { header, body }) = split_file(alloc, text)? else {
+        return Err(Error::FailedParsingYaml(path));
+    };
+    let header = match parse_header(alloc, header.as_str(), &path) {
+        Ok(header) => header,
+        Err(error) => return Err(error),
+    };
+    let metadata = match metadata_in(alloc, &header.content) {
+        Ok(metadata) => metadata,
+        Err(error) => return Err(error),
+    };
+    let contents = contents_of(metadata.kind(), body);
+    let (name, module) = names_of_path(alloc, &path)?;
+    Ok(Snapshot::from_components(
+        module,
+        Some(name),
+        metadata,
+        contents,
+    ))
+}
+
+/// A text with this body, or a payload that was not read.
+fn contents_of(kind: &SnapshotKind, body: Text) -> SnapshotContents
+    ensures { HoldsBody kind.now body result }
+{
+    match kind {
+        SnapshotKind::Text => {
+            SnapshotContents::Text(TextSnapshotContents::new(body, TextSnapshotKind::File))
+        }
+        SnapshotKind::Binary { .. } => SnapshotContents::Binary(None),
+    }
+}
