@@ -95,6 +95,7 @@ refused_no_pass path file tree MissingField h io memory =
   where
     dict_same : (a b : Entries) → dict a ≡ dict b → a ≡ b
     dict_same a b e = cc
+
     clash : (a b : Entries) → a ≡ b → kind_in a ≡ None → kind_in b ≡ Some kind.Text → ⊥
     clash a b same none some = let e = sym none ∙ ap kind_in same ∙ some in cc e
 refused_no_pass path file tree (FileIo named) h io memory = absurd (io named refl)

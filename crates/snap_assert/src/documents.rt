@@ -13,8 +13,8 @@ use crate::error::AssertError;
 use crate::outcome::{Outcome, Verdict};
 use crate::place::Place;
 use crate::request::{Request, RequestError, read_request};
-use crate::session::Session;
 use crate::runner::Runner;
+use crate::session::Session;
 use crate::streams::write_all;
 use snap_content::{OutOfMemory, Text};
 use snap_emit::spelled_text;
@@ -74,7 +74,14 @@ fn place_of_request(
     let Ok(expr) = request.expr.try_clone(alloc) else {
         return Err(DocumentError::OutOfMemory);
     };
-    match Place::new(workspace, Text::empty(), module_name, file, request.line, expr) {
+    match Place::new(
+        workspace,
+        Text::empty(),
+        module_name,
+        file,
+        request.line,
+        expr,
+    ) {
         Ok(place) => Ok(place),
         Err(_) => unreachable!(),
     }

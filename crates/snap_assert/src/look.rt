@@ -74,11 +74,7 @@ fn refused(alloc: Global, error: Error) -> Result<Judged, AssertError>
 }
 
 /// Reads the file of the snapshot and compares.
-fn judge<S: Store>(
-    alloc: Global,
-    store: &mut S,
-    prepared: &Prepared,
-) -> Result<Judged, AssertError>
+fn judge<S: Store>(alloc: Global, store: &mut S, prepared: &Prepared) -> Result<Judged, AssertError>
     ensures judged { IfOk result (λ judged. (asked : Asked) (m : Files) → IsPrepared asked prepared.now → S.files store.old ≡ Some m → IsJudged asked m judged) }
     ensures same { S.files store.new ≡ S.files store.old }
     ensures cause { AssertCause (S.faults store.old) (S.faults store.new) result }

@@ -100,7 +100,9 @@ fn count_of_key(pairs: &[(Content, Content)], name: &str) -> usize
 fn held_keys(pairs: &[(Content, Content)]) -> usize
     ensures { (entries : Entries) → pair_trees pairs.now ≡ pairs_made entries → result ≡ count_by (holds_key entries) request_keys }
 {
-    let place = count_of_key(pairs, "module") + count_of_key(pairs, "file") + count_of_key(pairs, "line");
+    let place = count_of_key(pairs, "module")
+        + count_of_key(pairs, "file")
+        + count_of_key(pairs, "line");
     place + count_of_key(pairs, "name") + count_of_key(pairs, "expr") + count_of_key(pairs, "value")
 }
 

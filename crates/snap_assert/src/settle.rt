@@ -17,11 +17,7 @@ use snap_outside::{Store, StoreError};
 use std::alloc::Global;
 
 /// Removes what waited for the tree that now passed.
-fn approve<S: Store>(
-    alloc: Global,
-    store: &mut S,
-    prepared: &Prepared,
-) -> Result<(), AssertError>
+fn approve<S: Store>(alloc: Global, store: &mut S, prepared: &Prepared) -> Result<(), AssertError>
     ensures ok { OnOk result ((m : Files) → S.files store.old ≡ Some m → S.files store.new ≡ Some (remove m prepared.now.pending)) }
     ensures err { OnErr result ((m : Files) → S.files store.old ≡ Some m → SameBut prepared.now.pending m (S.files store.new)) }
     ensures cause { AssertCause (S.faults store.old) (S.faults store.new) result }
@@ -37,11 +33,7 @@ fn approve<S: Store>(
 }
 
 /// Writes the tree that did not pass.
-fn update<S: Store>(
-    alloc: Global,
-    store: &mut S,
-    prepared: &Prepared,
-) -> Result<(), AssertError>
+fn update<S: Store>(alloc: Global, store: &mut S, prepared: &Prepared) -> Result<(), AssertError>
     requires { IsSome (text_in (contents_in prepared.now.snapshot)) }
     ensures ok { OnOk result ((asked : Asked) (m : Files) → IsPrepared asked prepared.now → S.files store.old ≡ Some m → S.files store.new ≡ Some (written InPlace asked m)) }
     ensures err { OnErr result ((m : Files) → S.files store.old ≡ Some m → SameBut prepared.now.path m (S.files store.new)) }

@@ -29,7 +29,7 @@ pub header_read : (text shown : List ℕ) (headed : Headed) (made : Content) →
 header_read text shown headed made split same read = record {
   plain = read.plain;
   tree_is = read.tree_is;
-  header = record { headed = split.headed_is; readable = read.readable; header = sym (same ∙ split.header_is) ∙ read.text_is }
+  header = record { headed = split.headed_is; readable = read.readable; header = sym (same ∙ split.header_is) ∙ read.text_is };
 }
 
 other_header : (text : List ℕ) (file : Option (List ℕ)) (plain : Plain) (held : Entries) → HasHeader text plain → plain ≡ dict held → HasHeader text (dict held)
@@ -77,7 +77,7 @@ read_as text body file plain metadata snapshot kind contents there has read kind
   kind = read.kind;
   kind_is = read.kind_is;
   metadata = metadata_is ∙ read.fields_are;
-  contents = same_body read.kind kind (body_of text) body contents (contents_in snapshot) (kind_is ∙ ap (λ m. m.kind) read.fields_are) body_is contents_are holds
+  contents = same_body read.kind kind (body_of text) body contents (contents_in snapshot) (kind_is ∙ ap (λ m. m.kind) read.fields_are) body_is contents_are holds;
 }
 
 pub no_memory : (path : List ℕ) (file : Option (List ℕ)) (result : Result Snapshot Error) → IsErrAnd result (λ e. e ≡ OutOfMemory) → FileEnd path file result

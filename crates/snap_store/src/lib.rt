@@ -11,7 +11,6 @@ mod reading;
 mod saving;
 pub mod snapshot;
 pub mod split;
-
 #[cfg(test)]
 mod tests;
 

@@ -7,23 +7,19 @@ ghost use Rattle.snap_store.specs.Reading.{IsTextFile, HoldsBody, FileEnd, IsRea
 use crate::contents::SnapshotContents;
 use crate::fields::metadata_in;
 use crate::metadata::{MetaData, SnapshotKind};
-use snap_path::names_of_path;
 use crate::snapshot::Snapshot;
 use crate::split::{Headed, split_file};
 use snap_content::{Blob, Error, Text};
 use snap_emit::yaml::parse_header;
 use snap_outside::{Store, StoreError};
+use snap_path::names_of_path;
 use snap_text::{TextSnapshotContents, TextSnapshotKind};
 use std::alloc::Global;
 use std::str;
 
 impl Snapshot {
     /// The snapshot that the file at the path holds. The store is not changed.
-    pub fn from_file<S: Store>(
-        alloc: Global,
-        store: &mut S,
-        path: &Text,
-    ) -> Result<Snapshot, Error>
+    pub fn from_file<S: Store>(alloc: Global, store: &mut S, path: &Text) -> Result<Snapshot, Error>
         ensures end { IsReadFrom path.now (S.files store.old) result }
         ensures same { S.files store.new ≡ S.files store.old }
         ensures cause { FileCause (S.faults store.old) (S.faults store.new) result }
@@ -68,12 +64,7 @@ fn snapshot_of_text(alloc: Global, text: &str, path: Text) -> Result<Snapshot, E
     };
     let contents = contents_of(metadata.kind(), body);
     let (name, module) = names_of_path(alloc, &path)?;
-    Ok(Snapshot::from_components(
-        module,
-        Some(name),
-        metadata,
-        contents,
-    ))
+    Ok(Snapshot::from_components(module, Some(name), metadata, contents))
 }
 
 /// A text with this body, or a payload that was not read.

@@ -6,10 +6,7 @@ use std::alloc::Global;
 
 fn text_contents(alloc: Global, text: &str) -> Result<SnapshotContents, OutOfMemory> {
     let text = Text::from_str(alloc, text)?;
-    Ok(SnapshotContents::from_text(TextSnapshotContents::new(
-        text,
-        TextSnapshotKind::File,
-    )))
+    Ok(SnapshotContents::from_text(TextSnapshotContents::new(text, TextSnapshotKind::File)))
 }
 
 fn described(alloc: Global) -> Result<MetaData, OutOfMemory> {
@@ -27,12 +24,7 @@ fn described(alloc: Global) -> Result<MetaData, OutOfMemory> {
 fn answer(alloc: Global) -> Result<Snapshot, OutOfMemory> {
     let name = Text::from_str(alloc, "answer")?;
     let contents = text_contents(alloc, "42\n")?;
-    Ok(Snapshot::from_components(
-        Text::empty(),
-        Some(name),
-        MetaData::empty(),
-        contents,
-    ))
+    Ok(Snapshot::from_components(Text::empty(), Some(name), MetaData::empty(), contents))
 }
 
 #[test]
@@ -71,6 +63,10 @@ fn copies_of_a_snapshot(rt: HostRuntime) {
 fn absent_payloads_agree(rt: HostRuntime) {
     let absent = SnapshotContents::Binary(None);
     let text = text_contents(rt.alloc(), "").expect(&rt, "memory");
-    assert!(rt; absent.agrees(rt.alloc(), &SnapshotContents::Binary(None)).expect(&rt, "memory"));
+    assert!(rt;
+        absent
+            .agrees(rt.alloc(), &SnapshotContents::Binary(None))
+            .expect(&rt, "memory")
+    );
     assert!(rt; !absent.agrees(rt.alloc(), &text).expect(&rt, "memory"));
 }

@@ -6,8 +6,8 @@ use Rattle.snap_store.proofs.fields.filled_named.Goals.{then-is_filled, else-is_
 pub loop-key-preserved : goal.loop-key-preserved
 loop-key-preserved c =
     elim c.if-is_filled.branch [
-    then-is_filled w ↦ rw w.found-is (new_found (filled c.args.name.now) _ _ c.loop-key-item.result c.loop-key-test.true c.loop-key-item.is (sym c.is_filled.ensures ∙ w.if-is_filled.true))
-    | else-is_filled w ↦ rw w.found-is (none_found (filled c.args.name.now) _ _ c.loop-key-item.result _ c.loop-key-test.true c.loop-key-item.is (sym c.is_filled.ensures ∙ w.if-is_filled.false) c.loop-key.invariant)
+      | then-is_filled w ↦ rw w.found-is (new_found (filled c.args.name.now) _ _ c.loop-key-item.result c.loop-key-test.true c.loop-key-item.is (sym c.is_filled.ensures ∙ w.if-is_filled.true))
+      | else-is_filled w ↦ rw w.found-is (none_found (filled c.args.name.now) _ _ c.loop-key-item.result _ c.loop-key-test.true c.loop-key-item.is (sym c.is_filled.ensures ∙ w.if-is_filled.false) c.loop-key.invariant)
     ]
 
 pub returns : goal.returns

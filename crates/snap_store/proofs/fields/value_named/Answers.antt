@@ -6,8 +6,8 @@ use Rattle.snap_store.proofs.fields.value_named.Goals.{then-is_named, else-is_na
 pub loop-key-preserved : goal.loop-key-preserved
 loop-key-preserved c =
     elim c.if-is_named.branch [
-    then-is_named w ↦ rw w.found-is (new_found (named c.args.name.now) _ _ c.loop-key-item.result c.loop-key-test.true c.loop-key-item.is (sym c.is_named.ensures ∙ w.if-is_named.true))
-    | else-is_named w ↦ rw w.found-is (none_found (named c.args.name.now) _ _ c.loop-key-item.result _ c.loop-key-test.true c.loop-key-item.is (sym c.is_named.ensures ∙ w.if-is_named.false) c.loop-key.invariant)
+      | then-is_named w ↦ rw w.found-is (new_found (named c.args.name.now) _ _ c.loop-key-item.result c.loop-key-test.true c.loop-key-item.is (sym c.is_named.ensures ∙ w.if-is_named.true))
+      | else-is_named w ↦ rw w.found-is (none_found (named c.args.name.now) _ _ c.loop-key-item.result _ c.loop-key-test.true c.loop-key-item.is (sym c.is_named.ensures ∙ w.if-is_named.false) c.loop-key.invariant)
     ]
 
 pub returns : goal.returns
