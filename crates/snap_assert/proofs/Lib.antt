@@ -10,7 +10,7 @@ mod Cutting
 mod Running
 mod Statuses
 mod Completeness
-mod Documents
+mod DocumentEnds
 mod Looking
 mod Settling
 mod Requesting

@@ -7,4 +7,5 @@ pub mod Header
 pub mod Agreement
 pub mod Image
 pub mod Reading
+pub mod Named
 pub mod Causes

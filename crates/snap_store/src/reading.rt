@@ -1,5 +1,6 @@
 //! Reading the file of a snapshot.
-ghost use Rattle.std.specs.Prelude.{◌≡◌, ℕ, List, Option};
+ghost use Rattle.std.specs.Prelude.{◌≡◌, ℕ, List, Option, IfOk};
+ghost use Rattle.snap_store.specs.Named.{HasNames};
 ghost use Rattle.std.specs.Str.{chars};
 ghost use Rattle.snap_store.specs.Causes.{FileCause};
 ghost use Rattle.snap_store.specs.Reading.{IsTextFile, HoldsBody, FileEnd, IsReadFrom};
@@ -21,6 +22,7 @@ impl Snapshot {
     /// The snapshot that the file at the path holds. The store is not changed.
     pub fn from_file<S: Store>(alloc: Global, store: &mut S, path: &Text) -> Result<Snapshot, Error>
         ensures end { IsReadFrom path.now (S.files store.old) result }
+        ensures names { IfOk result (λ snapshot. HasNames path.now snapshot) }
         ensures same { S.files store.new ≡ S.files store.old }
         ensures cause { FileCause (S.faults store.old) (S.faults store.new) result }
     {
@@ -36,6 +38,7 @@ impl Snapshot {
 /// The snapshot that the bytes of a file are, or why there is none.
 fn snapshot_of_file(alloc: Global, file: Option<Blob>, path: Text) -> Result<Snapshot, Error>
     ensures end { FileEnd path file result }
+    ensures names { IfOk result (λ snapshot. HasNames path snapshot) }
     ensures no_fault { (count : ℕ) → FileCause count count result }
 {
     let Some(bytes) = file else {
@@ -49,6 +52,7 @@ fn snapshot_of_file(alloc: Global, file: Option<Blob>, path: Text) -> Result<Sna
 
 fn snapshot_of_text(alloc: Global, text: &str, path: Text) -> Result<Snapshot, Error>
     ensures end { (file : Option (List ℕ)) → IsTextFile file (chars text.now) → FileEnd path file result }
+    ensures names { IfOk result (λ snapshot. HasNames path snapshot) }
     ensures no_fault { (count : ℕ) → FileCause count count result }
 {
     let Some(Headed { header, body }) = split_file(alloc, text)? else {
