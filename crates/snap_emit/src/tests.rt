@@ -81,17 +81,87 @@ fn is_refused(alloc: Global, text: &str, path: &Text) -> bool {
 #[test]
 fn quotes(rt: HostRuntime) {
     let quoted = [
-        "", " a", "a ", "a\u{2003}", "&a", "*a", "?a", "|a", "-a", "<a", ">a", "=a", "!a", "%a", "@a", ".a",
-        "0x", "a:b", "a{", "a}", "a[", "a]", "a,", "a#", "a\"", "a'", "a\\", "a`", "a\tb", "a\nb", "a\rb",
-        "a\0", "a\u{6}", "a\u{e}", "a\u{1a}", "a\u{1c}", "a\u{1f}", "yes", "No", "TRUE", "false", "on", "OFF",
-        "Null", "~", "0", "+1", "01", "1.5", "1.", "1e3", "INF", "infinity", "nan", "0o17", "+-1", "++1", "+.inf",
+        "",
+        " a",
+        "a ",
+        "a\u{2003}",
+        "&a",
+        "*a",
+        "?a",
+        "|a",
+        "-a",
+        "<a",
+        ">a",
+        "=a",
+        "!a",
+        "%a",
+        "@a",
+        ".a",
+        "0x",
+        "a:b",
+        "a{",
+        "a}",
+        "a[",
+        "a]",
+        "a,",
+        "a#",
+        "a\"",
+        "a'",
+        "a\\",
+        "a`",
+        "a\tb",
+        "a\nb",
+        "a\rb",
+        "a\0",
+        "a\u{6}",
+        "a\u{e}",
+        "a\u{1a}",
+        "a\u{1c}",
+        "a\u{1f}",
+        "yes",
+        "No",
+        "TRUE",
+        "false",
+        "on",
+        "OFF",
+        "Null",
+        "~",
+        "0",
+        "+1",
+        "01",
+        "1.5",
+        "1.",
+        "1e3",
+        "INF",
+        "infinity",
+        "nan",
+        "0o17",
+        "+-1",
+        "++1",
+        "+.inf",
     ];
     for text in quoted {
         assert!(rt; need_quotes(text), "{text:?}");
     }
     let bare = [
-        "a", "a b", "a\u{7}", "a\u{b}c", "a\u{1b}", "a\u{7f}", "\u{a0}a", "nUll", "y", "0b1", "0o8", "1_000",
-        "1.2.3", "e3", "inf.", "+-", "a-b", "9999999999x",
+        "a",
+        "a b",
+        "a\u{7}",
+        "a\u{b}c",
+        "a\u{1b}",
+        "a\u{7f}",
+        "\u{a0}a",
+        "nUll",
+        "y",
+        "0b1",
+        "0o8",
+        "1_000",
+        "1.2.3",
+        "e3",
+        "inf.",
+        "+-",
+        "a-b",
+        "9999999999x",
     ];
     for text in bare {
         assert!(rt; !need_quotes(text), "{text:?}");
@@ -105,7 +175,10 @@ fn texts(rt: HostRuntime) -> Result<(), Fail> {
         ("hello", "---\nhello\n"),
         ("0o17", "---\n\"0o17\"\n"),
         ("a\"\\\u{8}\t\n", "---\n\"a\\\"\\\\\\b\\t\\n\"\n"),
-        ("\u{c}\r\0\u{1f}\u{7f}", "---\n\"\\f\\r\\u0000\\u001f\\u007f\"\n"),
+        (
+            "\u{c}\r\0\u{1f}\u{7f}",
+            "---\n\"\\f\\r\\u0000\\u001f\\u007f\"\n",
+        ),
         ("no\u{e9}:", "---\n\"no\u{e9}:\"\n"),
     ];
     for (text, wanted) in table {
@@ -144,7 +217,12 @@ fn keys(rt: HostRuntime) -> Result<(), Fail> {
     key_is(&rt, alloc, 1024, &simple)?;
     let again = printed_again(alloc, simple.as_str())?;
     assert_eq!(rt; again.as_str(), simple.as_str());
-    key_is(&rt, alloc, 1025, &around(alloc, "---\n? ", 1025, "\n: 1\n")?)?;
+    key_is(
+        &rt,
+        alloc,
+        1025,
+        &around(alloc, "---\n? ", 1025, "\n: 1\n")?,
+    )?;
     let printed = printed_key(alloc, Content::Seq(Items::new(alloc)))?;
     assert_eq!(rt; printed.as_str(), "---\n? []\n: 1\n");
     Ok(())
@@ -163,9 +241,26 @@ fn refusals(rt: HostRuntime) -> Result<(), Fail> {
     let alloc = rt.alloc();
     let path = Text::from_str(alloc, "a.snap")?;
     let texts = [
-        "", "a\n", "---\n", "---\na", "---\r\na\n", "---\na\r\n", "---\n+5\n", "---\n01\n", "---\n-0\n",
-        "---\n\"a\"\n", "---\n a\n", "---\na \n", "---\na:\n", "---\na: \n", "---\na:  1\n", "---\n-  1\n",
-        "---\n- 1\n - 2\n", "---\n? a\n: 1\n", "---\n340282366920938463463374607431768211456\n", "---\na\n\n",
+        "",
+        "a\n",
+        "---\n",
+        "---\na",
+        "---\r\na\n",
+        "---\na\r\n",
+        "---\n+5\n",
+        "---\n01\n",
+        "---\n-0\n",
+        "---\n\"a\"\n",
+        "---\n a\n",
+        "---\na \n",
+        "---\na:\n",
+        "---\na: \n",
+        "---\na:  1\n",
+        "---\n-  1\n",
+        "---\n- 1\n - 2\n",
+        "---\n? a\n: 1\n",
+        "---\n340282366920938463463374607431768211456\n",
+        "---\na\n\n",
     ];
     for text in texts {
         assert!(rt; is_refused(alloc, text, &path), "{text:?}");
