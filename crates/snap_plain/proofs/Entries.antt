@@ -11,7 +11,7 @@ use Rattle.snap_print.specs.declared.plain.PlainTree.{PlainTree}
 use Rattle.snap_plain.proofs.Remaining.{AreEntriesLeft}
 use Rattle.std.proofs.lemmas.Bool.Decides.{nat_tests}
 use Rattle.snap_content.specs.Readable.{IsReadable, IsReadableEntry, AreReadable, AreReadableEntries, IsWithin, AreWithin, AreEntriesWithin, has_simple_keys, have_simple_keys, are_simply_keyed, behind_key, ends_piece}
-use Rattle.snap_content.specs.Spell.{spelling, is_scalar, is_flat}
+use Rattle.snap_content.specs.Spell.{spelling, is_flat}
 use Rattle.snap_plain.proofs.Fronts.{begins_line, BeginsLine}
 use Rattle.snap_print.proofs.Trees.{lines_of-flat, simple_flat}
 use Rattle.snap_plain.proofs.Unprinting.{hanging-indented, strip-indented, take_front, drop_front, lines_of-first}

@@ -1,5 +1,5 @@
 -- What stands at the front of a line that a scalar or an empty collection begins.
-use Rattle.std.proofs.Common.{◌≡◌, ℕ, List, [], ◌∷◌, ◌++◌, Bool, true, false, ◌==◌, drop, refl, sym, ap, ◌∙◌, append_assoc, Vec, Global, map, arith}
+use Rattle.std.proofs.Common.{◌≡◌, ℕ, List, [], ◌∷◌, ◌++◌, true, false, ◌==◌, drop, refl, sym, ap, ◌∙◌, append_assoc, Vec, Global, map, arith}
 use Rattle.std.proofs.lemmas.Bool.Decides.{nat_tests}
 use Rattle.std.specs.List.{flat_map, list_any}
 use Rattle.snap_content.specs.Front.{begins}

@@ -11,7 +11,7 @@ use Rattle.snap_content.specs.Readable.{is_word, IsWithin, IsNumber, ends_piece}
 use Rattle.snap_content.specs.Spell.{spelling, quoted}
 use Rattle.snap_print.specs.PlainTree.{view}
 use Rattle.snap_print.specs.declared.plain.PlainTree as tree
-use Rattle.snap_print.proofs.Digits.{decimal_digits, wide, wide_negative}
+use Rattle.snap_print.proofs.Digits.{decimal_digits, wide}
 use Rattle.snap_print.proofs.Tests.{absurd_tests, apart, not_true, or_left, or_right}
 use Rattle.snap_print.proofs.Words.{bare, integer, same_word}
 use Rattle.snap_plain.specs.Pieces.{front_word, past_word}
