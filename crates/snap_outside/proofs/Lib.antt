@@ -1,5 +1,4 @@
 pub mod Entries
 mod Joined
 mod Folders
-mod Parts
 pub mod Unchanged
