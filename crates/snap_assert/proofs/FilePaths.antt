@@ -1,5 +1,5 @@
 -- The path of a snapshot is that of a file.
-use Rattle.std.proofs.Common.{◌≡◌, ◌==◌, ℕ, List, [], ◌∷◌, ◌++◌, Bool, true, false, cond, Option, None, Some, refl, sym, ap, ◌∙◌, subst, codes}
+use Rattle.std.proofs.Common.{◌≡◌, ◌==◌, ℕ, List, [], ◌∷◌, ◌++◌, Bool, true, false, cond, Option, None, Some, refl, sym, ap, ◌∙◌, subst, append_assoc, codes}
 use Rattle.std.specs.Prelude.{IsSome}
 use Rattle.std.specs.List.{filter, All}
 use Rattle.std.proofs.lemmas.List.Elements.{All-append}
@@ -33,13 +33,13 @@ snap_ends : (front : List ℕ) → Ends (between_slashes (front ++ codes ".snap"
 snap_ends [] = record { front = []; a = 46; b = 115; rest = codes "nap"; is = refl }
 snap_ends (c ∷ front) = ends_cut (c == 47) c (between_slashes (front ++ codes ".snap")) (snap_ends front)
 
+filter_first : (b : Bool) (x : List ℕ) (front back all : List (List ℕ)) → all ≡ front ++ back → cond b (x ∷ all) all ≡ cond b (x ∷ front) front ++ back
+filter_first true x front back all h = ap (λ t. x ∷ t) h
+filter_first false x front back all h = h
+
 filter-append : (xs ys : List (List ℕ)) → filter is_component (xs ++ ys) ≡ filter is_component xs ++ filter is_component ys
 filter-append [] ys = refl
-filter-append (x ∷ xs) ys = by (is_component x)
-  where
-    by : (b : Bool) → cond b (x ∷ filter is_component (xs ++ ys)) (filter is_component (xs ++ ys)) ≡ cond b (x ∷ filter is_component xs) (filter is_component xs) ++ filter is_component ys
-    by true = ap (λ t. x ∷ t) (filter-append xs ys)
-    by false = filter-append xs ys
+filter-append (x ∷ xs) ys = filter_first (is_component x) x (filter is_component xs) (filter is_component ys) (filter is_component (xs ++ ys)) (filter-append xs ys)
 
 -- a list that ends in a part has it as its last
 last-push : (front : List (List ℕ)) (part : List ℕ) → last_of (front ++ part ∷ []) ≡ Some part
@@ -61,13 +61,9 @@ components_last text e = record {
 
 last_behind : (base parts : List (List ℕ)) → HasLast parts → HasLast (base ++ parts)
 last_behind base parts h = record { front = base ++ h.front; part = h.part; is = ap (λ p. base ++ p) h.is ∙ sym (append_assoc base h.front (h.part ∷ [])) }
-  where
-    append_assoc : (x y z : List (List ℕ)) → (x ++ y) ++ z ≡ x ++ (y ++ z)
-    append_assoc [] y z = refl
-    append_assoc (a ∷ x) y z = ap (λ t. a ∷ t) (append_assoc x y z)
 
 some_last : (parts : List (List ℕ)) → HasLast parts → IsSome (last_of parts)
-some_last parts h = subst IsSome (sym (ap last_of h.is ∙ last-push h.front h.part)) tt
+some_last parts h = subst IsSome (sym (ap last_of h.is ∙ last-push h.front h.part)) refl
 
 -- a path whose tail has a last component has one
 joined_named : (base tail : List ℕ) → HasLast (components tail) → IsSome (name_of (joined base tail))

@@ -21,14 +21,15 @@ abbrev pub then_past : List ℕ → Option (List ℕ) → Option (List ℕ)
 then_past mark None = None
 then_past mark (Some rest) = past_mark mark rest
 
+past_first-append : (t : Bool) (a b text : List ℕ) → past_mark (a ++ b) text ≡ then_past b (past_mark a text)
+    → cond t (past_mark (a ++ b) text) None ≡ then_past b (cond t (past_mark a text) None)
+past_first-append true a b text h = h
+past_first-append false a b text h = refl
+
 pub past_mark-append : (a b text : List ℕ) → past_mark (a ++ b) text ≡ then_past b (past_mark a text)
 past_mark-append [] b text = refl
 past_mark-append (x ∷ a) b [] = refl
-past_mark-append (x ∷ a) b (c ∷ text) = by (c == x)
-  where
-    by : (t : Bool) → cond t (past_mark (a ++ b) text) None ≡ then_past b (cond t (past_mark a text) None)
-    by true = past_mark-append a b text
-    by false = refl
+past_mark-append (x ∷ a) b (c ∷ text) = past_first-append (c == x) a b text (past_mark-append a b text)
 
 past_first : (m : ℕ) (mark : List ℕ) (c : ℕ) (cs rest : List ℕ) (t : Bool) → (c == m) ≡ t → (past_mark mark cs ≡ Some rest → cs ≡ mark ++ rest)
     → cond t (past_mark mark cs) None ≡ Some rest → c ∷ cs ≡ m ∷ (mark ++ rest)
@@ -77,7 +78,7 @@ named path last q f l b =
     }
 
 some_name : (path q : List ℕ) (found : Option (List ℕ)) → name_of path ≡ found → IsSome found → IsFilePath path → IsBehind (stray_front path) q → IsNamedIn (parent_of path) q
-some_name path q None is h f b = absurd h
+some_name path q None is h f b = absurd (cc)
 some_name path q (Some last) is h f b = named path last q f is b
 
 stray_named : (path q : List ℕ) → IsFilePath path → is_stray path q ≡ true → IsNamedIn (parent_of path) q

@@ -1,0 +1,25 @@
+-- A text without a slash is its own last part.
+use Rattle.std.proofs.Common.{◌≡◌, ◌==◌, ◌||◌, ℕ, Bool, true, false, cond, List, [], ◌∷◌, refl, ap, ◌∙◌}
+use Rattle.snap_assert.specs.Place.{holds_slash, last_part}
+
+first_false : (a b : Bool) → (a || b) ≡ false → a ≡ false
+first_false true b e = e
+first_false false b e = refl
+
+later_false : (a b : Bool) → (a || b) ≡ false → b ≡ false
+later_false true b e = cc
+later_false false b e = e
+
+whole : (t : List ℕ) → holds_slash t ≡ false → last_part t ≡ t
+whole [] h = refl
+whole (c ∷ cs) h =
+    ap (λ b. cond b (last_part cs) (cond (c == 47) cs (c ∷ cs))) (later_false (c == 47) (holds_slash cs) h)
+    ∙ ap (λ b. cond b cs (c ∷ cs)) (first_false (c == 47) (holds_slash cs) h)
+
+either : (b : Bool) (t : List ℕ) → holds_slash t ≡ b → last_part t ≡ cond b (last_part t) t
+either true t h = refl
+either false t h = whole t h
+
+-- the last part of a text is in the text where that holds a slash, and else it is the text
+pub in_itself : (t : List ℕ) → last_part t ≡ cond (holds_slash t) (last_part t) t
+in_itself t = either (holds_slash t) t refl
