@@ -14,3 +14,5 @@ mod DocumentEnds
 mod Looking
 mod Settling
 mod Requesting
+mod LastPart
+mod Prefixes
