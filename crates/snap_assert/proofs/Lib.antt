@@ -16,3 +16,4 @@ mod Settling
 mod Requesting
 mod LastPart
 mod Prefixes
+mod Answering
