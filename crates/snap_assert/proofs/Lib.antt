@@ -3,6 +3,7 @@ mod Readings
 mod Saved
 mod Judgements
 mod FilePaths
+mod LastPart
 mod StrayPaths
 mod Removals
 mod Pieces
@@ -14,3 +15,4 @@ mod DocumentEnds
 mod Looking
 mod Settling
 mod Requesting
+mod RequestMade
