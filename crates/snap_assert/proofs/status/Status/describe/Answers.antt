@@ -1,4 +1,5 @@
-use Rattle.std.proofs.Common.{◌≡◌, ◌++◌, List, ℕ, ap, ◌∙◌, append_assoc}
+use Rattle.std.proofs.Common.{◌≡◌, ◌++◌, List, ℕ, ap, ◌∙◌, append_assoc, codes}
+use Rattle.std.specs.Fmt.{decimal}
 use Rattle.snap_assert.proofs.status.Status.describe.Goals as goal
 
 regrouped : (head digits middle end first second third : List ℕ) → first ≡ head ++ digits → second ≡ first ++ middle → third ≡ second ++ end
@@ -8,4 +9,4 @@ regrouped head digits middle end first second third e f g =
 
 pub returns-in_ok-push_text-in-FileIo : goal.returns-in_ok-push_text-in-FileIo
 returns-in_ok-push_text-in-FileIo c =
-    rw c.in-FileIo.is (regrouped _ _ _ _ _ _ _ c.in_ok-text-in-FileIo.ensures c.in_ok-push_ascii-in-FileIo.ensures.ok c.in_ok-push_text-in-FileIo.ensures.ok)
+    rw c.in-FileIo.is (regrouped (codes "snap: document ") (decimal c.in-FileIo.document) (codes ": file fault at ") c.in-FileIo.path _ _ _ c.in_ok-text-in-FileIo.ensures c.in_ok-push_ascii-in-FileIo.ensures.ok c.in_ok-push_text-in-FileIo.ensures.ok)
