@@ -10,7 +10,12 @@ use Rattle.snap_content.proofs.PlainMade.{plain_made}
 use Rattle.snap_content.proofs.Views.{tree-Map}
 use Rattle.snap_store.specs.Fields.{last_value, text_value, line_value}
 use Rattle.snap_assert.specs.Place.{names_file}
-use Rattle.snap_assert.specs.Requests.{RequestView, needed, pair_count, request_from, request_in, is_keyed}
+use Rattle.std.specs.Str.{IsUtf8, chars}
+use Rattle.snap_content.specs.declared.error.Error.{Error}
+use Rattle.snap_content.specs.declared.error.Error.TheVariants.{FailedParsingYaml, UnexpectedDataType, MissingField, FileIo, FloatText, JsonKey, NotText, NoFile, OutOfMemory}
+use Rattle.snap_emit.specs.Parsed.{IsReadFrom, RefusalEnd}
+use Rattle.snap_assert.specs.Requests.{RequestView, Spells, ReadsAs, needed, pair_count, request_from, request_in, is_keyed}
+use Rattle.snap_assert.proofs.Requesting.{reads_as, no_request_read}
 
 others_same : (a b c d : t.Tree) (x y : t.TreePairs) → t.pair a b x ≡ t.pair c d y → x ≡ y
 others_same a b c d x y e = cc
@@ -84,3 +89,27 @@ dict_made (dict held) pairs e = record { held = held; is = refl; made = cc }
 
 pub dict_of : (content : Content) (pairs : Pairs) (plain : Plain) → content ≡ Map pairs → tree content ≡ p.content_of plain → IsDict plain (pair_list pairs)
 dict_of content pairs plain is made = dict_made plain (pair_list pairs) (sym (tree-Map pairs) ∙ sym (ap tree is) ∙ made)
+
+-- the request in the tree that was read is the one that the document spells
+pub spelled : (document text : List ℕ) (content : Content) (request : RequestView) → text ≡ document → IsUtf8 document → (read : IsReadFrom content (chars text))
+    → Some request ≡ request_in read.plain → ReadsAs document request
+spelled document text content request same utf8 read held =
+    reads_as document request (record { utf8 = utf8; tree = read.plain; readable = read.readable; printed = ap chars (sym same) ∙ read.text_is; request_is = sym held })
+
+-- no request is spelled where none is in the tree that was read
+pub none_spelled : (document text : List ℕ) (content : Content) → text ≡ document → (read : IsReadFrom content (chars text))
+    → None ≡ request_in read.plain → (r : RequestView) → Spells document r → ⊥
+none_spelled document text content same read held = no_request_read document read.plain read.readable (ap chars (sym same) ∙ read.text_is) (sym held)
+
+-- nor where no tree was read
+pub none_parsed : (document text path : List ℕ) (error : Error) → text ≡ document → RefusalEnd (chars text) path error → (error ≡ OutOfMemory → ⊥)
+    → (r : RequestView) → Spells document r → ⊥
+none_parsed document text path (FailedParsingYaml named) same end other r s = end.1 s.tree s.readable (ap chars same ∙ s.printed)
+none_parsed document text path UnexpectedDataType same end other r s = end
+none_parsed document text path MissingField same end other r s = end
+none_parsed document text path (FileIo named) same end other r s = end
+none_parsed document text path (FloatText named) same end other r s = end
+none_parsed document text path JsonKey same end other r s = end
+none_parsed document text path (NotText named) same end other r s = end
+none_parsed document text path (NoFile named) same end other r s = end
+none_parsed document text path OutOfMemory same end other r s = other refl
