@@ -1,5 +1,5 @@
 -- The request that the pairs of a map are.
-use Rattle.std.proofs.Common.{◌≡◌, ℕ, ◌+◌, ◌^◌, ℤ, pos, negsuc, Bool, true, false, cond, nat_lt, List, [], ◌∷◌, length, Option, None, Some, option_map, refl, ap, sym, ◌∙◌, codes, arith}
+use Rattle.std.proofs.Common.{◌≡◌, ℕ, ◌^◌, ℤ, pos, negsuc, Bool, true, false, cond, nat_lt, List, [], ◌∷◌, length, Option, None, Some, option_map, refl, ap, sym, ◌∙◌, codes, arith}
 use Rattle.snap_content.specs.Plain as p
 use Rattle.snap_content.specs.Plain.{Plain, Entries, dict}
 use Rattle.snap_content.specs.Tree as t

@@ -141,7 +141,7 @@ pub fn read_request(alloc: Global, document: &[u8]) -> Result<Request, RequestEr
     }
 }
 
-/// Why a document is not read whose text is not parsed.
+/// What the reader's error means for a document. Want of memory is never taken for a text that is no request.
 fn refusal_of(error: &Error) -> RequestError
     ensures { result ≡ RequestError.NoRequest → error.now ≡ Error.OutOfMemory → ⊥ }
 {

@@ -1,4 +1,4 @@
-use Rattle.std.proofs.Common.{◌≡◌, ap, sym, ◌∙◌, option_map, IsErrOf, Result, Err}
+use Rattle.std.proofs.Common.{◌≡◌, ap, sym, ◌∙◌, option_map, IsErrOf, Err}
 use Rattle.snap_assert.specs.RequestOf.{request_of}
 use Rattle.snap_assert.specs.declared.request.Request.{Request}
 use Rattle.snap_assert.specs.declared.request.RequestError.{RequestError}
@@ -12,13 +12,13 @@ pub returns-in-Ok-Some-clause-ok : goal.returns-in-Ok-Some-clause-ok
 returns-in-Ok-Some-clause-ok c =
     let read = c.in-Ok-parse_str.ensures.end in
     spelled _ _ _ (request_of c.in-Ok-Some.request) c.in-Ok.ensures.cases.0 c.in-Ok.ensures.cases.1 read
-      (ap (option_map request_of) (sym c.in-Ok-Some.field-0-is) ∙ c.in-Ok-Some.ensures read.plain read.tree_is)
+    (ap (option_map request_of) (sym c.in-Ok-Some.field-0-is) ∙ c.in-Ok-Some.ensures read.plain read.tree_is)
 
 pub returns-in-Ok-None-clause-refused : goal.returns-in-Ok-None-clause-refused
 returns-in-Ok-None-clause-refused c = λ _.
     let read = c.in-Ok-parse_str.ensures.end in
     none_spelled _ _ _ c.in-Ok.ensures.cases.0 read
-      (ap (option_map request_of) (sym c.in-Ok-None.field-0-is) ∙ c.in-Ok-None.ensures read.plain read.tree_is)
+    (ap (option_map request_of) (sym c.in-Ok-None.field-0-is) ∙ c.in-Ok-None.ensures read.plain read.tree_is)
 
 pub returns-clause-refused : goal.returns-clause-refused
 returns-clause-refused c = λ is.

@@ -6,11 +6,11 @@ use Rattle.snap_assert.proofs.request.request_of_pairs.Goals as goal
 pub returns : goal.returns
 returns c = λ entries made.
     sym (request_made entries _ _ _ _ _ _
-      (sym (c.are_keyed.ensures entries made) ∙ c.if-not-are_keyed.false)
-      (sym (c.in-Some.ensures entries made) ∙ ap Some (sym c.in_ok-from_str.ensures))
-      (sym (c.in-Some-text_named.ensures entries made) ∙ ap Some (sym c.in_ok-from_str-2.ensures))
-      (sym (c.in-Some-line_named.ensures entries made))
-      (sym (c.in-Some-text_named-2.ensures entries made) ∙ ap Some (sym c.in_ok-from_str-3.ensures))
-      (sym (c.in-Some-text_named-3.ensures entries made) ∙ ap Some (sym c.in_ok-from_str-4.ensures))
-      (ap Some c.in_ok-try_clone.ensures ∙ c.in-Some-value_named.ensures entries made)
-      (ap names_file c.in_ok-from_str-2.ensures ∙ sym c.is_file_path.ensures ∙ c.if-not-is_file_path.false))
+    (sym (c.are_keyed.ensures entries made) ∙ c.if-not-are_keyed.false)
+    (sym (c.in-Some.ensures entries made) ∙ ap Some (sym c.in_ok-from_str.ensures))
+    (sym (c.in-Some-text_named.ensures entries made) ∙ ap Some (sym c.in_ok-from_str-2.ensures))
+    (sym (c.in-Some-line_named.ensures entries made))
+    (sym (c.in-Some-text_named-2.ensures entries made) ∙ ap Some (sym c.in_ok-from_str-3.ensures))
+    (sym (c.in-Some-text_named-3.ensures entries made) ∙ ap Some (sym c.in_ok-from_str-4.ensures))
+    (ap Some c.in_ok-try_clone.ensures ∙ c.in-Some-value_named.ensures entries made)
+    (ap names_file c.in_ok-from_str-2.ensures ∙ sym c.is_file_path.ensures ∙ c.if-not-is_file_path.false))
