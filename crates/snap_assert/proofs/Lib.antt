@@ -14,3 +14,4 @@ mod DocumentEnds
 mod Looking
 mod Settling
 mod Requesting
+mod LastPart
