@@ -1,6 +1,6 @@
 -- What single reads add up to.
-use Rattle.std.proofs.Common.{◌≡◌, ℕ, ◌≤◌, List, [], ◌∷◌, ◌++◌, length, take, Option, None, Some, refl, sym, ◌∙◌, ap, arith, append_assoc, length-append, subst}
-use Rattle.std.proofs.lemmas.List.{append-nil, length-take-le}
+use Rattle.std.proofs.Common.{◌≡◌, ℕ, ◌<◌, ◌≤◌, List, [], ◌∷◌, ◌++◌, length, take, drop, Option, None, Some, refl, sym, ◌∙◌, ap, arith, append_assoc, length-append, subst}
+use Rattle.std.proofs.lemmas.List.{length-take-le, length-drop}
 use Rattle.snap_outside.specs.Streams.{GivesFront}
 use Rattle.snap_assert.specs.Streams.{TakesPiece}
 
@@ -60,3 +60,11 @@ taken count buffer piece bytes next left left' fits is added given = record {
   added = added ∙ ap (λ p. bytes ++ p) is;
   given = given;
 }
+
+-- the part of a buffer that is read into, and the buffer behind it
+pub part_room : (room size : ℕ) (buffer : List ℕ) → length buffer ≡ size → 0 < room → room ≤ size → 0 < length (take room buffer)
+part_room room size buffer whole some fits = omega (arith, some, length-take-le room buffer (omega (arith, fits, whole)))
+
+pub whole_room : (room size : ℕ) (buffer front : List ℕ) → length buffer ≡ size → room ≤ size → length front ≡ length (take room buffer) → length (front ++ drop room buffer) ≡ size
+whole_room room size buffer front whole fits same =
+    omega (arith, whole, fits, same, length-append front (drop room buffer), length-drop room buffer, length-take-le room buffer (omega (arith, fits, whole)))

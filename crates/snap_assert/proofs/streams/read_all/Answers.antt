@@ -1,0 +1,24 @@
+use Rattle.std.proofs.Common.{◌∙◌, arith}
+use Rattle.snap_assert.proofs.Pieces.{more_read, all_read, as_long, part_room, whole_room}
+use Rattle.snap_assert.proofs.streams.read_all.Goals as goal
+
+-- src/streams.rt:62:21
+pub returns-then-count-eq0-clause-all : goal.returns-then-count-eq0-clause-all
+returns-then-count-eq0-clause-all g c = λ xs e.
+    let room = part_room c.min-room.result 4096 c.loop-buffer.buffer c.loop-buffer.invariant.room (omega (arith, c.min-room.ensures, c.len-in-loop-buffer.ensures, c.len.ensures, c.loop-buffer-test.true)) (omega (arith, c.min-room.ensures)) in
+    (all_read c.in-Ok.count _ _ _ _ _ xs c.if-count-eq0.true c.in-Ok.ensures.piece (c.in-Ok.ensures.end c.if-count-eq0.true room) c.loop-buffer.invariant.read e).same
+
+pub returns-then-count-eq0-clause-end : goal.returns-then-count-eq0-clause-end
+returns-then-count-eq0-clause-end g c = λ xs e.
+    let room = part_room c.min-room.result 4096 c.loop-buffer.buffer c.loop-buffer.invariant.room (omega (arith, c.min-room.ensures, c.len-in-loop-buffer.ensures, c.len.ensures, c.loop-buffer-test.true)) (omega (arith, c.min-room.ensures)) in
+    (all_read c.in-Ok.count _ _ _ _ _ xs c.if-count-eq0.true c.in-Ok.ensures.piece (c.in-Ok.ensures.end c.if-count-eq0.true room) c.loop-buffer.invariant.read e).nothing_left
+
+pub loop-buffer-preserved : goal.loop-buffer-preserved
+loop-buffer-preserved g c = record {
+  read = more_read c.in-Ok.count _ _ _ _ _ c.in-Ok.ensures.piece c.loop-buffer.invariant.read;
+  count = c.in-Ok.ensures.cause ∙ c.loop-buffer.invariant.count;
+  room = whole_room c.min-room.result 4096 c.loop-buffer.buffer c.read_piece.new.buffer c.loop-buffer.invariant.room (omega (arith, c.min-room.ensures)) c.read_piece.auto.buffer;
+}
+
+pub returns-clause-too_long : goal.returns-clause-too_long
+returns-clause-too_long g c = λ is xs e. omega (arith, as_long _ _ _ xs c.loop-buffer.invariant.read e, c.loop-buffer-test.false)
