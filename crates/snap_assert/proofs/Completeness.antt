@@ -20,7 +20,7 @@ spelled_at : (done : List (List ℕ)) (d : List ℕ) (later : List (List ℕ)) �
 spelled_at [] d later h = h.0
 spelled_at (x ∷ done) d later h = spelled_at done d later h.1
 
-not_rose : (n m : ℕ) → IsSteady n m → Rose n m → ⊥
+pub not_rose : (n m : ℕ) → IsSteady n m → Rose n m → ⊥
 not_rose n m h r = absurd (omega (arith, r.rose, h.same, h.below_last))
 
 no_request : (words : RunWords) (e : DocumentError) (n k : ℕ) (d : List ℕ) (f g : Option Files) (w v : Option (List ℕ)) → BadRequest k ≡ status_at n e → StopsAt words e d f g w v → (r : RequestView) → Spells d r → ⊥

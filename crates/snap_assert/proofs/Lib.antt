@@ -18,3 +18,4 @@ mod Requesting
 mod Prefixes
 mod Answering
 mod RequestMade
+mod RunEnds

@@ -1,0 +1,1 @@
+use Rattle.snap_assert.proofs.program.run_words.Goals as goal
