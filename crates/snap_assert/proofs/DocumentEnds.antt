@@ -1,7 +1,8 @@
 -- What one document leaves.
-use Rattle.std.proofs.Common.{◌≡◌, ℕ, List, [], ◌∷◌, ◌++◌, Bool, true, false, cond, Option, None, Some, refl, sym, ap, ◌∙◌, subst, encode_utf8_all}
+use Rattle.std.proofs.Common.{◌≡◌, ◌⊎◌, inl, inr, ℕ, List, [], ◌∷◌, ◌++◌, Bool, true, false, cond, Option, None, Some, refl, sym, ap, ◌∙◌, subst, Err, encode_utf8_all}
 use Rattle.std.proofs.lemmas.List.{append-nil}
 use Rattle.std.specs.FinMap.{get}
+use Rattle.snap_outside.specs.Causes.{Rose}
 use Rattle.snap_outside.specs.Files.{Files, SameOutside}
 use Rattle.snap_outside.specs.Streams.{HoldsFront}
 use Rattle.snap_assert.specs.Settings.{SettingsView, new_settings}
@@ -10,11 +11,13 @@ use Rattle.snap_assert.specs.Judging.{May}
 use Rattle.snap_assert.specs.Steps.{Asked, asked_of, step, verdict_of}
 use Rattle.snap_assert.specs.Requests.{RequestView, ReadsAs}
 use Rattle.snap_assert.specs.Answers.{RunWords, Answer, place_by, asked_by, step_of, line_text, line_of}
-use Rattle.snap_assert.specs.Outcomes.{OnlyNear, IsAnswered}
+use Rattle.snap_assert.specs.Outcomes.{OnlyNear, IsAnswered, ErrorCause}
 use Rattle.snap_assert.specs.Runner.{words_of}
-use Rattle.snap_assert.specs.Runs.{Ran, AssertionStops, StopsAt, SomewhereNear, FileFails, LineFails, IsDocumentAnswered}
+use Rattle.snap_assert.specs.Runs.{Ran, AssertionStops, StopsAt, SomewhereNear, FileFails, LineFails, IsDocumentAnswered, StoreCount}
 use Rattle.snap_assert.specs.declared.documents.DocumentError.{DocumentError}
 use Rattle.snap_assert.specs.declared.documents.DocumentError.TheVariants.{NoRequest, FileIo, WriteFault, OutOfMemory}
+use Rattle.snap_assert.specs.declared.error.AssertError.{AssertError}
+use Rattle.snap_assert.specs.declared.error.AssertError.TheVariants as refusal
 use Rattle.snap_assert.specs.declared.outcome.Outcome.{Outcome}
 use Rattle.snap_assert.specs.declared.runner.Runner.{Runner}
 use Rattle.snap_assert.proofs.Removals.{step_near, untouched}
@@ -80,3 +83,43 @@ line_fails words document outcome line bytes f g w v d told encoded wrote = reco
   stands = d.stands;
   line = λ x e. subst (λ b. HoldsFront b x v) (line_is words document outcome line bytes f g d told encoded) (wrote x e);
 }
+
+-- the store failed in the work on a path, or memory was wanting
+record IsFault (before now : ℕ) (error : DocumentError) : Type 0 where
+  path : List ℕ
+  is : error ≡ FileIo path
+  rose : Rose before now
+
+record IsWant (before now : ℕ) (error : DocumentError) : Type 0 where
+  is : error ≡ OutOfMemory
+  same : now ≡ before
+
+refused_by : (before now : ℕ) (refused : AssertError) (error : DocumentError) → ErrorCause before now refused
+    → ((path : List ℕ) → refused ≡ refusal.FileIo path → error ≡ FileIo path) → (refused ≡ refusal.OutOfMemory → error ≡ OutOfMemory) → IsFault before now error ⊎ IsWant before now error
+refused_by before now refusal.OutOfMemory error cause file memory = inr (record { is = memory refl; same = cause })
+refused_by before now (refusal.FileIo path) error cause file memory = inl (record { path = path; is = file path refl; rose = cause })
+refused_by before now refusal.NameClash error cause file memory = absurd cause
+refused_by before now refusal.DoctestNeedsName error cause file memory = absurd cause
+refused_by before now (refusal.DuplicateDiffers key kept new) error cause file memory = absurd cause
+refused_by before now refusal.NamesExhausted error cause file memory = absurd cause
+refused_by before now refusal.InlineDuplicate error cause file memory = absurd cause
+refused_by before now refusal.BadExtension error cause file memory = absurd cause
+refused_by before now refusal.JsonKey error cause file memory = absurd cause
+
+-- a document whose assertion is refused
+pub refused_stops : (runner : Runner) (document : List ℕ) (r : RequestView) (asked : Asked) (f g : Option Files) (before now : ℕ) (refused : AssertError) (error : DocumentError)
+    → ErrorCause before now refused → ((path : List ℕ) → refused ≡ refusal.FileIo path → error ≡ FileIo path) → (refused ≡ refusal.OutOfMemory → error ≡ OutOfMemory)
+    → ReadsAs document r → asked ≡ asked_by runner.workspace r → OnlyNear asked.path f g → AssertionStops (words_of runner) error document f g
+refused_stops runner document r asked f g before now refused error cause file memory reads is near = ends (refused_by before now refused error cause file memory)
+  where
+    ends : IsFault before now error ⊎ IsWant before now error → AssertionStops (words_of runner) error document f g
+    ends (inl h) = subst (λ e. AssertionStops (words_of runner) e document f g) (sym h.is) (document_fails runner document r asked f g reads is near)
+    ends (inr h) = subst (λ e. AssertionStops (words_of runner) e document f g) (sym h.is) (record { path = asked.path; others = near })
+
+pub refused_count : {T : Type 0} (before now : ℕ) (refused : AssertError) (error : DocumentError)
+    → ErrorCause before now refused → ((path : List ℕ) → refused ≡ refusal.FileIo path → error ≡ FileIo path) → (refused ≡ refusal.OutOfMemory → error ≡ OutOfMemory) → StoreCount {T = T} before now (Err error)
+refused_count {T = T} before now refused error cause file memory = ends (refused_by before now refused error cause file memory)
+  where
+    ends : IsFault before now error ⊎ IsWant before now error → StoreCount {T = T} before now (Err error)
+    ends (inl h) = subst (λ e. StoreCount {T = T} before now (Err e)) (sym h.is) h.rose
+    ends (inr h) = subst (λ e. StoreCount {T = T} before now (Err e)) (sym h.is) h.same
