@@ -3,6 +3,7 @@ mod Readings
 mod Saved
 mod Judgements
 mod FilePaths
+mod LastPart
 mod StrayPaths
 mod Removals
 mod Pieces
@@ -14,4 +15,6 @@ mod DocumentEnds
 mod Looking
 mod Settling
 mod Requesting
-mod LastPart
+mod Prefixes
+mod Answering
+mod RequestMade

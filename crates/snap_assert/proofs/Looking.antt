@@ -89,3 +89,8 @@ pub judge_refused : (asked : Asked) (m : Files) (prepared : Prepared) (files : O
 judge_refused asked m prepared files error result p told r end =
     let Refused_at : List ℕ → Type 0 = λ path. IsRefused path r.file error in
     by_error asked m r.file error result (r.told m told ∙ ap (get m) p.path) (subst Refused_at p.path r.comes_to) end
+
+pub all_judged : (prepared : Prepared) (files : Option Files) (result : Result Judged AssertError) → ((asked : Asked) (m : Files) → IsPrepared asked prepared → files ≡ Some m → IfOk result (λ judged. IsJudged asked m judged))
+    → IfOk result (λ judged. (asked : Asked) (m : Files) → IsPrepared asked prepared → files ≡ Some m → IsJudged asked m judged)
+all_judged prepared files (Ok judged) h = h
+all_judged prepared files (Err e) h = tt

@@ -5,7 +5,7 @@ use Rattle.snap_content.specs.Plain.{Plain, dict, Entries}
 use Rattle.snap_content.specs.Lines.{document_of, text_of}
 use Rattle.snap_content.specs.Readable.{IsReadable}
 use Rattle.snap_plain.proofs.Injective.{texts_same}
-use Rattle.std.specs.Str.{IsUtf8, chars}
+use Rattle.std.specs.Str.{chars}
 use Rattle.std.proofs.Common.{drop}
 use Rattle.snap_store.specs.Fields.{last_value, text_value, line_value}
 use Rattle.snap_assert.specs.Place.{names_file}

@@ -32,7 +32,7 @@ updated asked m prepared files files' p told saved =
     ∙ ap (λ t. Some (insert m asked.path (encode_utf8_all t))) (saved_is asked.meta asked.tree (normal-lines_of asked.tree p.lines))
 
 pub has_text : (asked : Asked) (prepared : Prepared) → IsPrepared asked prepared → IsSome (text_in (contents_in prepared.snapshot))
-has_text asked prepared p = subst IsSome (sym p.printed) tt
+has_text asked prepared p = subst IsSome (sym p.printed) refl
 
 -- the files once the strays are gone
 pub cleared_is : (asked : Asked) (m : Files) (strays : List (List ℕ)) (files files' : Option Files) → files ≡ Some m → AreStrays asked.path m strays

@@ -17,7 +17,7 @@ pub before_all : (status : Status) (words : Option RunWords) (left : Option (Lis
 before_all status words left f g w v h = let i = input_of left in record { input = i.0; told = i.1; runs = h _ }
 
 -- in place no answer fails
-no_failure : (mode : Update) (passed : Bool) → mode ≡ InPlace → is_failure (verdict_of mode passed) ≡ false
+pub no_failure : (mode : Update) (passed : Bool) → mode ≡ InPlace → is_failure (verdict_of mode passed) ≡ false
 no_failure mode true h = refl
 no_failure mode false h = ap (λ m. is_failure (verdict_of m false)) h
 

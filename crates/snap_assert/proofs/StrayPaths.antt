@@ -1,7 +1,8 @@
 -- Which paths are left behind by payloads.
-use Rattle.std.proofs.Common.{◌≡◌, ◌==◌, ◌||◌, ◌&&◌, ℕ, Bool, true, false, not, cond, eqb, List, [], ◌∷◌, ◌++◌, map, Option, None, Some, refl, sym, ap, ◌∙◌, subst, append_assoc, eq-eqb, true-eqb, codes}
+use Rattle.std.proofs.Common.{◌≡◌, ◌==◌, ◌||◌, ◌&&◌, ℕ, Bool, true, false, not, cond, eqb, List, [], ◌∷◌, ◌++◌, map, Option, None, Some, refl, sym, ap, ◌∙◌, subst, append_assoc, eq-eqb, true-eqb, codes, IsPermutation}
 use Rattle.std.specs.Prelude.{is_some, IsSome}
 use Rattle.std.specs.List.{list_any, filter, All}
+use Rattle.std.proofs.lemmas.List.Sorted.{list_any-IsPermutation}
 use Rattle.std.specs.Str.{bytes_eq}
 use Rattle.std.specs.FinMap.{get}
 use Rattle.std.proofs.lemmas.List.Elements.{All-head, All-tail}
@@ -118,4 +119,26 @@ strays_of_names m path folder names f is l = record {
   each = λ q. filtered (is_stray path) q (map (joined folder) names)
       ∙ chosen (is_stray path q) (list_any (bytes_eq q) (map (joined folder) names)) (is_some (get m q))
       (λ s. among_names m folder q names l (subst (λ d. IsNamedIn d q) (sym is) (stray_named path q f s)));
+}
+
+-- a text that does not begin with the path is no stray
+pub not_behind : (path front q text : List ℕ) → front ≡ path → text ≡ q → past_mark front text ≡ None → false ≡ is_stray path q
+not_behind path front q text f t none =
+    sym (ap is_slashless (past_mark-append path (codes ".new.") q ∙ ap (then_past (codes ".new.")) (ap (λ x. past_mark x q) (sym f) ∙ ap (past_mark front) (sym t) ∙ none)))
+
+pub not_new : (path front q text rest : List ℕ) → front ≡ path → text ≡ q → past_mark front text ≡ Some rest → past_mark (codes ".new.") rest ≡ None → false ≡ is_stray path q
+not_new path front q text rest f t some none =
+    sym (ap is_slashless (past_mark-append path (codes ".new.") q ∙ ap (then_past (codes ".new.")) (ap (λ x. past_mark x q) (sym f) ∙ ap (past_mark front) (sym t) ∙ some) ∙ none))
+
+pub behind_new : (path front q text rest more : List ℕ) (slash : Bool) → front ≡ path → text ≡ q → past_mark front text ≡ Some rest → past_mark (codes ".new.") rest ≡ Some more
+    → slash ≡ holds_slash more → not slash ≡ is_stray path q
+behind_new path front q text rest more slash f t some further s =
+    ap not s
+    ∙ sym (ap is_slashless (past_mark-append path (codes ".new.") q ∙ ap (then_past (codes ".new.")) (ap (λ x. past_mark x q) (sym f) ∙ ap (past_mark front) (sym t) ∙ some) ∙ further))
+
+-- the stray paths in any order
+pub in_any_order : (path folder : List ℕ) (m : Files) (names found sorted : List (List ℕ)) → IsFilePath path → folder ≡ parent_of path → AreNames m folder names
+    → found ≡ filter (is_stray path) (map (joined folder) names) → IsPermutation found sorted → AreStrays path m sorted
+in_any_order path folder m names found sorted f is l made p = record {
+  each = λ q. sym (list_any-IsPermutation (bytes_eq q) found sorted p) ∙ ap (list_any (bytes_eq q)) made ∙ (strays_of_names m path folder names f is l).each q;
 }

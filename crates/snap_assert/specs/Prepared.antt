@@ -1,11 +1,12 @@
 -- What is ready before anything is looked at, and what was seen.
-use Rattle.std.specs.Prelude.{◌≡◌, ℕ, List, [], ◌∷◌, false, Some, Result, Ok, Err}
+use Rattle.std.specs.Prelude.{◌≡◌, ℕ, List, [], ◌∷◌, false, Option, Some, Result, Ok, Err}
 use Rattle.std.specs.FinMap.{get}
 use Rattle.snap_content.specs.Lines.{text_of, lines_of}
 use Rattle.snap_content.specs.Printed.{AreLines}
 use Rattle.snap_outside.specs.Files.{Files}
 use Rattle.snap_store.specs.Views.{meta_in, contents_in, text_in}
-use Rattle.snap_assert.specs.Steps.{Asked, pending_path}
+use Rattle.snap_assert.specs.Steps.{Asked, pending_path, step}
+use Rattle.snap_assert.specs.declared.config.Update.TheVariants.{InPlace}
 use Rattle.snap_assert.specs.Strays.{IsFilePath, AreStrays}
 use Rattle.snap_assert.specs.Judging.{May}
 use Rattle.snap_assert.specs.Outcomes.{AreWarnings, warnings_in}
@@ -37,6 +38,11 @@ pub record IsJudged (asked : Asked) (m : Files) (judged : Judged) : Type 0 where
 pub record IsSeen (asked : Asked) (m : Files) (seen : Seen) : Type 0 where
   pub judged : IsJudged asked m seen.judged
   pub strays : AreStrays asked.path m seen.strays.items
+
+-- judged, and the files are those of the step
+pub record IsSettled (asked : Asked) (m : Files) (judged : Judged) (files' : Option Files) : Type 0 where
+  pub compared : IsJudged asked m judged
+  pub stands : files' ≡ Some (step InPlace false asked judged.passed m)
 
 -- no pass, with these warnings
 abbrev pub NoPass : List Warning → Result Judged AssertError → Type 0

@@ -6,15 +6,18 @@ ghost use Rattle.snap_assert.specs.Outcomes.{IsAnswered, OnlyNear, AssertCause};
 ghost use Rattle.snap_assert.specs.Session.{session_of, suffixed, name_step};
 ghost use Rattle.snap_assert.specs.Settings.{settings_of};
 ghost use Rattle.snap_assert.specs.Place.{place_of};
-ghost use Rattle.snap_assert.specs.Steps.{asked_of};
+ghost use Rattle.snap_outside.specs.Files.{Files};
+ghost use Rattle.snap_store.specs.Views.{contents_in, text_in};
+ghost use Rattle.snap_assert.specs.Prepared.{IsPrepared, IsSettled};
+ghost use Rattle.snap_assert.specs.Steps.{Asked, asked_of, verdict_of};
 ghost use Rattle.snap_assert.specs.declared.config.Update.TheVariants.{InPlace};
 
 use crate::config::{Config, Update};
 use crate::error::AssertError;
-use crate::look::look;
+use crate::look::{Judged, look};
 use crate::outcome::{Outcome, Verdict};
 use crate::place::Place;
-use crate::prepare::prepare;
+use crate::prepare::{Prepared, prepare};
 use crate::session::Session;
 use crate::settings::Settings;
 use crate::settle::settle;
@@ -22,7 +25,39 @@ use snap_content::{Content, Text};
 use snap_outside::Store;
 use std::alloc::Global;
 
-/// Asserts the tree under this name: reads, lists and compares, and then leaves the store as the mode says.
+/// The verdict of an assertion that updates in place.
+fn verdict_in_place(passed: bool) -> Verdict
+    ensures { result ≡ verdict_of InPlace passed }
+{
+    if passed {
+        Verdict::Passed
+    } else {
+        Verdict::Updated
+    }
+}
+
+/// Reads, lists and compares, and then leaves the store as the update in place says.
+fn assert_prepared<S: Store>(
+    alloc: Global,
+    store: &mut S,
+    prepared: &Prepared,
+) -> Result<Judged, AssertError>
+    requires { IsSome (text_in (contents_in prepared.now.snapshot)) }
+    ensures settled { IfOk result (λ judged. (asked : Asked) (m : Files) → IsPrepared asked prepared.now → S.files store.old ≡ Some m → IsSettled asked m judged (S.files store.new)) }
+    ensures others { OnErr result ((asked : Asked) → IsPrepared asked prepared.now → OnlyNear asked.path (S.files store.old) (S.files store.new)) }
+    ensures cause { AssertCause (S.faults store.old) (S.faults store.new) result }
+{
+    let seen = match look(alloc, store, prepared) {
+        Ok(seen) => seen,
+        Err(error) => return Err(error),
+    };
+    match settle(alloc, store, prepared, seen.judged.passed, &seen.strays) {
+        Ok(()) => Ok(seen.judged),
+        Err(error) => Err(error),
+    }
+}
+
+/// Asserts the tree under this name, with all that is written printed before the store is touched.
 fn assert_named<S: Store>(
     alloc: Global,
     store: &mut S,
@@ -41,25 +76,15 @@ fn assert_named<S: Store>(
     let Ok(prepared) = prepare(alloc, settings, place, name, content) else {
         return Err(AssertError::OutOfMemory);
     };
-    let seen = match look(alloc, store, &prepared) {
-        Ok(seen) => seen,
-        Err(error) => return Err(error),
-    };
-    match settle(alloc, store, &prepared, seen.judged.passed, &seen.strays) {
-        Ok(()) => {}
-        Err(error) => return Err(error),
+    match assert_prepared(alloc, store, &prepared) {
+        Ok(judged) => Ok(Outcome {
+            verdict: verdict_in_place(judged.passed),
+            path: prepared.path,
+            warnings: judged.warnings,
+            fails: false,
+        }),
+        Err(error) => Err(error),
     }
-    let verdict = if seen.judged.passed {
-        Verdict::Passed
-    } else {
-        Verdict::Updated
-    };
-    Ok(Outcome {
-        verdict,
-        path: prepared.path,
-        warnings: seen.judged.warnings,
-        fails: false,
-    })
 }
 
 /// Asserts that the tree is that of the snapshot of this name, by what its file holds.

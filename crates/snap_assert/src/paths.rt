@@ -1,5 +1,6 @@
 //! The path of a snapshot, and the metadata of a new one.
-ghost use Rattle.std.specs.Prelude.{◌≡◌, ◌++◌, IfOk, OnOk};
+ghost use Rattle.std.specs.Prelude.{◌≡◌, ◌++◌, [], IfOk, OnOk, unwrap_or};
+ghost use Rattle.snap_path.specs.Paths.{name_of};
 ghost use Rattle.std.specs.Str.{chars};
 ghost use Rattle.std.specs.List.{flat_map};
 ghost use Rattle.snap_store.specs.Views.{meta_of};
@@ -75,6 +76,16 @@ fn is_doctest_function(function: &str) -> bool
     behind_ascii(function, "rust_out::main::_doctest").is_some()
 }
 
+/// The name of the assertion's file.
+fn name_of_file(place: &Place) -> &str
+    ensures { chars result.now ≡ unwrap_or (name_of (place_of place.now).file) [] }
+{
+    match path_name(place.file()) {
+        Some(name) => name,
+        None => "",
+    }
+}
+
 /// What stands before the name in the name of the file.
 fn prefix(alloc: Global, place: &Place) -> Result<Text, OutOfMemory>
     ensures { IfOk result (λ text. text ≡ place_prefix (place_of place.now)) }
@@ -82,7 +93,7 @@ fn prefix(alloc: Global, place: &Place) -> Result<Text, OutOfMemory>
     let mut text = Text::empty();
     if is_doctest_function(place.function().as_str()) {
         text.push_ascii(alloc, "doctest_")?;
-        push_dotless(&mut text, alloc, path_name(place.file()).unwrap_or(""))?;
+        push_dotless(&mut text, alloc, name_of_file(place))?;
     } else {
         push_module(&mut text, alloc, place.module_name().as_str())?;
     }

@@ -3,8 +3,8 @@ ghost use Rattle.std.specs.Prelude.{◌≡◌, List, ℕ, IfOk, IsErrOf, IsTrue,
 ghost use Rattle.std.specs.Str.{chars};
 ghost use Rattle.std.specs.Char.{is_ascii};
 ghost use Rattle.std.specs.List.{list_all};
-ghost use Rattle.snap_content.specs.Plain.{dict, Entries, pairs_made};
-ghost use Rattle.snap_content.specs.View.{pair_trees};
+ghost use Rattle.snap_content.specs.Plain.{Plain, dict, Entries, content_of, pairs_made};
+ghost use Rattle.snap_content.specs.View.{tree, pair_trees};
 ghost use Rattle.snap_assert.specs.Requests.{RequestView, Spells, ReadsAs, is_keyed, holds_key, request_keys, request_in};
 ghost use Rattle.snap_assert.specs.RequestOf.{request_of};
 
@@ -113,6 +113,16 @@ fn are_keyed(pairs: &[(Content, Content)]) -> bool
     pairs.len() == held_keys(pairs)
 }
 
+/// The request that a tree is, where a reader made it.
+fn request_of_content(alloc: Global, content: &Content) -> Result<Option<Request>, OutOfMemory>
+    ensures { (plain : Plain) → tree content.now ≡ content_of plain → IfOk result (λ found. option_map request_of found ≡ request_in plain) }
+{
+    let Content::Map(pairs) = content else {
+        return Ok(None);
+    };
+    request_of_pairs(alloc, pairs.as_slice())
+}
+
 /// Reads a document. It is refused exactly where it is no printed text of a request with simple keys.
 pub fn read_request(alloc: Global, document: &[u8]) -> Result<Request, RequestError>
     ensures ok { IfOk result (λ request. ReadsAs document.now (request_of request)) }
@@ -122,13 +132,21 @@ pub fn read_request(alloc: Global, document: &[u8]) -> Result<Request, RequestEr
         return Err(RequestError::NoRequest);
     };
     match yaml::parse_str(alloc, text, &Text::empty()) {
-        Ok(Content::Map(pairs)) => match request_of_pairs(alloc, pairs.as_slice()) {
+        Ok(content) => match request_of_content(alloc, &content) {
             Ok(Some(request)) => Ok(request),
             Ok(None) => Err(RequestError::NoRequest),
             Err(_) => Err(RequestError::OutOfMemory),
         },
-        Ok(_) => Err(RequestError::NoRequest),
-        Err(Error::OutOfMemory) => Err(RequestError::OutOfMemory),
-        Err(_) => Err(RequestError::NoRequest),
+        Err(error) => Err(refusal_of(&error)),
+    }
+}
+
+/// What the reader's error means for a document. Want of memory is never taken for a text that is no request.
+fn refusal_of(error: &Error) -> RequestError
+    ensures { result ≡ RequestError.NoRequest → error.now ≡ Error.OutOfMemory → ⊥ }
+{
+    match error {
+        Error::OutOfMemory => RequestError::OutOfMemory,
+        _ => RequestError::NoRequest,
     }
 }

@@ -15,6 +15,12 @@ use snap_outside::{Store, StoreError};
 use snap_path::path_join;
 use std::alloc::Global;
 
+fn holds_slash_text(text: &str) -> bool
+    ensures { result ≡ holds_slash (chars text.now) }
+{
+    text.chars().any(|c| c == '/')
+}
+
 /// Whether this path is left behind by payloads of the snapshot's path.
 fn is_stray_path(path: &Text, found: &Text) -> bool
     ensures { result ≡ is_stray path.now found.now }
@@ -23,7 +29,7 @@ fn is_stray_path(path: &Text, found: &Text) -> bool
         None => false,
         Some(rest) => match behind_ascii(rest, ".new.") {
             None => false,
-            Some(rest) => !rest.chars().any(|c| c == '/'),
+            Some(rest) => !holds_slash_text(rest),
         },
     }
 }

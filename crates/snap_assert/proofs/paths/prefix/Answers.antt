@@ -1,12 +1,15 @@
-use Rattle.std.proofs.Common.{rules, ◌≡◌, ◌++◌, IfOk, OnOk, ℕ, ◌+◌, ◌-◌, ◌*◌, ◌<◌, ◌≤◌, length, ◌/◌, ◌%◌, Bool, true, false, nat_eq, nat_lt, List, [], ◌∷◌, slice_index_or, slice_set, bit_and, bit_or, Fits, w8, w32, w64, Bor, MutBor}
-use Rattle.std.specs.Str.{chars}
-use Rattle.std.specs.List.{flat_map}
-use Rattle.snap_store.specs.Views.{meta_of}
-use Rattle.snap_assert.specs.Settings.{settings_of}
+use Rattle.std.proofs.Common.{◌∙◌}
 use Rattle.snap_assert.specs.Place.{place_of}
-use Rattle.snap_assert.specs.SnapshotPath.{flat_character, dotless_character, flat_module, is_doctest, place_prefix, file_name, path_of, new_meta}
+use Rattle.snap_assert.proofs.Prefixes.{of_doctest, of_module}
 use Rattle.snap_assert.proofs.paths.prefix.Goals as goal
+use Rattle.snap_assert.proofs.paths.prefix.Goals.{then-is_doctest_function+in_ok-push_ascii+in_ok-push_dotless, else-is_doctest_function+in_ok-push_module}
 
--- src/paths.rt:79:1
 pub returns : goal.returns
-returns c = ?
+returns c = elim c.if-is_doctest_function.branch [
+  then-is_doctest_function+in_ok-push_ascii+in_ok-push_dotless w ↦
+      of_doctest (place_of c.args.place.now) _ _ _ _ _ _ _ _ c.is_doctest_function.ensures (c.as_str.ensures ∙ c.function.ensures) w.if-is_doctest_function.true
+      c.empty-text.ensures w.in_ok-push_ascii.ensures.ok w.name_of_file.ensures w.in_ok-push_dotless.ensures w.text-is c.in_ok-push_ascii-2.ensures.ok
+  | else-is_doctest_function+in_ok-push_module w ↦
+      of_module (place_of c.args.place.now) _ _ _ _ _ _ _ c.is_doctest_function.ensures (c.as_str.ensures ∙ c.function.ensures) w.if-is_doctest_function.false
+      c.empty-text.ensures (w.as_str-else-is_doctest_function.ensures ∙ w.module_name.ensures) w.in_ok-push_module.ensures w.text-is c.in_ok-push_ascii-2.ensures.ok
+]

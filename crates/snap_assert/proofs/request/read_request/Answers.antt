@@ -1,21 +1,25 @@
-use Rattle.std.proofs.Common.{rules, ◌≡◌, List, ℕ, IfOk, IsErrOf, IsTrue, option_map, count_by, ◌≤◌, if◌then◌else◌, ◌+◌, ◌-◌, ◌*◌, ◌<◌, length, ◌/◌, ◌%◌, Bool, true, false, nat_eq, nat_lt, [], ◌∷◌, ◌++◌, slice_index_or, slice_set, bit_and, bit_or, Fits, w8, w32, w64, Bor, MutBor}
-use Rattle.std.specs.Str.{chars}
-use Rattle.std.specs.Char.{is_ascii}
-use Rattle.std.specs.List.{list_all}
-use Rattle.snap_content.specs.Plain.{dict, Entries, pairs_made}
-use Rattle.snap_content.specs.View.{pair_trees}
-use Rattle.snap_assert.specs.Requests.{RequestView, Spells, ReadsAs, is_keyed, holds_key, request_keys, request_in}
+use Rattle.std.proofs.Common.{◌≡◌, ap, sym, ◌∙◌, option_map, IsErrOf, Err}
 use Rattle.snap_assert.specs.RequestOf.{request_of}
+use Rattle.snap_assert.specs.declared.request.Request.{Request}
+use Rattle.snap_assert.specs.declared.request.RequestError.{RequestError}
+use Rattle.snap_assert.proofs.RequestMade.{spelled, none_spelled, none_parsed}
 use Rattle.snap_assert.proofs.request.read_request.Goals as goal
 
--- src/request.rt:120:1
+error_is : (error wanted : RequestError) → IsErrOf {T = Request} (Err error) wanted → error ≡ wanted
+error_is error wanted is = cc is
+
 pub returns-in-Ok-Some-clause-ok : goal.returns-in-Ok-Some-clause-ok
-returns-in-Ok-Some-clause-ok c = ?
+returns-in-Ok-Some-clause-ok c =
+    let read = c.in-Ok-parse_str.ensures.end in
+    spelled _ _ _ (request_of c.in-Ok-Some.request) c.in-Ok.ensures.cases.0 c.in-Ok.ensures.cases.1 read
+    (ap (option_map request_of) (sym c.in-Ok-Some.field-0-is) ∙ c.in-Ok-Some.ensures read.plain read.tree_is)
 
--- src/request.rt:120:1
 pub returns-in-Ok-None-clause-refused : goal.returns-in-Ok-None-clause-refused
-returns-in-Ok-None-clause-refused c = ?
+returns-in-Ok-None-clause-refused c = λ _.
+    let read = c.in-Ok-parse_str.ensures.end in
+    none_spelled _ _ _ c.in-Ok.ensures.cases.0 read
+    (ap (option_map request_of) (sym c.in-Ok-None.field-0-is) ∙ c.in-Ok-None.ensures read.plain read.tree_is)
 
--- src/request.rt:120:1
-pub returns-in-Ok-parse_str : goal.returns-in-Ok-parse_str
-returns-in-Ok-parse_str c = ?
+pub returns-clause-refused : goal.returns-clause-refused
+returns-clause-refused c = λ is.
+    none_parsed _ _ _ c.in-Err.error c.in-Ok.ensures.cases.0 c.in-Err.ensures.end (c.refusal_of.ensures (error_is c.refusal_of.result _ is))

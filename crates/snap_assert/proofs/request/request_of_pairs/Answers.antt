@@ -1,13 +1,16 @@
-use Rattle.std.proofs.Common.{rules, ◌≡◌, List, ℕ, IfOk, IsErrOf, IsTrue, option_map, count_by, ◌≤◌, if◌then◌else◌, ◌+◌, ◌-◌, ◌*◌, ◌<◌, length, ◌/◌, ◌%◌, Bool, true, false, nat_eq, nat_lt, [], ◌∷◌, ◌++◌, slice_index_or, slice_set, bit_and, bit_or, Fits, w8, w32, w64, Bor, MutBor}
-use Rattle.std.specs.Str.{chars}
-use Rattle.std.specs.Char.{is_ascii}
-use Rattle.std.specs.List.{list_all}
-use Rattle.snap_content.specs.Plain.{dict, Entries, pairs_made}
-use Rattle.snap_content.specs.View.{pair_trees}
-use Rattle.snap_assert.specs.Requests.{RequestView, Spells, ReadsAs, is_keyed, holds_key, request_keys, request_in}
-use Rattle.snap_assert.specs.RequestOf.{request_of}
+use Rattle.std.proofs.Common.{ap, sym, ◌∙◌, Some}
+use Rattle.snap_assert.specs.Place.{names_file}
+use Rattle.snap_assert.proofs.RequestMade.{request_made}
 use Rattle.snap_assert.proofs.request.request_of_pairs.Goals as goal
 
--- src/request.rt:47:1
 pub returns : goal.returns
-returns c = ?
+returns c = λ entries made.
+    sym (request_made entries _ _ _ _ _ _
+    (sym (c.are_keyed.ensures entries made) ∙ c.if-not-are_keyed.false)
+    (sym (c.in-Some.ensures entries made) ∙ ap Some (sym c.in_ok-from_str.ensures))
+    (sym (c.in-Some-text_named.ensures entries made) ∙ ap Some (sym c.in_ok-from_str-2.ensures))
+    (sym (c.in-Some-line_named.ensures entries made))
+    (sym (c.in-Some-text_named-2.ensures entries made) ∙ ap Some (sym c.in_ok-from_str-3.ensures))
+    (sym (c.in-Some-text_named-3.ensures entries made) ∙ ap Some (sym c.in_ok-from_str-4.ensures))
+    (ap Some c.in_ok-try_clone.ensures ∙ c.in-Some-value_named.ensures entries made)
+    (ap names_file c.in_ok-from_str-2.ensures ∙ sym c.is_file_path.ensures ∙ c.if-not-is_file_path.false))

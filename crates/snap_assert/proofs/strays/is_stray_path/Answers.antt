@@ -1,22 +1,11 @@
-use Rattle.std.proofs.Common.{rules, ◌≡◌, Some, IfOk, OnOk, OnErr, map, ℕ, ◌+◌, ◌-◌, ◌*◌, ◌<◌, ◌≤◌, length, ◌/◌, ◌%◌, Bool, true, false, nat_eq, nat_lt, List, [], ◌∷◌, ◌++◌, slice_index_or, slice_set, bit_and, bit_or, Fits, w8, w32, w64, Bor, MutBor}
-use Rattle.std.specs.List.{filter}
-use Rattle.std.specs.Str.{chars}
-use Rattle.snap_outside.specs.Causes.{StoreCause}
-use Rattle.snap_outside.specs.Files.{Files, SameOutside}
-use Rattle.snap_path.specs.Paths.{joined, parent_of}
-use Rattle.snap_assert.specs.Place.{holds_slash}
-use Rattle.snap_assert.specs.Steps.{is_stray, is_near, cleared}
-use Rattle.snap_assert.specs.Strays.{IsFilePath, AreStrays}
+use Rattle.snap_assert.proofs.StrayPaths.{not_behind, not_new, behind_new}
 use Rattle.snap_assert.proofs.strays.is_stray_path.Goals as goal
 
--- src/strays.rt:19:1
 pub returns-in-None : goal.returns-in-None
-returns-in-None c = ?
+returns-in-None c = not_behind c.args.path.now _ c.args.found.now _ c.as_str-2.ensures c.as_str.ensures c.in-None.ensures
 
--- src/strays.rt:19:1
 pub returns-in-None-behind_ascii : goal.returns-in-None-behind_ascii
-returns-in-None-behind_ascii c = ?
+returns-in-None-behind_ascii c = not_new c.args.path.now _ c.args.found.now _ _ c.as_str-2.ensures c.as_str.ensures c.in-Some.ensures c.in-None-behind_ascii.ensures
 
--- src/strays.rt:19:1
 pub returns-in-Some-behind_ascii : goal.returns-in-Some-behind_ascii
-returns-in-Some-behind_ascii c = ?
+returns-in-Some-behind_ascii c = behind_new c.args.path.now _ c.args.found.now _ _ _ _ c.as_str-2.ensures c.as_str.ensures c.in-Some.ensures c.in-Some-behind_ascii.ensures c.holds_slash_text.ensures

@@ -1,8 +1,12 @@
-use Rattle.std.proofs.Common.{rules, ◌≡◌, ◌++◌, IfOk, OnOk, codes, ℕ, ◌+◌, ◌-◌, ◌*◌, ◌<◌, ◌≤◌, length, ◌/◌, ◌%◌, Bool, true, false, nat_eq, nat_lt, List, [], ◌∷◌, slice_index_or, slice_set, bit_and, bit_or, Fits, w8, w32, w64, Bor, MutBor}
+use Rattle.std.proofs.Common.{◌≡◌, ◌++◌, List, ℕ, ap, ◌∙◌, append_assoc, codes}
 use Rattle.std.specs.Fmt.{decimal}
-use Rattle.snap_assert.specs.Describe.{kind_text, code_of, description}
 use Rattle.snap_assert.proofs.status.Status.describe.Goals as goal
 
--- src/status.rt:57:5
+regrouped : (head digits middle end first second third : List ℕ) → first ≡ head ++ digits → second ≡ first ++ middle → third ≡ second ++ end
+    → third ≡ head ++ (digits ++ (middle ++ end))
+regrouped head digits middle end first second third e f g =
+    g ∙ ap (λ t. t ++ end) f ∙ ap (λ t. (t ++ middle) ++ end) e ∙ simp append_assoc
+
 pub returns-in_ok-push_text-in-FileIo : goal.returns-in_ok-push_text-in-FileIo
-returns-in_ok-push_text-in-FileIo c = ?
+returns-in_ok-push_text-in-FileIo c =
+    rw c.in-FileIo.is (regrouped (codes "snap: document ") (decimal c.in-FileIo.document) (codes ": file fault at ") c.in-FileIo.path _ _ _ c.in_ok-text-in-FileIo.ensures c.in_ok-push_ascii-in-FileIo.ensures.ok c.in_ok-push_text-in-FileIo.ensures.ok)

@@ -1,0 +1,115 @@
+-- The request that the pairs of a map are.
+use Rattle.std.proofs.Common.{◌≡◌, ℕ, ◌^◌, ℤ, pos, negsuc, Bool, true, false, cond, nat_lt, List, [], ◌∷◌, length, Option, None, Some, option_map, refl, ap, sym, ◌∙◌, codes, arith}
+use Rattle.snap_content.specs.Plain as p
+use Rattle.snap_content.specs.Plain.{Plain, Entries, dict}
+use Rattle.snap_content.specs.Tree as t
+use Rattle.snap_content.specs.View.{tree, pair_trees, pair_list}
+use Rattle.snap_content.specs.declared.content.Content.{Content, Map}
+use Rattle.snap_content.specs.declared.lists.Pairs.{Pairs}
+use Rattle.snap_content.proofs.PlainMade.{plain_made}
+use Rattle.snap_content.proofs.Views.{tree-Map}
+use Rattle.snap_store.specs.Fields.{last_value, text_value, line_value}
+use Rattle.snap_assert.specs.Place.{names_file}
+use Rattle.std.specs.Str.{IsUtf8, chars}
+use Rattle.snap_content.specs.declared.error.Error.{Error}
+use Rattle.snap_content.specs.declared.error.Error.TheVariants.{FailedParsingYaml, UnexpectedDataType, MissingField, FileIo, FloatText, JsonKey, NotText, NoFile, OutOfMemory}
+use Rattle.snap_emit.specs.Parsed.{IsReadFrom, RefusalEnd}
+use Rattle.snap_assert.specs.Requests.{RequestView, Spells, ReadsAs, needed, pair_count, request_from, request_in, is_keyed}
+use Rattle.snap_assert.proofs.Requesting.{reads_as, no_request_read}
+
+others_same : (a b c d : t.Tree) (x y : t.TreePairs) → t.pair a b x ≡ t.pair c d y → x ≡ y
+others_same a b c d x y e = cc
+
+-- there are as many entries as pairs that were made of them
+pub as_many : (qs : List (Content × Content)) (es : Entries) → pair_trees qs ≡ p.pairs_made es → length qs ≡ pair_count es
+as_many [] p.no_entries e = refl
+as_many [] (p.entry k v es) e = absurd (cc)
+as_many (q ∷ qs) p.no_entries e = absurd (cc)
+as_many (q ∷ qs) (p.entry k v es) e =
+    let rest = as_many qs es (others_same _ _ _ _ _ _ e) in omega arith
+
+-- the plain value that a tree was made of
+record IsValue (made : t.Tree) (held : Option Plain) : Type 0 where
+  value : Plain
+  is : held ≡ Some value
+  plain_is : p.plain made ≡ value
+
+value_of : (made : t.Tree) (held : Option Plain) → Some made ≡ option_map p.content_of held → IsValue made held
+value_of made None e = absurd (cc)
+value_of made (Some v) e = let same : made ≡ p.content_of v = cc in record { value = v; is = refl; plain_is = ap p.plain same ∙ plain_made v }
+
+needed_by : {A B : Type 0} (held : Option A) (made : A → Option B) (value : A) → held ≡ Some value → needed held made ≡ made value
+needed_by held made value e = ap (λ o. needed o made) e
+
+-- a map with these values at its keys, and no other key, is this request
+pub request_made : (es : Entries) (module_name file name expr : List ℕ) (line : ℕ) (made : t.Tree) → is_keyed es ≡ true
+    → text_value (last_value (codes "module") es) ≡ Some module_name → text_value (last_value (codes "file") es) ≡ Some file
+    → line_value (last_value (codes "line") es) ≡ Some line → text_value (last_value (codes "name") es) ≡ Some name
+    → text_value (last_value (codes "expr") es) ≡ Some expr → Some made ≡ option_map p.content_of (last_value (codes "value") es) → names_file file ≡ true
+    → request_in (dict es) ≡ Some (record { module_name = module_name; file = file; line = line; name = name; expr = expr; value = p.plain made })
+request_made es module_name file name expr line made keyed at_module at_file at_line at_name at_expr at_value is_file =
+    let found = value_of made (last_value (codes "value") es) at_value in
+    ap (λ b. cond b (request_from es) None) keyed
+    ∙ needed_by (text_value (last_value (codes "module") es)) _ module_name at_module
+    ∙ needed_by (text_value (last_value (codes "file") es)) _ file at_file
+    ∙ needed_by (line_value (last_value (codes "line") es)) _ line at_line
+    ∙ needed_by (text_value (last_value (codes "name") es)) _ name at_name
+    ∙ needed_by (text_value (last_value (codes "expr") es)) _ expr at_expr
+    ∙ needed_by (last_value (codes "value") es) _ found.value found.is
+    ∙ ap (λ b. cond b (Some (record { module_name = module_name; file = file; line = line; name = name; expr = expr; value = found.value })) None) is_file
+    ∙ ap (λ v. Some (record { module_name = module_name; file = file; line = line; name = name; expr = expr; value = v })) (sym found.plain_is)
+
+-- a map that was read was made of a plain map
+
+pub record IsDict (plain : Plain) (pairs : List (Content × Content)) : Type 0 where
+  pub held : Entries
+  pub is : plain ≡ dict held
+  pub made : pair_trees pairs ≡ p.pairs_made held
+
+no_natural : (small middle : Bool) (n : ℕ) (ps : t.TreePairs) → t.map ps ≡ cond small (t.i64 (pos n)) (cond middle (t.u64 n) (t.u128 n)) → ⊥
+no_natural true middle n ps e = cc
+no_natural false true n ps e = cc
+no_natural false false n ps e = cc
+
+no_negative : (small : Bool) (n : ℕ) (ps : t.TreePairs) → t.map ps ≡ cond small (t.i64 (negsuc n)) (t.i128 (negsuc n)) → ⊥
+no_negative true n ps e = cc
+no_negative false n ps e = cc
+
+no_number : (z : ℤ) (ps : t.TreePairs) → t.map ps ≡ p.number_tree z → ⊥
+no_number (pos n) ps e = no_natural (nat_lt n (2 ^ 63)) (nat_lt n (2 ^ 64)) n ps e
+no_number (negsuc n) ps e = no_negative (nat_lt n (2 ^ 63)) n ps e
+
+dict_made : (plain : Plain) (pairs : List (Content × Content)) → t.map (pair_trees pairs) ≡ p.content_of plain → IsDict plain pairs
+dict_made p.null pairs e = absurd (cc)
+dict_made (p.bool b) pairs e = absurd (cc)
+dict_made (p.int z) pairs e = absurd (no_number z (pair_trees pairs) e)
+dict_made (p.text s) pairs e = absurd (cc)
+dict_made (p.list items) pairs e = absurd (cc)
+dict_made (dict held) pairs e = record { held = held; is = refl; made = cc }
+
+pub dict_of : (content : Content) (pairs : Pairs) (plain : Plain) → content ≡ Map pairs → tree content ≡ p.content_of plain → IsDict plain (pair_list pairs)
+dict_of content pairs plain is made = dict_made plain (pair_list pairs) (sym (tree-Map pairs) ∙ sym (ap tree is) ∙ made)
+
+-- the request in the tree that was read is the one that the document spells
+pub spelled : (document text : List ℕ) (content : Content) (request : RequestView) → text ≡ document → IsUtf8 document → (read : IsReadFrom content (chars text))
+    → Some request ≡ request_in read.plain → ReadsAs document request
+spelled document text content request same utf8 read held =
+    reads_as document request (record { utf8 = utf8; tree = read.plain; readable = read.readable; printed = ap chars (sym same) ∙ read.text_is; request_is = sym held })
+
+-- no request is spelled where none is in the tree that was read
+pub none_spelled : (document text : List ℕ) (content : Content) → text ≡ document → (read : IsReadFrom content (chars text))
+    → None ≡ request_in read.plain → (r : RequestView) → Spells document r → ⊥
+none_spelled document text content same read held = no_request_read document read.plain read.readable (ap chars (sym same) ∙ read.text_is) (sym held)
+
+-- nor where no tree was read
+pub none_parsed : (document text path : List ℕ) (error : Error) → text ≡ document → RefusalEnd (chars text) path error → (error ≡ OutOfMemory → ⊥)
+    → (r : RequestView) → Spells document r → ⊥
+none_parsed document text path (FailedParsingYaml named) same end other r s = end.1 s.tree s.readable (ap chars same ∙ s.printed)
+none_parsed document text path UnexpectedDataType same end other r s = end
+none_parsed document text path MissingField same end other r s = end
+none_parsed document text path (FileIo named) same end other r s = end
+none_parsed document text path (FloatText named) same end other r s = end
+none_parsed document text path JsonKey same end other r s = end
+none_parsed document text path (NotText named) same end other r s = end
+none_parsed document text path (NoFile named) same end other r s = end
+none_parsed document text path OutOfMemory same end other r s = other refl
