@@ -1,12 +1,25 @@
 -- What one document leaves.
-use Rattle.std.proofs.Common.{◌≡◌, ℕ, List, [], ◌∷◌, ◌++◌, Bool, true, false, cond, Option, None, Some, refl, sym, ap, ◌∙◌, subst}
+use Rattle.std.proofs.Common.{◌≡◌, ◌⊎◌, inl, inr, ℕ, List, [], ◌∷◌, ◌++◌, Bool, true, false, cond, Option, None, Some, refl, sym, ap, ◌∙◌, subst, Err, encode_utf8_all}
+use Rattle.std.proofs.lemmas.List.{append-nil}
+use Rattle.std.specs.FinMap.{get}
+use Rattle.snap_outside.specs.Causes.{Rose}
 use Rattle.snap_outside.specs.Files.{Files, SameOutside}
-use Rattle.snap_assert.specs.Requests.{RequestView}
-use Rattle.snap_assert.specs.Answers.{RunWords, Answer, asked_by, step_of}
-use Rattle.snap_assert.specs.Outcomes.{OnlyNear}
-use Rattle.snap_assert.specs.Runs.{AssertionStops, StopsAt, SomewhereNear, FileFails}
+use Rattle.snap_outside.specs.Streams.{HoldsFront}
+use Rattle.snap_assert.specs.Settings.{SettingsView, new_settings}
+use Rattle.snap_assert.specs.Place.{PlaceView}
+use Rattle.snap_assert.specs.Judging.{May}
+use Rattle.snap_assert.specs.Steps.{Asked, asked_of, step, verdict_of}
+use Rattle.snap_assert.specs.Requests.{RequestView, ReadsAs}
+use Rattle.snap_assert.specs.Answers.{RunWords, Answer, place_by, asked_by, step_of, line_text, line_of}
+use Rattle.snap_assert.specs.Outcomes.{OnlyNear, IsAnswered, ErrorCause}
+use Rattle.snap_assert.specs.Runner.{words_of}
+use Rattle.snap_assert.specs.Runs.{Ran, AssertionStops, StopsAt, SomewhereNear, FileFails, LineFails, IsDocumentAnswered, StoreCount}
 use Rattle.snap_assert.specs.declared.documents.DocumentError.{DocumentError}
 use Rattle.snap_assert.specs.declared.documents.DocumentError.TheVariants.{NoRequest, FileIo, WriteFault, OutOfMemory}
+use Rattle.snap_assert.specs.declared.error.AssertError.{AssertError}
+use Rattle.snap_assert.specs.declared.error.AssertError.TheVariants as refusal
+use Rattle.snap_assert.specs.declared.outcome.Outcome.{Outcome}
+use Rattle.snap_assert.specs.declared.runner.Runner.{Runner}
 use Rattle.snap_assert.proofs.Removals.{step_near, untouched}
 
 -- a document that comes to no answer stops the run with nothing written
@@ -24,3 +37,89 @@ stepped_near words answer f g stands = record {
   path = (asked_by words.workspace answer.request).path;
   others = λ m told. step_near words.update words.force_update (asked_by words.workspace answer.request) answer.passed m g (stands m told);
 }
+
+-- what new settings and the place of a request ask is what the request asks
+pub asked_is : (settings : SettingsView) (place : PlaceView) (workspace : List ℕ) (r : RequestView) → settings ≡ new_settings → place ≡ place_by workspace r
+    → asked_of settings place r.name r.value ≡ asked_by workspace r
+asked_is settings place workspace r new is = ap (λ s. asked_of s place r.name r.value) new ∙ ap (λ p. asked_of new_settings p r.name r.value) is
+
+pub document_answered : (runner : Runner) (document : List ℕ) (r : RequestView) (asked : Asked) (outcome : Outcome) (f g : Option Files)
+    → ReadsAs document r → asked ≡ asked_by runner.workspace r → IsAnswered runner.config asked outcome f g → IsDocumentAnswered (words_of runner) document outcome f g
+document_answered runner document r asked outcome f g reads is x = record {
+  answer = record { request = r; passed = x.passed };
+  reads = reads;
+  verdict = x.verdict;
+  path = x.path ∙ ap (λ a. a.path) is;
+  allowed = λ m e. subst (λ a. May x.passed (get m a.path) a.tree) is (x.allowed m e);
+  stands = λ m e. x.stands m e ∙ ap (λ a. Some (step runner.config.update runner.config.force_update a x.passed m)) is;
+}
+
+pub document_fails : (runner : Runner) (document : List ℕ) (r : RequestView) (asked : Asked) (f g : Option Files)
+    → ReadsAs document r → asked ≡ asked_by runner.workspace r → OnlyNear asked.path f g → FileFails (words_of runner) document f g
+document_fails runner document r asked f g reads is near = record { request = r; reads = reads; others = subst (λ a. OnlyNear a.path f g) is near }
+
+line_is : (words : RunWords) (document : List ℕ) (outcome : Outcome) (line bytes : List ℕ) (f g : Option Files) (d : IsDocumentAnswered words document outcome f g)
+    → line ≡ line_text outcome.verdict outcome.path → bytes ≡ encode_utf8_all line → bytes ≡ line_of words d.answer
+line_is words document outcome line bytes f g d told encoded =
+    encoded ∙ ap encode_utf8_all (told ∙ ap (λ v. line_text v outcome.path) d.verdict ∙ ap (λ p. line_text (verdict_of words.update d.answer.passed) p) d.path)
+
+-- a document was answered, and its line is written
+pub document_ran : (words : RunWords) (document : List ℕ) (outcome : Outcome) (line bytes : List ℕ) (f g : Option Files) (w v : Option (List ℕ)) (d : IsDocumentAnswered words document outcome f g)
+    → line ≡ line_text outcome.verdict outcome.path → bytes ≡ encode_utf8_all line → ((x : List ℕ) → w ≡ Some x → v ≡ Some (x ++ bytes)) → Ran words (document ∷ []) (d.answer ∷ []) f g w v
+document_ran words document outcome line bytes f g w v d told encoded wrote = record {
+  reads = (d.reads, tt);
+  allowed = λ m e. (d.allowed m e, tt);
+  stands = d.stands;
+  lines = λ x e. wrote x e ∙ ap (λ b. Some (x ++ b)) (line_is words document outcome line bytes f g d told encoded ∙ sym (append-nil (line_of words d.answer)));
+}
+
+-- a document was answered, and a part of its line is written
+pub line_fails : (words : RunWords) (document : List ℕ) (outcome : Outcome) (line bytes : List ℕ) (f g : Option Files) (w v : Option (List ℕ)) (d : IsDocumentAnswered words document outcome f g)
+    → line ≡ line_text outcome.verdict outcome.path → bytes ≡ encode_utf8_all line → ((x : List ℕ) → w ≡ Some x → HoldsFront bytes x v) → LineFails words document f g w v
+line_fails words document outcome line bytes f g w v d told encoded wrote = record {
+  answer = d.answer;
+  reads = d.reads;
+  allowed = d.allowed;
+  stands = d.stands;
+  line = λ x e. subst (λ b. HoldsFront b x v) (line_is words document outcome line bytes f g d told encoded) (wrote x e);
+}
+
+-- the store failed in the work on a path, or memory was wanting
+record IsFault (before now : ℕ) (error : DocumentError) : Type 0 where
+  path : List ℕ
+  is : error ≡ FileIo path
+  rose : Rose before now
+
+record IsWant (before now : ℕ) (error : DocumentError) : Type 0 where
+  is : error ≡ OutOfMemory
+  same : now ≡ before
+
+refused_by : (before now : ℕ) (refused : AssertError) (error : DocumentError) → ErrorCause before now refused
+    → ((path : List ℕ) → refused ≡ refusal.FileIo path → error ≡ FileIo path) → (refused ≡ refusal.OutOfMemory → error ≡ OutOfMemory) → IsFault before now error ⊎ IsWant before now error
+refused_by before now refusal.OutOfMemory error cause file memory = inr (record { is = memory refl; same = cause })
+refused_by before now (refusal.FileIo path) error cause file memory = inl (record { path = path; is = file path refl; rose = cause })
+refused_by before now refusal.NameClash error cause file memory = absurd cause
+refused_by before now refusal.DoctestNeedsName error cause file memory = absurd cause
+refused_by before now (refusal.DuplicateDiffers key kept new) error cause file memory = absurd cause
+refused_by before now refusal.NamesExhausted error cause file memory = absurd cause
+refused_by before now refusal.InlineDuplicate error cause file memory = absurd cause
+refused_by before now refusal.BadExtension error cause file memory = absurd cause
+refused_by before now refusal.JsonKey error cause file memory = absurd cause
+
+-- a document whose assertion is refused
+pub refused_stops : (runner : Runner) (document : List ℕ) (r : RequestView) (asked : Asked) (f g : Option Files) (before now : ℕ) (refused : AssertError) (error : DocumentError)
+    → ErrorCause before now refused → ((path : List ℕ) → refused ≡ refusal.FileIo path → error ≡ FileIo path) → (refused ≡ refusal.OutOfMemory → error ≡ OutOfMemory)
+    → ReadsAs document r → asked ≡ asked_by runner.workspace r → OnlyNear asked.path f g → AssertionStops (words_of runner) error document f g
+refused_stops runner document r asked f g before now refused error cause file memory reads is near = ends (refused_by before now refused error cause file memory)
+  where
+    ends : IsFault before now error ⊎ IsWant before now error → AssertionStops (words_of runner) error document f g
+    ends (inl h) = subst (λ e. AssertionStops (words_of runner) e document f g) (sym h.is) (document_fails runner document r asked f g reads is near)
+    ends (inr h) = subst (λ e. AssertionStops (words_of runner) e document f g) (sym h.is) (record { path = asked.path; others = near })
+
+pub refused_count : {T : Type 0} (before now : ℕ) (refused : AssertError) (error : DocumentError)
+    → ErrorCause before now refused → ((path : List ℕ) → refused ≡ refusal.FileIo path → error ≡ FileIo path) → (refused ≡ refusal.OutOfMemory → error ≡ OutOfMemory) → StoreCount {T = T} before now (Err error)
+refused_count {T = T} before now refused error cause file memory = ends (refused_by before now refused error cause file memory)
+  where
+    ends : IsFault before now error ⊎ IsWant before now error → StoreCount {T = T} before now (Err error)
+    ends (inl h) = subst (λ e. StoreCount {T = T} before now (Err e)) (sym h.is) h.rose
+    ends (inr h) = subst (λ e. StoreCount {T = T} before now (Err e)) (sym h.is) h.same

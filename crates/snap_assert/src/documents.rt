@@ -1,5 +1,5 @@
 //! One document, and many in turn.
-ghost use Rattle.std.specs.Prelude.{◌≡◌, ◌<◌, ◌≤◌, ◌^◌, [], ◌∷◌, List, IfOk, IfErr, OnOk, length, true};
+ghost use Rattle.std.specs.Prelude.{◌≡◌, ◌<◌, ◌≤◌, ◌^◌, [], ◌∷◌, List, ℕ, IfOk, IfErr, OnOk, length, true};
 ghost use Rattle.snap_assert.specs.Cut.{documents};
 ghost use Rattle.snap_assert.specs.Place.{names_file, place_of};
 ghost use Rattle.snap_assert.specs.RequestOf.{request_of};
@@ -87,6 +87,18 @@ fn place_of_request(
     }
 }
 
+/// Why a document stops a run where its assertion comes to no answer. While a name is given and no block is open,
+/// there are no refusals but these two.
+fn error_of(error: AssertError) -> DocumentError
+    ensures file { (path : List ℕ) → error ≡ AssertError.FileIo path → result ≡ DocumentError.FileIo path }
+    ensures memory { error ≡ AssertError.OutOfMemory → result ≡ DocumentError.OutOfMemory }
+{
+    match error {
+        AssertError::FileIo(path) => DocumentError::FileIo(path),
+        _ => DocumentError::OutOfMemory,
+    }
+}
+
 /// Reads one document and makes its assertion.
 fn assert_document<F: Store>(
     alloc: Global,
@@ -122,8 +134,7 @@ fn assert_document<F: Store>(
         value,
     ) {
         Ok(outcome) => Ok(outcome),
-        Err(AssertError::FileIo(path)) => Err(DocumentError::FileIo(path)),
-        Err(_) => Err(DocumentError::OutOfMemory),
+        Err(error) => Err(error_of(error)),
     }
 }
 

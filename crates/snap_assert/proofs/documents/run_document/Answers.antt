@@ -1,0 +1,15 @@
+use Rattle.std.proofs.Common.{refl, ◌∙◌, ap}
+use Rattle.snap_assert.specs.Runner.{words_of}
+use Rattle.snap_assert.proofs.DocumentEnds.{stepped_near, document_ran, line_fails}
+use Rattle.snap_assert.proofs.documents.run_document.Goals as goal
+
+pub returns-in_default-clause-err : goal.returns-in_default-clause-err
+returns-in_default-clause-err g c = (refl, stepped_near (words_of c.args.runner.now) c.in-Ok.ensures.ok.answer _ _ c.in-Ok.ensures.ok.stands)
+
+pub returns-in-Ok-write_all-clause-ok : goal.returns-in-Ok-write_all-clause-ok
+returns-in-Ok-write_all-clause-ok g c =
+    (c.in-Ok.ensures.ok.answer, document_ran (words_of c.args.runner.now) c.args.document.now c.in-Ok.outcome c.in-Ok-line.line c.as_bytes.result.now _ _ _ _ c.in-Ok.ensures.ok c.in-Ok-line.ensures ? c.in-Ok-write_all.ensures.all)
+
+pub returns-clause-err : goal.returns-clause-err
+returns-clause-err g c =
+    line_fails (words_of c.args.runner.now) c.args.document.now c.in-Ok.outcome c.in-Ok-line.line c.as_bytes.result.now _ _ _ _ c.in-Ok.ensures.ok c.in-Ok-line.ensures ? c.in-Err-write_all.ensures.part
