@@ -116,9 +116,9 @@ refused_stops runner document r asked f g before now refused error cause file me
     ends (inl h) = subst (λ e. AssertionStops (words_of runner) e document f g) (sym h.is) (document_fails runner document r asked f g reads is near)
     ends (inr h) = subst (λ e. AssertionStops (words_of runner) e document f g) (sym h.is) (record { path = asked.path; others = near })
 
-pub refused_count : {T : Type 0} (before now : ℕ) (refused : AssertError) (error : DocumentError)
+pub refused_count : (T : Type 0) (before now : ℕ) (refused : AssertError) (error : DocumentError)
     → ErrorCause before now refused → ((path : List ℕ) → refused ≡ refusal.FileIo path → error ≡ FileIo path) → (refused ≡ refusal.OutOfMemory → error ≡ OutOfMemory) → StoreCount {T = T} before now (Err error)
-refused_count {T = T} before now refused error cause file memory = ends (refused_by before now refused error cause file memory)
+refused_count T before now refused error cause file memory = ends (refused_by before now refused error cause file memory)
   where
     ends : IsFault before now error ⊎ IsWant before now error → StoreCount {T = T} before now (Err error)
     ends (inl h) = subst (λ e. StoreCount {T = T} before now (Err e)) (sym h.is) h.rose

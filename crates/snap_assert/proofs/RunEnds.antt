@@ -1,12 +1,11 @@
 -- What the program's run comes to.
-use Rattle.std.proofs.Common.{◌≡◌, ◌<◌, ◌≤◌, ℕ, Bool, false, List, [], ◌∷◌, Option, None, Some, Result, Ok, Err, refl, sym, ap, ◌∙◌, subst, inl, inr, length, arith}
-use Rattle.snap_outside.specs.Causes.{Rose}
+use Rattle.std.proofs.Common.{◌≡◌, ◌<◌, ◌≤◌, ℕ, Bool, false, List, [], ◌∷◌, Option, None, Some, refl, sym, ap, ◌∙◌, subst, inl, inr, length, arith}
 use Rattle.snap_outside.specs.Files.{Files}
 use Rattle.snap_assert.specs.Answers.{Answer, RunWords, words_mean}
 use Rattle.snap_assert.specs.Cut.{documents}
 use Rattle.snap_assert.specs.Runner.{IsReady, words_of}
-use Rattle.snap_assert.specs.Runs.{Ran, Stops, StoreCount, SinkCount}
-use Rattle.snap_assert.specs.Status.{WordsCause, RunsTo, RunsBy, RunsFrom, IsReadToEnd, LengthCause, SourceCause, SinkCause, StoreCause, AreSpelled, IsSteady, EndsWell}
+use Rattle.snap_assert.specs.Runs.{Ran, Stops}
+use Rattle.snap_assert.specs.Status.{WordsCause, RunsTo, RunsBy, RunsFrom, LengthCause, SourceCause, SinkCause, StoreCause, AreSpelled, IsSteady, EndsWell}
 use Rattle.snap_assert.specs.StatusOf.{status_at, status_of}
 use Rattle.snap_assert.specs.declared.config.Update.{Update}
 use Rattle.snap_assert.specs.declared.config.Update.TheVariants.{InPlace}
@@ -50,28 +49,16 @@ words_are runner workspace is ready =
 said_is : (words : Option RunWords) (runner : Runner) (workspace : List ℕ) → words ≡ Some (words_at workspace InPlace false false) → runner.workspace ≡ workspace → IsReady runner → words ≡ Some (words_of runner)
 said_is words runner workspace said is ready = said ∙ ap Some (sym (words_are runner workspace is ready))
 
--- what the input's bytes are
-pub record IsInput (limit : ℕ) (bytes : List ℕ) (left left' : Option (List ℕ)) : Type 0 where
-  pub told : (xs : List ℕ) → left ≡ Some xs → bytes ≡ xs
-  pub nothing_left : (xs : List ℕ) → left ≡ Some xs → left' ≡ Some []
-  pub within : length bytes ≤ limit
-
-read_to_end : (limit : ℕ) (bytes : List ℕ) (left left' : Option (List ℕ)) → IsInput limit bytes left left' → IsReadToEnd limit left left'
-read_to_end limit bytes left left' i = record {
-  within = λ xs e. let same = i.told xs e in omega (arith, ap length same, i.within);
-  nothing_left = i.nothing_left;
-}
-
 -- the run came to its end
-pub finished : (words : Option RunWords) (runner : Runner) (workspace bytes : List ℕ) (left left' : Option (List ℕ)) (f g : Option Files) (w v : Option (List ℕ)) (limit : ℕ)
-    → words ≡ Some (words_at workspace InPlace false false) → runner.workspace ≡ workspace → IsReady runner → IsInput limit bytes left left'
+pub finished : (words : Option RunWords) (runner : Runner) (workspace bytes : List ℕ) (left : Option (List ℕ)) (f g : Option Files) (w v : Option (List ℕ))
+    → words ≡ Some (words_at workspace InPlace false false) → runner.workspace ≡ workspace → IsReady runner → ((xs : List ℕ) → left ≡ Some xs → bytes ≡ xs)
     → (answers : List Answer) × Ran (words_of runner) (documents bytes) answers f g w v
     → RunsFrom AllPassed words left f g w v
-finished words runner workspace bytes left left' f g w v limit said is ready i ran =
+finished words runner workspace bytes left f g w v said is ready told ran =
     let Runs : Option RunWords → Type 0 = λ o. RunsFrom AllPassed o left f g w v in
     subst Runs (sym (said_is words runner workspace said is ready)) (record {
       input = bytes;
-      told = i.told;
+      told = told;
       runs = record { answers = ran.0; ran = ran.1; failing = none_fails (words_of runner) ran.0 ready.in_place };
     })
 
@@ -83,67 +70,18 @@ stopped_at n error.WriteFault stop said docs f g w v is s = record { stop = stop
 stopped_at n error.OutOfMemory stop said docs f g w v is s = inr (record { stop = stop; status_is = is; stops = s })
 
 -- the run stopped at a document
-pub stopped : (status : Status) (words : Option RunWords) (runner : Runner) (stop : Stop) (workspace bytes : List ℕ) (left left' : Option (List ℕ)) (f g : Option Files) (w v : Option (List ℕ)) (limit : ℕ)
-    → status ≡ status_of stop → words ≡ Some (words_at workspace InPlace false false) → runner.workspace ≡ workspace → IsReady runner → IsInput limit bytes left left'
+pub stopped : (status : Status) (words : Option RunWords) (runner : Runner) (stop : Stop) (workspace bytes : List ℕ) (left : Option (List ℕ)) (f g : Option Files) (w v : Option (List ℕ))
+    → status ≡ status_of stop → words ≡ Some (words_at workspace InPlace false false) → runner.workspace ≡ workspace → IsReady runner → ((xs : List ℕ) → left ≡ Some xs → bytes ≡ xs)
     → Stops (words_of runner) (documents bytes) stop f g w v
     → RunsFrom status words left f g w v
-stopped status words runner stop workspace bytes left left' f g w v limit status_is said is ready i s =
+stopped status words runner stop workspace bytes left f g w v status_is said is ready told s =
     let Runs : Option RunWords → Type 0 = λ o. RunsFrom status o left f g w v in
     let To : Status → Type 0 = λ x. RunsTo x (words_of runner) (documents bytes) f g w v in
     subst Runs (sym (said_is words runner workspace said is ready)) (record {
       input = bytes;
-      told = i.told;
+      told = told;
       runs = subst To (sym status_is) (stopped_at stop.document stop.error stop (words_of runner) (documents bytes) f g w v refl s);
     })
-
-words_at_stop : (words : List (List ℕ)) (said : RunWords) (n : ℕ) (e : DocumentError) → words_mean words ≡ Some said → WordsCause words (status_at n e)
-words_at_stop words said n error.NoRequest is = (said, is)
-words_at_stop words said n (error.FileIo path) is = (said, is)
-words_at_stop words said n error.WriteFault is = (said, is)
-words_at_stop words said n error.OutOfMemory is = (said, is)
-
-pub stopped_words : (words : List (List ℕ)) (said : RunWords) (status : Status) (stop : Stop) → status ≡ status_of stop → words_mean words ≡ Some said → WordsCause words status
-stopped_words words said status stop status_is is = subst (WordsCause words) (sym status_is) (words_at_stop words said stop.document stop.error is)
-
-length_at_stop : (limit : ℕ) (left left' : Option (List ℕ)) (n : ℕ) (e : DocumentError) → IsReadToEnd limit left left' → LengthCause limit left left' (status_at n e)
-length_at_stop limit left left' n error.NoRequest r = r
-length_at_stop limit left left' n (error.FileIo path) r = r
-length_at_stop limit left left' n error.WriteFault r = r
-length_at_stop limit left left' n error.OutOfMemory r = tt
-
-pub finished_length : (limit : ℕ) (bytes : List ℕ) (left left' : Option (List ℕ)) → IsInput limit bytes left left' → LengthCause limit left left' AllPassed
-finished_length limit bytes left left' i = read_to_end limit bytes left left' i
-
-pub stopped_length : (limit : ℕ) (bytes : List ℕ) (left left' : Option (List ℕ)) (status : Status) (stop : Stop) → status ≡ status_of stop → IsInput limit bytes left left' → LengthCause limit left left' status
-stopped_length limit bytes left left' status stop status_is i =
-    subst (LengthCause limit left left') (sym status_is) (length_at_stop limit left left' stop.document stop.error (read_to_end limit bytes left left' i))
-
-source_at_stop : (before now n : ℕ) (e : DocumentError) → now ≡ before → SourceCause before now (status_at n e)
-source_at_stop before now n error.NoRequest h = h
-source_at_stop before now n (error.FileIo path) h = h
-source_at_stop before now n error.WriteFault h = h
-source_at_stop before now n error.OutOfMemory h = h
-
-pub stopped_source : (before now : ℕ) (status : Status) (stop : Stop) → status ≡ status_of stop → now ≡ before → SourceCause before now status
-stopped_source before now status stop status_is h = subst (SourceCause before now) (sym status_is) (source_at_stop before now stop.document stop.error h)
-
-sink_at_stop : (before now n : ℕ) (e : DocumentError) → SinkCount {T = Unit {0}} before now (Err e) → SinkCause before now (status_at n e)
-sink_at_stop before now n error.NoRequest h = h
-sink_at_stop before now n (error.FileIo path) h = h
-sink_at_stop before now n error.WriteFault h = h
-sink_at_stop before now n error.OutOfMemory h = h
-
-pub stopped_sink : (before now : ℕ) (status : Status) (stop : Stop) → status ≡ status_of stop → SinkCount {T = Unit {0}} before now (Err stop.error) → SinkCause before now status
-stopped_sink before now status stop status_is h = subst (SinkCause before now) (sym status_is) (sink_at_stop before now stop.document stop.error h)
-
-store_at_stop : (before now n : ℕ) (e : DocumentError) → StoreCount {T = Unit {0}} before now (Err e) → StoreCause before now (status_at n e)
-store_at_stop before now n error.NoRequest h = h
-store_at_stop before now n (error.FileIo path) h = h
-store_at_stop before now n error.WriteFault h = h
-store_at_stop before now n error.OutOfMemory h = h
-
-pub stopped_store : (before now : ℕ) (status : Status) (stop : Stop) → status ≡ status_of stop → StoreCount {T = Unit {0}} before now (Err stop.error) → StoreCause before now status
-stopped_store before now status stop status_is h = subst (StoreCause before now) (sym status_is) (store_at_stop before now stop.document stop.error h)
 
 -- without faults, a run over documents that spell requests ends well
 pub complete : (status : Status) (words : List (List ℕ)) (limit : ℕ) (left left' : Option (List ℕ)) (sb sn kb kn fb fn : ℕ) (f g : Option Files) (w v : Option (List ℕ))

@@ -1,6 +1,7 @@
 use Rattle.std.proofs.Common.{refl, ap, ◌∙◌, Err}
 use Rattle.snap_assert.proofs.Requesting.{file_named}
 use Rattle.snap_assert.proofs.DocumentEnds.{unchanged_near, asked_is, document_answered, refused_stops, refused_count}
+use Rattle.snap_assert.specs.declared.outcome.Outcome.{Outcome}
 use Rattle.snap_assert.specs.RequestOf.{request_of}
 use Rattle.snap_assert.proofs.documents.assert_document.Goals as goal
 
@@ -22,11 +23,11 @@ returns-in-Ok-assert_content-clause-ok g c =
         (asked_is _ _ _ (request_of c.in-Ok.request) c.requires.settings c.in-Ok-place_of_request.ensures.place)
         (c.in-Ok-assert_content.ensures.answered _ refl)
 
-pub returns-in-Err-assert_content-clause-err : goal.returns-in-Err-assert_content-clause-err
-returns-in-Err-assert_content-clause-err g c =
+pub returns-clause-err : goal.returns-clause-err
+returns-clause-err g c =
     refused_stops c.args.runner.now c.args.document.now (request_of c.in-Ok.request) _ _ _ _ _ _ _ c.in-Err-assert_content.ensures.cause c.error_of.ensures.file c.error_of.ensures.memory c.in-Ok.ensures.ok
         (asked_is _ _ _ (request_of c.in-Ok.request) c.requires.settings c.in-Ok-place_of_request.ensures.place)
         (c.in-Err-assert_content.ensures.others _ refl)
 
-pub returns-in-Err-assert_content-clause-store_count : goal.returns-in-Err-assert_content-clause-store_count
-returns-in-Err-assert_content-clause-store_count g c = refused_count _ _ _ _ c.in-Err-assert_content.ensures.cause c.error_of.ensures.file c.error_of.ensures.memory
+pub returns-clause-store_count : goal.returns-clause-store_count
+returns-clause-store_count g c = refused_count Outcome _ _ _ _ c.in-Err-assert_content.ensures.cause c.error_of.ensures.file c.error_of.ensures.memory

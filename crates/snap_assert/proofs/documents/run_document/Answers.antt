@@ -1,4 +1,5 @@
-use Rattle.std.proofs.Common.{refl, ◌∙◌, ap}
+use Rattle.std.proofs.Common.{refl, sym, ◌∙◌, ap, encode_utf8_all}
+use Rattle.std.proofs.lemmas.Str.{encodes-chars}
 use Rattle.snap_assert.specs.Runner.{words_of}
 use Rattle.snap_assert.proofs.DocumentEnds.{stepped_near, document_ran, line_fails}
 use Rattle.snap_assert.proofs.documents.run_document.Goals as goal
@@ -8,8 +9,8 @@ returns-in_default-clause-err g c = (refl, stepped_near (words_of c.args.runner.
 
 pub returns-in-Ok-write_all-clause-ok : goal.returns-in-Ok-write_all-clause-ok
 returns-in-Ok-write_all-clause-ok g c =
-    (c.in-Ok.ensures.ok.answer, document_ran (words_of c.args.runner.now) c.args.document.now c.in-Ok.outcome c.in-Ok-line.line c.as_bytes.result.now _ _ _ _ c.in-Ok.ensures.ok c.in-Ok-line.ensures ? c.in-Ok-write_all.ensures.all)
+    (c.in-Ok.ensures.ok.answer, document_ran (words_of c.args.runner.now) c.args.document.now c.in-Ok.outcome c.in-Ok-line.line c.as_bytes.result.now _ _ _ _ c.in-Ok.ensures.ok c.in-Ok-line.ensures (c.as_bytes.ensures.value ∙ sym (encodes-chars c.as_str.result.now c.as_str.utf8) ∙ ap encode_utf8_all c.as_str.ensures) c.in-Ok-write_all.ensures.all)
 
 pub returns-clause-err : goal.returns-clause-err
 returns-clause-err g c =
-    line_fails (words_of c.args.runner.now) c.args.document.now c.in-Ok.outcome c.in-Ok-line.line c.as_bytes.result.now _ _ _ _ c.in-Ok.ensures.ok c.in-Ok-line.ensures ? c.in-Err-write_all.ensures.part
+    line_fails (words_of c.args.runner.now) c.args.document.now c.in-Ok.outcome c.in-Ok-line.line c.as_bytes.result.now _ _ _ _ c.in-Ok.ensures.ok c.in-Ok-line.ensures (c.as_bytes.ensures.value ∙ sym (encodes-chars c.as_str.result.now c.as_str.utf8) ∙ ap encode_utf8_all c.as_str.ensures) c.in-Err-write_all.ensures.part
