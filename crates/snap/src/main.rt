@@ -29,13 +29,7 @@ fn run_program(rt: &HostRuntime) -> Result<Status, OutOfMemory> {
     let mut source = StreamSource::new(rt.stdin());
     let mut sink = StreamSink::new(rt.stdout());
     let mut store = FolderStore::new(runtime);
-    Ok(run(
-        rt.alloc(),
-        &words,
-        &mut source,
-        &mut sink,
-        &mut store,
-    ))
+    Ok(run(rt.alloc(), &words, &mut source, &mut sink, &mut store))
 }
 
 /// Writes what a status from 2 on says to standard error; nothing where there is no memory for it.

@@ -1,5 +1,5 @@
 -- What is answered in place.
-use Rattle.std.proofs.Common.{◌≡◌, ◌&&◌, ℕ, Bool, false, not, List, Option, Some, sym, ap, ◌∙◌}
+use Rattle.std.proofs.Common.{◌≡◌, ◌&&◌, false, not, Option, Some, sym, ap, ◌∙◌}
 use Rattle.snap_outside.specs.Files.{Files}
 use Rattle.snap_assert.specs.Outcomes.{IsAnswered}
 use Rattle.snap_assert.specs.Prepared.{IsPrepared, IsSettled}

@@ -1,16 +1,15 @@
 -- A run without faults over spelled requests ends well.
-use Rattle.std.specs.Prelude.{◌≡◌, ℕ, ◌<◌, ◌≤◌, List, [], ◌∷◌, ◌++◌, length, Option, Some, refl}
+use Rattle.std.specs.Prelude.{◌≡◌, ℕ, List, [], ◌∷◌, ◌++◌, Option, Some, refl}
 use Rattle.std.proofs.Common.{Bool, true, false, cond, None, ap, ◌∙◌, inl, inr, subst, sym, arith}
 use Rattle.snap_outside.specs.Causes.{Rose}
 use Rattle.snap_outside.specs.Files.{Files}
 use Rattle.snap_assert.specs.Requests.{RequestView, Spells}
-use Rattle.snap_assert.specs.Cut.{documents}
 use Rattle.snap_assert.specs.Answers.{RunWords, words_mean}
 use Rattle.snap_assert.specs.Runs.{StopsAt}
 use Rattle.snap_assert.specs.StatusOf.{status_at}
 use Rattle.snap_assert.specs.declared.config.Update.TheVariants.{InPlace}
 use Rattle.snap_assert.proofs.Statuses.{none_fails}
-use Rattle.snap_assert.specs.Status.{WordsCause, RunsFrom, RunsTo, RunsBy, LengthCause, SourceCause, SinkCause, StoreCause, AreSpelled, IsSteady, EndsWell}
+use Rattle.snap_assert.specs.Status.{RunsTo, AreSpelled, IsSteady, EndsWell}
 use Rattle.snap_assert.specs.declared.documents.DocumentError.{DocumentError}
 use Rattle.snap_assert.specs.declared.documents.DocumentError.TheVariants as error
 use Rattle.snap_assert.specs.declared.status.Status.{Status}

@@ -1,9 +1,9 @@
 -- What one document leaves.
-use Rattle.std.proofs.Common.{◌≡◌, ◌⊎◌, inl, inr, ℕ, List, [], ◌∷◌, ◌++◌, Bool, true, false, cond, Option, None, Some, refl, sym, ap, ◌∙◌, subst, Err, encode_utf8_all}
+use Rattle.std.proofs.Common.{◌≡◌, ◌⊎◌, inl, inr, ℕ, List, [], ◌∷◌, ◌++◌, Option, Some, refl, sym, ap, ◌∙◌, subst, Err, encode_utf8_all}
 use Rattle.std.proofs.lemmas.List.{append-nil}
 use Rattle.std.specs.FinMap.{get}
 use Rattle.snap_outside.specs.Causes.{Rose}
-use Rattle.snap_outside.specs.Files.{Files, SameOutside}
+use Rattle.snap_outside.specs.Files.{Files}
 use Rattle.snap_outside.specs.Streams.{HoldsFront}
 use Rattle.snap_assert.specs.Settings.{SettingsView, new_settings}
 use Rattle.snap_assert.specs.Place.{PlaceView}

@@ -1,7 +1,7 @@
 -- The path of a snapshot is that of a file.
-use Rattle.std.proofs.Common.{◌≡◌, ◌==◌, ℕ, List, [], ◌∷◌, ◌++◌, Bool, true, false, cond, Option, None, Some, refl, sym, ap, ◌∙◌, subst, append_assoc, codes}
+use Rattle.std.proofs.Common.{◌≡◌, ◌==◌, ℕ, List, [], ◌∷◌, ◌++◌, Bool, true, false, cond, Some, refl, sym, ap, ◌∙◌, subst, append_assoc, codes}
 use Rattle.std.specs.Prelude.{IsSome}
-use Rattle.std.specs.List.{filter, All}
+use Rattle.std.specs.List.{filter}
 use Rattle.std.proofs.lemmas.List.Elements.{All-append}
 use Rattle.snap_path.specs.Paths.{attached, between_slashes, is_component, components, is_absolute, path_of_parts, joined, last_of, name_of, parent_of, IsName}
 use Rattle.snap_path.proofs.Joining.{joined-normal, parts-components, components-names}

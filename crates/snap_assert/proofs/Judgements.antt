@@ -1,5 +1,5 @@
 -- What a reading of a file says of a pass.
-use Rattle.std.proofs.Common.{◌≡◌, ◌↔◌, ◌||◌, ◌&&◌, IsTrue, ℕ, Bool, true, false, cond, List, [], ◌∷◌, Option, None, Some, refl, sym, ap, ◌∙◌, subst, inl, inr, codes}
+use Rattle.std.proofs.Common.{◌≡◌, ◌↔◌, ◌||◌, ◌&&◌, IsTrue, ℕ, Bool, true, false, cond, List, Option, None, Some, refl, sym, ap, ◌∙◌, subst, codes}
 use Rattle.snap_content.specs.Plain as p
 use Rattle.snap_content.specs.Plain.{Plain, dict, Entries, entry, no_entries}
 use Rattle.snap_content.specs.Lines.{text_of}
@@ -10,7 +10,7 @@ use Rattle.snap_text.specs.Normal.{normal}
 use Rattle.snap_store.specs.Agreement.{Agree}
 use Rattle.snap_store.specs.Fields.{is_named, is_text, is_binary, kind_in, binary_kind, last_value, later_or, text_value}
 use Rattle.snap_store.specs.FileSplit.{body_of}
-use Rattle.snap_store.specs.Reading.{IsTextFile, HasHeader, HoldsBody, IsReadAs, IsRefused, IsNoText, HasNoHeader, HasOtherHeader, LacksExtension}
+use Rattle.snap_store.specs.Reading.{HasHeader, HoldsBody, IsReadAs, IsRefused}
 use Rattle.snap_store.specs.Views.{contents_in, text_in}
 use Rattle.snap_store.specs.declared.contents.SnapshotContents.{SnapshotContents}
 use Rattle.snap_store.specs.declared.contents.SnapshotContents.TheVariants.{Text, Binary}
@@ -18,7 +18,7 @@ use Rattle.snap_store.specs.declared.metadata.SnapshotKind.{SnapshotKind}
 use Rattle.snap_store.specs.declared.metadata.SnapshotKind.TheVariants as kind
 use Rattle.snap_store.specs.declared.snapshot.Snapshot.{Snapshot}
 use Rattle.snap_assert.specs.Judging.{BodyAgrees, HasCanonicalHeader, HasBinaryHeader, says_binary, May}
-use Rattle.snap_assert.proofs.Readings.{one_text, no_text_file, text_or_none, one_header, one_dict, one_reading}
+use Rattle.snap_assert.proofs.Readings.{one_text, no_text_file, text_or_none, one_reading}
 use Rattle.snap_assert.proofs.Saved.{against_saved}
 
 -- a pass that is decided by two facts and two refusals

@@ -1,9 +1,7 @@
 -- What was seen of a file, and of what is asked.
-use Rattle.std.proofs.Common.{◌≡◌, ◌↔◌, IsTrue, ℕ, Bool, true, false, List, [], ◌∷◌, Option, None, Some, Result, Ok, Err, refl, sym, ap, ◌∙◌, subst, inl, inr}
+use Rattle.std.proofs.Common.{◌≡◌, ◌↔◌, IsTrue, ℕ, Bool, false, List, [], ◌∷◌, Option, Some, Result, Ok, Err, sym, ap, ◌∙◌, subst, inl, inr}
 use Rattle.std.specs.Prelude.{IfOk}
 use Rattle.std.specs.FinMap.{get}
-use Rattle.snap_content.specs.Plain.{Plain}
-use Rattle.snap_content.specs.Lines.{text_of}
 use Rattle.snap_content.specs.declared.error.Error.{Error}
 use Rattle.snap_content.specs.declared.error.Error.TheVariants.{FailedParsingYaml, UnexpectedDataType, MissingField, FileIo, FloatText, JsonKey, NotText, NoFile, OutOfMemory}
 use Rattle.snap_outside.specs.Files.{Files}
@@ -15,9 +13,8 @@ use Rattle.snap_store.specs.declared.snapshot.Snapshot.{Snapshot}
 use Rattle.snap_assert.specs.Judging.{May}
 use Rattle.snap_assert.specs.Steps.{Asked}
 use Rattle.snap_assert.specs.Outcomes.{AreWarnings, IsUnderstood, IsNotUnderstood, warnings_in}
-use Rattle.snap_assert.specs.Prepared.{IsPrepared, IsJudged, NoPass, RefusedEnd}
+use Rattle.snap_assert.specs.Prepared.{IsPrepared, IsJudged, RefusedEnd}
 use Rattle.snap_assert.specs.declared.error.AssertError.{AssertError}
-use Rattle.snap_assert.specs.declared.error.AssertError.TheVariants as stop
 use Rattle.snap_assert.specs.declared.look.Judged.{Judged}
 use Rattle.snap_assert.specs.declared.outcome.Warning.{Warning}
 use Rattle.snap_assert.specs.declared.outcome.Warning.TheVariants.{Unreadable}

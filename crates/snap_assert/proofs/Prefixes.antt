@@ -1,5 +1,5 @@
 -- What stands before the name in the name of a snapshot's file.
-use Rattle.std.proofs.Common.{◌≡◌, ℕ, Bool, true, false, cond, List, [], ◌∷◌, ◌++◌, sym, ap, ◌∙◌, append_assoc, codes, unwrap_or}
+use Rattle.std.proofs.Common.{◌≡◌, ℕ, Bool, true, false, cond, List, [], ◌++◌, sym, ap, ◌∙◌, append_assoc, codes, unwrap_or}
 use Rattle.std.specs.List.{flat_map}
 use Rattle.snap_path.specs.Paths.{name_of}
 use Rattle.snap_assert.specs.Place.{PlaceView}

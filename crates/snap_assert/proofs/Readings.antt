@@ -1,9 +1,8 @@
 -- One file is read in one way.
-use Rattle.std.proofs.Common.{◌≡◌, ℕ, Bool, true, false, List, ◌++◌, Option, None, Some, drop, refl, sym, ap, ◌∙◌, subst, codes}
+use Rattle.std.proofs.Common.{◌≡◌, ℕ, List, Option, None, Some, drop, sym, ap, ◌∙◌, subst}
 use Rattle.std.specs.Str.{chars, IsUtf8}
 use Rattle.snap_content.specs.Plain.{Plain, dict, Entries}
 use Rattle.snap_content.specs.Lines.{document_of, text_of}
-use Rattle.snap_content.specs.Readable.{IsReadable}
 use Rattle.snap_plain.proofs.Injective.{texts_same}
 use Rattle.snap_store.specs.Reading.{IsTextFile, HasHeader, IsNoText}
 

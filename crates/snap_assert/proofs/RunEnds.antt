@@ -1,5 +1,5 @@
 -- What the program's run comes to.
-use Rattle.std.proofs.Common.{◌≡◌, ◌<◌, ◌≤◌, ℕ, Bool, false, List, [], ◌∷◌, Option, None, Some, refl, sym, ap, ◌∙◌, subst, inl, inr, length, arith}
+use Rattle.std.proofs.Common.{◌≡◌, ◌<◌, ◌≤◌, ℕ, Bool, false, List, Option, None, Some, refl, sym, ap, ◌∙◌, subst, inl, inr, length, arith}
 use Rattle.snap_outside.specs.Files.{Files}
 use Rattle.snap_assert.specs.Answers.{Answer, RunWords, words_mean}
 use Rattle.snap_assert.specs.Cut.{documents}
@@ -14,7 +14,7 @@ use Rattle.snap_assert.specs.declared.documents.DocumentError.TheVariants as err
 use Rattle.snap_assert.specs.declared.documents.Stop.{Stop}
 use Rattle.snap_assert.specs.declared.runner.Runner.{Runner}
 use Rattle.snap_assert.specs.declared.status.Status.{Status}
-use Rattle.snap_assert.specs.declared.status.Status.TheVariants.{AllPassed, BadWords, FileIo, ReadFault, WriteFault, OutOfMemory, InputTooLong}
+use Rattle.snap_assert.specs.declared.status.Status.TheVariants.{AllPassed, BadWords, ReadFault, OutOfMemory, InputTooLong}
 use Rattle.snap_assert.proofs.Statuses.{before_all, none_fails}
 use Rattle.snap_assert.proofs.Completeness.{ends_well, words_in_place, not_rose}
 

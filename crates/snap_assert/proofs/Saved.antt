@@ -1,5 +1,5 @@
 -- A tree against a file that was saved for another.
-use Rattle.std.proofs.Common.{◌≡◌, ◌↔◌, ℕ, Bool, true, false, List, [], ◌∷◌, ◌++◌, Option, refl, sym, ap, ◌∙◌, subst}
+use Rattle.std.proofs.Common.{◌≡◌, ◌↔◌, ℕ, Bool, true, List, [], ◌∷◌, ◌++◌, Option, sym, ap, ◌∙◌}
 use Rattle.snap_content.specs.Plain.{Plain, dict}
 use Rattle.snap_content.specs.Lines.{text_of}
 use Rattle.snap_content.specs.Readable.{IsReadable}
@@ -7,7 +7,6 @@ use Rattle.snap_plain.proofs.Injective.{texts_same}
 use Rattle.snap_text.specs.Normal.{normal}
 use Rattle.snap_store.specs.FileSplit.{body_of}
 use Rattle.snap_store.specs.Image.{file_of}
-use Rattle.snap_store.specs.Reading.{IsTextFile, HasHeader}
 use Rattle.snap_assert.specs.Judging.{BodyAgrees, HasCanonicalHeader, IsSavedFor}
 use Rattle.snap_assert.proofs.Below.{normal-text_of, splits-file_of, normal-ended}
 use Rattle.snap_assert.proofs.Readings.{one_text}

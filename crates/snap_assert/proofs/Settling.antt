@@ -1,5 +1,5 @@
 -- What is left once the strays are gone.
-use Rattle.std.proofs.Common.{◌≡◌, ℕ, Bool, true, false, List, [], ◌∷◌, ◌++◌, Option, None, Some, refl, sym, ap, ◌∙◌, subst, codes}
+use Rattle.std.proofs.Common.{◌≡◌, ℕ, true, false, List, [], ◌∷◌, ◌++◌, Option, Some, refl, sym, ap, ◌∙◌, subst, codes}
 use Rattle.std.specs.Prelude.{encode_utf8_all, IsSome}
 use Rattle.std.specs.FinMap.{insert, remove}
 use Rattle.snap_content.specs.Plain.{Plain}
@@ -9,7 +9,7 @@ use Rattle.snap_outside.specs.Files.{Files, SameBut, SameOutside}
 use Rattle.snap_store.specs.Image.{saved_text, file_of}
 use Rattle.snap_store.specs.Meta.{Meta, header_tree, without_line}
 use Rattle.snap_store.specs.Views.{meta_in, contents_in, text_in}
-use Rattle.snap_assert.specs.Steps.{Asked, written, step, cleared, passed_files, pending_path, is_near}
+use Rattle.snap_assert.specs.Steps.{Asked, written, step, cleared, is_near}
 use Rattle.snap_assert.specs.Strays.{AreStrays}
 use Rattle.snap_assert.specs.Removed.{remove_each, is_among}
 use Rattle.snap_assert.specs.Prepared.{IsPrepared}

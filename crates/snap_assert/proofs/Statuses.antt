@@ -1,9 +1,9 @@
 -- Statuses before any document is run, and runs in place.
 use Rattle.std.proofs.Common.{◌≡◌, ◌||◌, ◌&&◌, ℕ, Bool, true, false, not, List, [], ◌∷◌, Option, None, Some, refl, ap, ◌∙◌}
 use Rattle.snap_outside.specs.Files.{Files}
-use Rattle.snap_assert.specs.Answers.{Answer, RunWords, answer_fails, some_fails}
+use Rattle.snap_assert.specs.Answers.{Answer, RunWords, some_fails}
 use Rattle.snap_assert.specs.Steps.{verdict_of, is_failure}
-use Rattle.snap_assert.specs.Status.{RunsTo, RunsBy, RunsFrom}
+use Rattle.snap_assert.specs.Status.{RunsBy, RunsFrom}
 use Rattle.snap_assert.specs.declared.config.Update.{Update}
 use Rattle.snap_assert.specs.declared.config.Update.TheVariants.{InPlace}
 use Rattle.snap_assert.specs.declared.status.Status.{Status}

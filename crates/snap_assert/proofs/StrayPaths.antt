@@ -1,5 +1,5 @@
 -- Which paths are left behind by payloads.
-use Rattle.std.proofs.Common.{◌≡◌, ◌==◌, ◌||◌, ◌&&◌, ℕ, Bool, true, false, not, cond, eqb, List, [], ◌∷◌, ◌++◌, map, Option, None, Some, refl, sym, ap, ◌∙◌, subst, append_assoc, eq-eqb, true-eqb, codes, IsPermutation}
+use Rattle.std.proofs.Common.{◌≡◌, ◌==◌, ◌||◌, ◌&&◌, ℕ, Bool, true, false, not, cond, List, [], ◌∷◌, ◌++◌, map, Option, None, Some, refl, sym, ap, ◌∙◌, subst, append_assoc, eq-eqb, true-eqb, codes, IsPermutation}
 use Rattle.std.specs.Prelude.{is_some, IsSome}
 use Rattle.std.specs.List.{list_any, filter, All}
 use Rattle.std.proofs.lemmas.List.Sorted.{list_any-IsPermutation}

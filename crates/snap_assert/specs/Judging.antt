@@ -1,7 +1,6 @@
 -- When a tree passes against a file.
-use Rattle.std.specs.Prelude.{◌≡◌, ◌↔◌, ◌||◌, ◌&&◌, ℕ, Bool, true, false, List, Option, None, Some, codes, if◌then◌else◌}
-use Rattle.std.specs.Str.{bytes_eq}
-use Rattle.snap_content.specs.Plain.{Plain, text, dict, Entries, entry, no_entries}
+use Rattle.std.specs.Prelude.{◌≡◌, ◌↔◌, ◌||◌, ◌&&◌, ℕ, Bool, true, false, List, Option, None, codes}
+use Rattle.snap_content.specs.Plain.{Plain, dict, Entries, entry, no_entries}
 use Rattle.snap_content.specs.Lines.{text_of}
 use Rattle.snap_content.specs.Readable.{IsReadable}
 use Rattle.snap_text.specs.Normal.{normal}

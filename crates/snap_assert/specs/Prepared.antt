@@ -1,5 +1,5 @@
 -- What is ready before anything is looked at, and what was seen.
-use Rattle.std.specs.Prelude.{◌≡◌, ℕ, List, [], ◌∷◌, false, Option, Some, Result, Ok, Err}
+use Rattle.std.specs.Prelude.{◌≡◌, List, [], ◌∷◌, false, Option, Some, Result, Ok, Err}
 use Rattle.std.specs.FinMap.{get}
 use Rattle.snap_content.specs.Lines.{text_of, lines_of}
 use Rattle.snap_content.specs.Printed.{AreLines}

@@ -1,5 +1,5 @@
 -- Requests, and the documents that spell them.
-use Rattle.std.specs.Prelude.{◌≡◌, ◌==◌, ◌+◌, nat_eq, ℕ, Bool, true, List, [], ◌∷◌, Option, None, Some, is_some, codes, count_by, if◌then◌else◌}
+use Rattle.std.specs.Prelude.{◌≡◌, ◌+◌, nat_eq, ℕ, Bool, List, [], ◌∷◌, Option, None, Some, is_some, codes, count_by, if◌then◌else◌}
 use Rattle.std.specs.Str.{IsUtf8, chars}
 use Rattle.snap_content.specs.Plain.{Plain, dict, Entries, entry, no_entries}
 use Rattle.snap_content.specs.Lines.{document_of}

@@ -1,5 +1,5 @@
 -- What a session remembers, and the name that an assertion takes.
-use Rattle.std.specs.Prelude.{ℕ, Bool, List, [], ◌∷◌, ◌++◌, Option, None, Some, codes}
+use Rattle.std.specs.Prelude.{ℕ, Bool, List, [], ◌∷◌, ◌++◌, Option, None, Some}
 use Rattle.snap_store.specs.declared.contents.SnapshotContents.{SnapshotContents}
 use Rattle.snap_assert.specs.declared.error.DuplicateKey.{DuplicateKey}
 use Rattle.snap_assert.specs.declared.session.Session.{Session}

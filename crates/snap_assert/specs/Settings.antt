@@ -1,5 +1,5 @@
 -- What the settings of an assertion say.
-use Rattle.std.specs.Prelude.{ℕ, Bool, true, false, List, Option, None, Some, codes}
+use Rattle.std.specs.Prelude.{ℕ, Bool, true, false, List, Option, None, codes}
 use Rattle.snap_content.specs.Tree.{Tree}
 use Rattle.snap_assert.specs.declared.settings.Settings.{Settings}
 

@@ -1,5 +1,5 @@
 -- What one assertion leaves.
-use Rattle.std.specs.Prelude.{◌==◌, ◌&&◌, ◌||◌, ℕ, Bool, true, false, not, List, [], ◌∷◌, ◌++◌, Option, None, Some, codes, if◌then◌else◌, encode_utf8_all}
+use Rattle.std.specs.Prelude.{◌||◌, ℕ, Bool, true, false, not, List, ◌++◌, Option, None, Some, codes, if◌then◌else◌, encode_utf8_all}
 use Rattle.std.specs.Str.{bytes_eq}
 use Rattle.std.specs.FinMap.{insert, remove, retain_keys}
 use Rattle.snap_content.specs.Plain.{Plain}

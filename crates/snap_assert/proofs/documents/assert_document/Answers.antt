@@ -20,14 +20,14 @@ returns-in-Err-clause-err g c = unchanged_near c.args.document.now _ _ refl
 pub returns-in-Ok-assert_content-clause-ok : goal.returns-in-Ok-assert_content-clause-ok
 returns-in-Ok-assert_content-clause-ok g c =
     document_answered c.args.runner.now c.args.document.now (request_of c.in-Ok.request) _ _ _ _ c.in-Ok.ensures.ok
-        (asked_is _ _ _ (request_of c.in-Ok.request) c.requires.settings c.in-Ok-place_of_request.ensures.place)
-        (c.in-Ok-assert_content.ensures.answered _ refl)
+    (asked_is _ _ _ (request_of c.in-Ok.request) c.requires.settings c.in-Ok-place_of_request.ensures.place)
+    (c.in-Ok-assert_content.ensures.answered _ refl)
 
 pub returns-clause-err : goal.returns-clause-err
 returns-clause-err g c =
     refused_stops c.args.runner.now c.args.document.now (request_of c.in-Ok.request) _ _ _ _ _ _ _ c.in-Err-assert_content.ensures.cause c.error_of.ensures.file c.error_of.ensures.memory c.in-Ok.ensures.ok
-        (asked_is _ _ _ (request_of c.in-Ok.request) c.requires.settings c.in-Ok-place_of_request.ensures.place)
-        (c.in-Err-assert_content.ensures.others _ refl)
+    (asked_is _ _ _ (request_of c.in-Ok.request) c.requires.settings c.in-Ok-place_of_request.ensures.place)
+    (c.in-Err-assert_content.ensures.others _ refl)
 
 pub returns-clause-store_count : goal.returns-clause-store_count
 returns-clause-store_count g c = refused_count Outcome _ _ _ _ c.in-Err-assert_content.ensures.cause c.error_of.ensures.file c.error_of.ensures.memory

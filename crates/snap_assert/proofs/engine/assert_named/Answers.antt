@@ -1,8 +1,3 @@
-use Rattle.snap_content.specs.Plain.{plain}
-use Rattle.snap_content.specs.View.{tree}
-use Rattle.snap_assert.specs.Settings.{settings_of}
-use Rattle.snap_assert.specs.Place.{place_of}
-use Rattle.snap_assert.specs.Steps.{asked_of}
 use Rattle.snap_assert.proofs.Answering.{answered}
 use Rattle.snap_assert.proofs.Settling.{has_text}
 use Rattle.snap_assert.proofs.engine.assert_named.Goals as goal

@@ -6,7 +6,7 @@ use Rattle.snap_assert.proofs.paths.prefix.Goals.{then-is_doctest_function+in_ok
 
 pub returns : goal.returns
 returns c = elim c.if-is_doctest_function.branch [
-  then-is_doctest_function+in_ok-push_ascii+in_ok-push_dotless w ↦
+  | then-is_doctest_function+in_ok-push_ascii+in_ok-push_dotless w ↦
       of_doctest (place_of c.args.place.now) _ _ _ _ _ _ _ _ c.is_doctest_function.ensures (c.as_str.ensures ∙ c.function.ensures) w.if-is_doctest_function.true
       c.empty-text.ensures w.in_ok-push_ascii.ensures.ok w.name_of_file.ensures w.in_ok-push_dotless.ensures w.text-is c.in_ok-push_ascii-2.ensures.ok
   | else-is_doctest_function+in_ok-push_module w ↦

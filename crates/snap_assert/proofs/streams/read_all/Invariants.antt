@@ -1,4 +1,4 @@
-use Rattle.std.proofs.Common.{◌≡◌, ◌-◌, ◌≤◌, length}
+use Rattle.std.proofs.Common.{◌≡◌, ◌-◌, length}
 use Rattle.snap_assert.proofs.Pieces.{IsRead}
 use Rattle.snap_assert.proofs.streams.read_all.Given as goal
 
