@@ -41,7 +41,7 @@ pub no_file : (file : Option (List ℕ)) (tree : Plain) → file ≡ None → Ma
 no_file file tree none = no_pass file tree (λ h. no_text_file file h.whole none h.there)
 
 -- where the header reads as binary, one of its pairs says so
-or_right : (a b : Bool) → b ≡ true → (a || b) ≡ true
+pub or_right : (a b : Bool) → b ≡ true → (a || b) ≡ true
 or_right true b h = refl
 or_right false b h = h
 

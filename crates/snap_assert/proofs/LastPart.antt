@@ -10,7 +10,7 @@ later_false : (a b : Bool) → (a || b) ≡ false → b ≡ false
 later_false true b e = cc
 later_false false b e = e
 
-whole : (t : List ℕ) → holds_slash t ≡ false → last_part t ≡ t
+pub whole : (t : List ℕ) → holds_slash t ≡ false → last_part t ≡ t
 whole [] h = refl
 whole (c ∷ cs) h =
     ap (λ b. cond b (last_part cs) (cond (c == 47) cs (c ∷ cs))) (later_false (c == 47) (holds_slash cs) h)

@@ -15,7 +15,7 @@ mod DocumentEnds
 mod Looking
 mod Settling
 mod Requesting
-mod Prefixes
 mod Answering
 mod RequestMade
 mod RunEnds
+mod Wholes

@@ -12,8 +12,8 @@ use Rattle.snap_store.specs.declared.contents.SnapshotContents.{SnapshotContents
 use Rattle.snap_store.specs.declared.snapshot.Snapshot.{Snapshot}
 use Rattle.snap_assert.specs.Judging.{May}
 use Rattle.snap_assert.specs.Steps.{Asked}
-use Rattle.snap_assert.specs.Outcomes.{AreWarnings, IsUnderstood, IsNotUnderstood, warnings_in}
-use Rattle.snap_assert.specs.Prepared.{IsPrepared, IsJudged, RefusedEnd}
+use Rattle.snap_assert.specs.Outcomes.{AreWarnings, AssertCause, IsUnderstood, IsNotUnderstood, warnings_in}
+use Rattle.snap_assert.specs.Prepared.{IsPrepared, IsJudged, RefusedEnd, ComparedEnd}
 use Rattle.snap_assert.specs.declared.error.AssertError.{AssertError}
 use Rattle.snap_assert.specs.declared.look.Judged.{Judged}
 use Rattle.snap_assert.specs.declared.outcome.Warning.{Warning}
@@ -32,10 +32,10 @@ one_warning : (path : List ℕ) (file : Option (List ℕ)) (ws : List Warning) (
 one_warning path file ws error one h = let P : List Warning → Type 0 = λ w. AreWarnings path file w in subst P (sym one) h
 
 -- a file that was read is judged by the comparison
-pub judge_read : (asked : Asked) (m : Files) (prepared : Prepared) (files : Option Files) (snapshot : Snapshot) (old new : SnapshotContents) (passed : Bool) (warnings : Warnings)
+read_compared : (asked : Asked) (m : Files) (prepared : Prepared) (files : Option Files) (snapshot : Snapshot) (old new : SnapshotContents) (passed : Bool) (warnings : Warnings)
     → IsPrepared asked prepared → files ≡ Some m → IsReadFrom prepared.path files (Ok snapshot) → old ≡ contents_in snapshot → new ≡ contents_in prepared.snapshot
     → (IsTrue passed ↔ Agree old new) → warnings_in warnings ≡ [] → IsJudged asked m (record { passed = passed; warnings = warnings })
-judge_read asked m prepared files snapshot old new passed warnings p told r is_old is_new tells none =
+read_compared asked m prepared files snapshot old new passed warnings p told r is_old is_new tells none =
     let file : r.file ≡ get m asked.path = r.told m told ∙ ap (get m) p.path in
     let May_at : Option (List ℕ) → Type 0 = λ f. May passed f asked.tree in
     let Warned_at : Option (List ℕ) → Type 0 = λ f. AreWarnings asked.path f (warnings_in warnings) in
@@ -48,6 +48,13 @@ judge_read asked m prepared files snapshot old new passed warnings p told r is_o
       }));
       warned = subst Warned_at file (no_warning asked.path r.file (warnings_in warnings) none (inr (understood r.file snapshot r.comes_to)));
     }
+
+pub judge_read : (asked : Asked) (m : Files) (prepared : Prepared) (files : Option Files) (snapshot : Snapshot) (old new : SnapshotContents) (result : Result Judged AssertError)
+    → IsPrepared asked prepared → files ≡ Some m → IsReadFrom prepared.path files (Ok snapshot) → old ≡ contents_in snapshot → new ≡ contents_in prepared.snapshot
+    → ComparedEnd old new result → IfOk result (λ judged. IsJudged asked m judged)
+judge_read asked m prepared files snapshot old new (Ok judged) p told r is_old is_new end =
+    read_compared asked m prepared files snapshot old new judged.passed judged.warnings p told r is_old is_new end.0 end.1
+judge_read asked m prepared files snapshot old new (Err e) p told r is_old is_new end = tt
 
 not_passed : (asked : Asked) (m : Files) (file : Option (List ℕ)) (judged : Judged) → file ≡ get m asked.path → judged.passed ≡ false
     → May false file asked.tree → AreWarnings asked.path file (warnings_in judged.warnings) → IsJudged asked m judged
@@ -91,3 +98,9 @@ pub all_judged : (prepared : Prepared) (files : Option Files) (result : Result J
     → IfOk result (λ judged. (asked : Asked) (m : Files) → IsPrepared asked prepared → files ≡ Some m → IsJudged asked m judged)
 all_judged prepared files (Ok judged) h = h
 all_judged prepared files (Err e) h = tt
+
+-- what causes no fault by itself has the cause of what was done before
+pub cause_kept : (before now : ℕ) (result : Result Judged AssertError) → now ≡ before → ((count : ℕ) → AssertCause count count result) → AssertCause before now result
+cause_kept before now result same calm =
+    let Caused : ℕ → Type 0 = λ count. AssertCause before count result in
+    subst Caused (sym same) (calm before)

@@ -1,9 +1,11 @@
 -- What is ready before anything is looked at, and what was seen.
-use Rattle.std.specs.Prelude.{◌≡◌, List, [], ◌∷◌, false, Option, Some, Result, Ok, Err}
+use Rattle.std.specs.Prelude.{◌≡◌, ◌↔◌, IsTrue, List, [], ◌∷◌, false, Option, Some, Result, Ok, Err}
 use Rattle.std.specs.FinMap.{get}
 use Rattle.snap_content.specs.Lines.{text_of, lines_of}
 use Rattle.snap_content.specs.Printed.{AreLines}
 use Rattle.snap_outside.specs.Files.{Files}
+use Rattle.snap_store.specs.Agreement.{Agree}
+use Rattle.snap_store.specs.declared.contents.SnapshotContents.{SnapshotContents}
 use Rattle.snap_store.specs.Views.{meta_in, contents_in, text_in}
 use Rattle.snap_assert.specs.Steps.{Asked, pending_path, step}
 use Rattle.snap_assert.specs.declared.config.Update.TheVariants.{InPlace}
@@ -49,6 +51,12 @@ abbrev pub NoPass : List Warning → Result Judged AssertError → Type 0
 NoPass warnings (Ok judged) = (judged.passed ≡ false) × (warnings_in judged.warnings ≡ warnings)
 NoPass warnings (Err OutOfMemory) = Unit {0}
 NoPass warnings (Err _) = ⊥
+
+-- a pass exactly where both contents agree, and nothing is to be said
+abbrev pub ComparedEnd : SnapshotContents → SnapshotContents → Result Judged AssertError → Type 0
+ComparedEnd old new (Ok judged) = (IsTrue judged.passed ↔ Agree old new) × (warnings_in judged.warnings ≡ [])
+ComparedEnd old new (Err OutOfMemory) = Unit {0}
+ComparedEnd old new (Err _) = ⊥
 
 -- a missing file is no pass, a fault and want of memory are handed on, and any other refusal is a warning
 abbrev pub RefusedEnd : Error → Result Judged AssertError → Type 0

@@ -28,11 +28,13 @@ is_doctest function = is_some (past_mark (codes "rust_out::main::_doctest") func
 abbrev pub dotless_character : ℕ → List ℕ
 dotless_character c = if c == 46 then codes "_" else c ∷ []
 
+-- the file of a doctest, as the front of a name
+abbrev pub file_of_doctest : PlaceView → List ℕ
+file_of_doctest place = codes "doctest_" ++ (flat_map dotless_character (unwrap_or (name_of place.file) []) ++ codes "__")
+
 -- what stands before the name: the file of a doctest, or the module
 abbrev pub place_prefix : PlaceView → List ℕ
-place_prefix place =
-    if is_doctest place.function then codes "doctest_" ++ (flat_map dotless_character (unwrap_or (name_of place.file) []) ++ codes "__")
-    else flat_module place.module_name ++ codes "__"
+place_prefix place = if is_doctest place.function then file_of_doctest place else flat_module place.module_name ++ codes "__"
 
 abbrev pub file_prefix : SettingsView → PlaceView → List ℕ
 file_prefix settings place = if settings.prepends_module then place_prefix place else []

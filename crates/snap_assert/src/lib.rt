@@ -11,6 +11,7 @@ pub mod engine;
 pub mod error;
 mod file_path;
 mod front;
+pub mod laws;
 mod look;
 pub mod outcome;
 mod paths;

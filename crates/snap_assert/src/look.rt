@@ -1,9 +1,9 @@
 //! What stands in the store: whether the tree passes, and what is to go.
-ghost use Rattle.std.specs.Prelude.{◌≡◌, [], ◌∷◌, false, Some, IfOk};
+ghost use Rattle.std.specs.Prelude.{◌≡◌, ℕ, [], ◌∷◌, false, Some, IfOk};
 ghost use Rattle.snap_outside.specs.Files.{Files};
 ghost use Rattle.snap_assert.specs.Outcomes.{AssertCause, warnings_in};
 ghost use Rattle.snap_assert.specs.Steps.{Asked};
-ghost use Rattle.snap_assert.specs.Prepared.{IsPrepared, IsJudged, IsSeen, NoPass, RefusedEnd};
+ghost use Rattle.snap_assert.specs.Prepared.{IsPrepared, IsJudged, IsSeen, NoPass, RefusedEnd, ComparedEnd};
 
 use crate::error::AssertError;
 use crate::outcome::{Warning, Warnings};
@@ -12,7 +12,7 @@ use crate::strays::stray_paths;
 use snap_content::{Error, Text};
 use snap_outside::{Store, StoreError};
 use snap_path::path_parent;
-use snap_store::Snapshot;
+use snap_store::{Snapshot, SnapshotContents};
 use std::alloc::Global;
 
 /// Whether the tree passes, and what is to be said of the file.
@@ -73,6 +73,24 @@ fn refused(alloc: Global, error: Error) -> Result<Judged, AssertError>
     }
 }
 
+/// What a file that was read comes to: a pass exactly where its contents agree with the new ones.
+fn compared(
+    alloc: Global,
+    old: &SnapshotContents,
+    new: &SnapshotContents,
+) -> Result<Judged, AssertError>
+    ensures compared { ComparedEnd old.now new.now result }
+    ensures no_fault { (count : ℕ) → AssertCause count count result }
+{
+    match old.agrees(alloc, new) {
+        Ok(passed) => Ok(Judged {
+            passed,
+            warnings: Warnings::new(alloc),
+        }),
+        Err(_) => Err(AssertError::OutOfMemory),
+    }
+}
+
 /// Reads the file of the snapshot and compares.
 fn judge<S: Store>(alloc: Global, store: &mut S, prepared: &Prepared) -> Result<Judged, AssertError>
     ensures judged { IfOk result (λ judged. (asked : Asked) (m : Files) → IsPrepared asked prepared.now → S.files store.old ≡ Some m → IsJudged asked m judged) }
@@ -80,13 +98,7 @@ fn judge<S: Store>(alloc: Global, store: &mut S, prepared: &Prepared) -> Result<
     ensures cause { AssertCause (S.faults store.old) (S.faults store.new) result }
 {
     match Snapshot::from_file(alloc, store, &prepared.path) {
-        Ok(old) => match old.contents().agrees(alloc, prepared.snapshot.contents()) {
-            Ok(passed) => Ok(Judged {
-                passed,
-                warnings: Warnings::new(alloc),
-            }),
-            Err(_) => Err(AssertError::OutOfMemory),
-        },
+        Ok(old) => compared(alloc, old.contents(), prepared.snapshot.contents()),
         Err(error) => refused(alloc, error),
     }
 }

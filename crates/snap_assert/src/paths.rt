@@ -1,12 +1,12 @@
 //! The path of a snapshot, and the metadata of a new one.
-ghost use Rattle.std.specs.Prelude.{◌≡◌, ◌++◌, [], IfOk, OnOk, unwrap_or};
+ghost use Rattle.std.specs.Prelude.{◌≡◌, ◌++◌, [], IfOk, OnOk, codes, unwrap_or};
 ghost use Rattle.snap_path.specs.Paths.{name_of};
 ghost use Rattle.std.specs.Str.{chars};
 ghost use Rattle.std.specs.List.{flat_map};
 ghost use Rattle.snap_store.specs.Views.{meta_of};
 ghost use Rattle.snap_assert.specs.Settings.{settings_of};
 ghost use Rattle.snap_assert.specs.Place.{place_of};
-ghost use Rattle.snap_assert.specs.SnapshotPath.{flat_character, dotless_character, flat_module, is_doctest, place_prefix, file_name, path_of, new_meta};
+ghost use Rattle.snap_assert.specs.SnapshotPath.{flat_character, dotless_character, flat_module, is_doctest, file_of_doctest, place_prefix, file_name, path_of, new_meta};
 
 use crate::front::behind_ascii;
 use crate::place::Place;
@@ -86,19 +86,35 @@ fn name_of_file(place: &Place) -> &str
     }
 }
 
+/// What stands before the name in a doctest: the name of its file.
+fn doctest_prefix(alloc: Global, place: &Place) -> Result<Text, OutOfMemory>
+    ensures { IfOk result (λ text. text ≡ file_of_doctest (place_of place.now)) }
+{
+    let mut text = Text::from_ascii(alloc, "doctest_")?;
+    push_dotless(&mut text, alloc, name_of_file(place))?;
+    text.push_ascii(alloc, "__")?;
+    Ok(text)
+}
+
+/// What stands before the name elsewhere: the module.
+fn module_prefix(alloc: Global, place: &Place) -> Result<Text, OutOfMemory>
+    ensures { IfOk result (λ text. text ≡ flat_module (place_of place.now).module_name ++ codes "__") }
+{
+    let mut text = Text::empty();
+    push_module(&mut text, alloc, place.module_name().as_str())?;
+    text.push_ascii(alloc, "__")?;
+    Ok(text)
+}
+
 /// What stands before the name in the name of the file.
 fn prefix(alloc: Global, place: &Place) -> Result<Text, OutOfMemory>
     ensures { IfOk result (λ text. text ≡ place_prefix (place_of place.now)) }
 {
-    let mut text = Text::empty();
     if is_doctest_function(place.function().as_str()) {
-        text.push_ascii(alloc, "doctest_")?;
-        push_dotless(&mut text, alloc, name_of_file(place))?;
+        doctest_prefix(alloc, place)
     } else {
-        push_module(&mut text, alloc, place.module_name().as_str())?;
+        module_prefix(alloc, place)
     }
-    text.push_ascii(alloc, "__")?;
-    Ok(text)
 }
 
 /// The name of the snapshot's file.

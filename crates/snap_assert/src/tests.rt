@@ -12,6 +12,10 @@ const PATH: &str = "w/src/snapshots/m__one.snap";
 
 const SAVED: &str = "---\nsource: src/a.rs\nexpression: x\n---\na: 1\n";
 
+const UPDATED: &str = "updated w/src/snapshots/m__one.snap\n";
+
+const PASSED: &str = "passed w/src/snapshots/m__one.snap\n";
+
 fn words(alloc: Global, list: &[&str]) -> Result<Vec<Text>, Fail> {
     let mut words = Vec::new(alloc);
     for word in list {
@@ -39,11 +43,7 @@ fn first_save_and_second_pass(rt: HostRuntime) -> Result<(), Fail> {
     let alloc = rt.alloc();
     let path = Text::from_str(alloc, PATH)?;
     let mut store = SteadyStore::new(alloc);
-    let lines = [
-        "updated w/src/snapshots/m__one.snap\n",
-        "passed w/src/snapshots/m__one.snap\n",
-    ];
-    for line in lines {
+    for line in [UPDATED, PASSED] {
         let (code, sink) = run_over(alloc, &["run", "inplace", "w"], REQUEST, &mut store)?;
         assert_eq!(rt; code, 0, "{line}");
         assert_eq!(rt; sink.written(), line.as_bytes());
@@ -67,6 +67,63 @@ fn empty_input_and_bad_words(rt: HostRuntime) -> Result<(), Fail> {
         assert_eq!(rt; code, want, "{mode}");
         assert_eq!(rt; sink.written(), "".as_bytes());
         assert_eq!(rt; store.len(), 0);
+    }
+    Ok(())
+}
+
+/// What stands at the path before a run with the request, and the line that it writes.
+const STORED: [(&str, &str); 8] = [
+    // Canonical headers: any fields, in any order, and none at all.
+    (
+        "---\nexpression: y\nsource: z\nmore:\n  - 1\n---\na: 1\n",
+        PASSED,
+    ),
+    ("---\n{}\n---\na: 1\n\n", PASSED),
+    ("---\nsource: a\n---\na: 2\n", UPDATED),
+    ("---\nsource: a\n---\na:  1\n", UPDATED),
+    // A binary header, one without its extension, one that is no dict, and one that is not as it is printed.
+    (
+        "---\nextension: png\nsnapshot_kind: binary\n---\na: 1\n",
+        UPDATED,
+    ),
+    ("---\nsnapshot_kind: binary\n---\na: 1\n", UPDATED),
+    ("---\n- 1\n---\na: 1\n", UPDATED),
+    ("---\nsource:  a\n---\na: 1\n", UPDATED),
+];
+
+#[test]
+fn a_stored_file_is_judged(rt: HostRuntime) -> Result<(), Fail> {
+    let alloc = rt.alloc();
+    let path = Text::from_str(alloc, PATH)?;
+    let mut store = SteadyStore::new(alloc);
+    for (stored, line) in STORED {
+        store.put(&path, stored.as_bytes())?;
+        let (code, sink) = run_over(alloc, &["run", "inplace", "w"], REQUEST, &mut store)?;
+        assert_eq!(rt; code, 0);
+        assert_eq!(rt; sink.written(), line.as_bytes(), "{stored}");
+    }
+    Ok(())
+}
+
+/// What stands behind the request, the lines that a run over both writes, and its status.
+const BEHIND: [(&str, &str, u8); 4] = [
+    ("---\nb\n", UPDATED, 3),
+    ("---\r\nb\n", UPDATED, 3),
+    // No start of a document: the first one is no request any more.
+    (" ---\n", "", 3),
+    ("b: 2\n", "", 3),
+];
+
+#[test]
+fn an_input_is_cut_into_documents(rt: HostRuntime) -> Result<(), Fail> {
+    let alloc = rt.alloc();
+    for (behind, lines, want) in BEHIND {
+        let mut input = Text::from_str(alloc, REQUEST)?;
+        input.push_str(alloc, behind)?;
+        let mut store = SteadyStore::new(alloc);
+        let (code, sink) = run_over(alloc, &["run", "inplace", "w"], input.as_str(), &mut store)?;
+        assert_eq!(rt; code, want, "{behind}");
+        assert_eq!(rt; sink.written(), lines.as_bytes());
     }
     Ok(())
 }

@@ -57,10 +57,10 @@ fn read_kind(
     if !says_binary(pairs) {
         return Ok(Some(SnapshotKind::Text));
     }
-    match read_text(alloc, pairs, "extension")? {
-        None => Ok(None),
-        Some(extension) => Ok(Some(SnapshotKind::Binary { extension })),
-    }
+    let Some(extension) = read_text(alloc, pairs, "extension")? else {
+        return Ok(None);
+    };
+    Ok(Some(SnapshotKind::Binary { extension }))
 }
 
 fn says_binary(pairs: &[(Content, Content)]) -> bool

@@ -12,6 +12,8 @@ mod saving;
 pub mod snapshot;
 pub mod split;
 #[cfg(test)]
+mod file_tests;
+#[cfg(test)]
 mod tests;
 
 pub use contents::SnapshotContents;

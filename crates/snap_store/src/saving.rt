@@ -5,10 +5,13 @@ ghost use Rattle.snap_outside.specs.Files.{Files, SameBut};
 ghost use Rattle.snap_store.specs.Causes.{FileCause};
 ghost use Rattle.snap_store.specs.Image.{saved_text};
 ghost use Rattle.snap_store.specs.Reading.{SaveEnd};
-ghost use Rattle.snap_store.specs.Views.{meta_in, contents_in, text_in};
+ghost use Rattle.snap_store.specs.Meta.{header_tree, without_line};
+ghost use Rattle.snap_store.specs.Views.{meta_in, meta_of, contents_in, text_in};
+ghost use Rattle.snap_content.specs.Lines.{document_of};
 
 use crate::contents::SnapshotContents;
 use crate::header::header_content;
+use crate::metadata::MetaData;
 use crate::snapshot::Snapshot;
 use snap_content::{Error, OutOfMemory, Text};
 use snap_emit::yaml;
@@ -36,6 +39,14 @@ impl Snapshot {
     }
 }
 
+/// The text of the header that metadata are saved under, without the line of the assertion.
+fn saved_header(alloc: Global, metadata: &MetaData) -> Result<Text, OutOfMemory>
+    ensures { IfOk result (λ text. text ≡ document_of (header_tree (without_line (meta_of metadata.now)))) }
+{
+    let header = header_content(alloc, metadata, None)?;
+    yaml::to_string(alloc, &header, false)
+}
+
 /// The text of the file that a text snapshot is saved as.
 fn saved_file(alloc: Global, snapshot: &Snapshot) -> Result<Text, OutOfMemory>
     requires { IsSome (text_in (contents_in snapshot.now)) }
@@ -44,8 +55,7 @@ fn saved_file(alloc: Global, snapshot: &Snapshot) -> Result<Text, OutOfMemory>
     let SnapshotContents::Text(contents) = snapshot.contents() else {
         unreachable!()
     };
-    let header = header_content(alloc, snapshot.metadata(), None)?;
-    let mut text = yaml::to_string(alloc, &header, false)?;
+    let mut text = saved_header(alloc, snapshot.metadata())?;
     text.push_ascii(alloc, "---\n")?;
     text.push_text(alloc, &contents.normal(alloc)?)?;
     text.push_ascii(alloc, "\n")?;

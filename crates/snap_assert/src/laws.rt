@@ -1,0 +1,37 @@
+//! Laws of what an assertion and a run rest on, and the worked examples.
+ghost use Rattle.std.specs.Prelude.{◌≡◌, ◌++◌, ◌∷◌, ℕ, List, [], Some, true, false, codes};
+ghost use Rattle.std.specs.List.{concat};
+ghost use Rattle.snap_content.specs.Plain.{Entries};
+ghost use Rattle.snap_store.specs.Fields.{is_binary};
+ghost use Rattle.snap_assert.specs.Cut.{documents};
+ghost use Rattle.snap_assert.specs.Judging.{says_binary};
+ghost use Rattle.snap_assert.specs.Place.{PlaceView, holds_slash, last_part};
+ghost use Rattle.snap_assert.specs.Session.{SessionView, empty_session, name_step};
+ghost use Rattle.snap_assert.specs.Settings.{SettingsView, new_settings};
+ghost use Rattle.snap_assert.specs.SnapshotPath.{path_of};
+
+/// The last part of a path is what stands behind its last slash, and the whole path where it has none.
+pub const fn last_part_is_behind_the_slash()
+    ensures alone { (part : List ℕ) → holds_slash part ≡ false → last_part part ≡ part }
+    ensures behind { (front part : List ℕ) → holds_slash part ≡ false → last_part (front ++ 47 ∷ part) ≡ part }
+{}
+
+/// The documents of an input, one behind the other, are the input.
+pub const fn cut_loses_nothing()
+    ensures { (input : List ℕ) → concat (documents input) ≡ input }
+{}
+
+/// A header that is read as binary has a pair that says so, and is no canonical one.
+pub const fn a_binary_header_is_not_canonical()
+    ensures { (entries : Entries) → is_binary entries ≡ true → says_binary entries ≡ true }
+{}
+
+/// Names, paths and documents at concrete values.
+pub const fn worked_examples()
+    ensures given { (name_step new_settings empty_session (codes "one")).name ≡ codes "one" }
+    ensures suffixed { (name_step (record new_settings { suffix = Some (codes "x") }) empty_session (codes "one")).name ≡ codes "one@x" }
+    ensures stays { (settings : SettingsView) (session : SessionView) (name : List ℕ) → (name_step settings session name).session ≡ session }
+    ensures path { (place : PlaceView) → path_of new_settings (record place { workspace = codes "w"; function = []; module_name = codes "m"; file = codes "src/a.rs" }) (codes "one")
+        ≡ codes "w/src/snapshots/m__one.snap" }
+    ensures cut { documents (codes "a: 1\n---\nb\n ---\n---\r\nc") ≡ codes "a: 1\n" ∷ codes "---\nb\n ---\n" ∷ codes "---\r\nc" ∷ [] }
+{}
