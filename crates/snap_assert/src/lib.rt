@@ -40,4 +40,6 @@ pub use settings::Settings;
 pub use status::{RefusalKind, Status};
 
 #[cfg(test)]
+mod row_tests;
+#[cfg(test)]
 mod tests;

@@ -71,6 +71,18 @@ impl Warnings {
     {
         self.items.get(index)
     }
+
+    pub fn from_vec(items: Vec<Warning>) -> Warnings
+        ensures { warnings_in result ≡ items.items }
+    {
+        Warnings { items }
+    }
+
+    pub fn into_vec(self) -> Vec<Warning>
+        ensures { result.items ≡ warnings_in self }
+    {
+        self.items
+    }
 }
 
 /// What an assertion answers.

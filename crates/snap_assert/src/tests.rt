@@ -1,5 +1,5 @@
 //! The worked rows, over a store in memory, and each fault in turn.
-use crate::{Status, run};
+use crate::run;
 use snap_content::{Blob, Text};
 use snap_outside::{MemorySink, MemorySource, MemoryStore, SteadySink, SteadySource, SteadyStore};
 use std::alloc::Global;
@@ -151,14 +151,5 @@ fn each_call_of_the_store_fails_in_turn(rt: HostRuntime) -> Result<(), Fail> {
     let (code, _sink, store) = run_failing_at(rt.alloc(), 4)?;
     assert_eq!(rt; code, 0);
     assert_eq!(rt; store.len(), 1);
-    Ok(())
-}
-
-#[test]
-fn a_status_is_told(rt: HostRuntime) -> Result<(), Fail> {
-    let path = Text::from_str(rt.alloc(), "w/x")?;
-    let status = Status::FileIo { document: 3, path };
-    let text = status.describe(rt.alloc())?;
-    assert_eq!(rt; text.as_str(), "snap: document 3: file fault at w/x");
     Ok(())
 }
