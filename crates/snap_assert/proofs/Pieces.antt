@@ -1,8 +1,8 @@
 -- What single reads add up to.
-use Rattle.std.proofs.Common.{◌≡◌, ℕ, ◌<◌, ◌≤◌, List, [], ◌∷◌, ◌++◌, length, take, drop, Option, Some, refl, sym, ◌∙◌, ap, arith, append_assoc, length-append}
+use Rattle.std.proofs.Common.{◌≡◌, ℕ, ◌+◌, ◌<◌, ◌≤◌, List, [], ◌∷◌, ◌++◌, length, take, drop, Option, Some, refl, sym, ◌∙◌, ap, arith, append_assoc, length-append}
 use Rattle.std.proofs.lemmas.List.{length-take-le, length-drop}
 use Rattle.snap_outside.specs.Streams.{GivesFront}
-use Rattle.snap_assert.specs.Streams.{TakesPiece}
+use Rattle.snap_assert.specs.Streams.{TakesPiece, TakesAtMost}
 
 -- these bytes were read of what was left first
 pub record IsRead (bytes : List ℕ) (first now : Option (List ℕ)) : Type 0 where
@@ -68,3 +68,39 @@ part_room room size buffer whole some fits = omega (arith, some, length-take-le 
 pub whole_room : (room size : ℕ) (buffer front : List ℕ) → length buffer ≡ size → room ≤ size → length front ≡ length (take room buffer) → length (front ++ drop room buffer) ≡ size
 whole_room room size buffer front whole fits same =
     omega (arith, whole, fits, same, length-append front (drop room buffer), length-drop room buffer, length-take-le room buffer (omega (arith, fits, whole)))
+
+-- at most so much was taken
+pub none_taken : (most : ℕ) (left left' : Option (List ℕ)) → left' ≡ left → TakesAtMost most left left'
+none_taken most left left' same = λ xs e. record { front = []; given = record { rest = xs; told = same ∙ e; whole = refl }; within = omega arith }
+
+pub piece_taken : (count : ℕ) (buffer before : List ℕ) (left left' : Option (List ℕ)) → count ≤ length buffer → length buffer ≡ length before
+    → ((xs : List ℕ) → left ≡ Some xs → GivesFront xs (take count buffer) left') → TakesAtMost (length before) left left'
+piece_taken count buffer before left left' fits same given = λ xs e. record {
+  front = take count buffer;
+  given = given xs e;
+  within = omega (arith, length-take-le count buffer fits, fits, same);
+}
+
+pub all_taken : (most : ℕ) (bytes : List ℕ) (first now : Option (List ℕ)) → IsRead bytes first now → length bytes ≤ most → TakesAtMost most first now
+all_taken most bytes first now r within = λ xs e. record { front = bytes; given = r.each xs e; within = within }
+
+pub taken_then : (most room : ℕ) (bytes : List ℕ) (first now later : Option (List ℕ)) → IsRead bytes first now → TakesAtMost room now later → length bytes + room ≤ most → TakesAtMost most first later
+taken_then most room bytes first now later r t within = λ xs e.
+    let before = r.each xs e in
+    let after = t before.rest before.told in
+    record {
+      front = bytes ++ after.front;
+      given = record {
+        rest = after.given.rest;
+        told = after.given.told;
+        whole = before.whole ∙ ap (λ x. bytes ++ x) after.given.whole ∙ sym (append_assoc bytes after.front after.given.rest);
+      };
+      within = omega (arith, within, after.within, length-append bytes after.front);
+    }
+
+-- what is read into the part of a buffer keeps the bound
+pub room_left : (room size most : ℕ) (bytes buffer : List ℕ) → length buffer ≡ size → room ≤ size → length bytes + room ≤ most → length bytes + length (take room buffer) ≤ most
+room_left room size most bytes buffer whole fits left = omega (arith, left, length-take-le room buffer (omega (arith, fits, whole)))
+
+pub within_then : (most count room : ℕ) (bytes next : List ℕ) (now later : Option (List ℕ)) → TakesPiece count bytes next now later → count ≤ room → length bytes + room ≤ most → length next ≤ most
+within_then most count room bytes next now later t fits left = omega (arith, left, fits, ap length t.added, length-append bytes t.piece, t.size)

@@ -1,5 +1,5 @@
 -- Reading a whole input.
-use Rattle.std.specs.Prelude.{◌≡◌, ℕ, List, ◌++◌, length, Option, Some, Result, Ok, Err}
+use Rattle.std.specs.Prelude.{◌≡◌, ◌≤◌, ℕ, List, ◌++◌, length, Option, Some, Result, Ok, Err}
 use Rattle.snap_outside.specs.Causes.{Rose}
 use Rattle.snap_outside.specs.Streams.{GivesFront}
 use Rattle.snap_assert.specs.declared.streams.ReadError.{ReadError}
@@ -18,3 +18,13 @@ pub record TakesPiece (count : ℕ) (bytes bytes' : List ℕ) (left left' : Opti
   pub size : length piece ≡ count
   pub added : bytes' ≡ bytes ++ piece
   pub given : (xs : List ℕ) → left ≡ Some xs → GivesFront xs piece left'
+
+-- a front of at most so many bytes is gone, and the rest is left
+pub record LosesAtMost (most : ℕ) (all : List ℕ) (left : Option (List ℕ)) : Type 0 where
+  pub front : List ℕ
+  pub given : GivesFront all front left
+  pub within : length front ≤ most
+
+-- at most so many bytes were taken off the front of what was left
+abbrev pub TakesAtMost : ℕ → Option (List ℕ) → Option (List ℕ) → Type 0
+TakesAtMost most left left' = (xs : List ℕ) → left ≡ Some xs → LosesAtMost most xs left'

@@ -1,9 +1,10 @@
 //! All that the program does.
-ghost use Rattle.std.specs.Prelude.{◌≡◌, ◌≤◌, List, ℕ, None, Some, MatchOption, length, false};
+ghost use Rattle.std.specs.Prelude.{◌≡◌, ◌≤◌, ◌+◌, List, ℕ, None, Some, MatchOption, length, false};
 ghost use Rattle.snap_assert.specs.Cut.{documents};
 ghost use Rattle.snap_assert.specs.Answers.{RunWords, words_mean};
 ghost use Rattle.snap_assert.specs.Status.{WordsCause, RunsFrom, LengthCause, SourceCause, SinkCause, StoreCause, AreSpelled, IsSteady, EndsWell};
 ghost use Rattle.snap_assert.specs.StatusOf.{status_of};
+ghost use Rattle.snap_assert.specs.Streams.{TakesAtMost};
 ghost use Rattle.snap_assert.specs.declared.config.Update.TheVariants.{InPlace};
 
 use crate::documents::{DocumentError, Stop, run_documents};
@@ -57,6 +58,7 @@ fn run_words<S: Source, K: Sink, F: Store>(
     ensures runs { RunsFrom result (words_mean words.now) (S.left source.old)
         (F.files store.old) (F.files store.new) (K.written sink.old) (K.written sink.new) }
     ensures length { LengthCause MAX_INPUT (S.left source.old) (S.left source.new) result }
+    ensures taken { TakesAtMost (MAX_INPUT + 1) (S.left source.old) (S.left source.new) }
     ensures read { SourceCause (S.faults source.old) (S.faults source.new) result }
     ensures write { SinkCause (K.faults sink.old) (K.faults sink.new) result }
     ensures file { StoreCause (F.faults store.old) (F.faults store.new) result }
@@ -95,6 +97,7 @@ pub fn run<S: Source, K: Sink, F: Store>(
     ensures runs { RunsFrom result (words_mean words.now) (S.left source.old)
         (F.files store.old) (F.files store.new) (K.written sink.old) (K.written sink.new) }
     ensures length { LengthCause MAX_INPUT (S.left source.old) (S.left source.new) result }
+    ensures taken { TakesAtMost (MAX_INPUT + 1) (S.left source.old) (S.left source.new) }
     ensures read { SourceCause (S.faults source.old) (S.faults source.new) result }
     ensures write { SinkCause (K.faults sink.old) (K.faults sink.new) result }
     ensures file { StoreCause (F.faults store.old) (F.faults store.new) result }

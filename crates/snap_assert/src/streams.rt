@@ -1,8 +1,8 @@
 //! Whole inputs and whole lines, over a source and a sink.
-ghost use Rattle.std.specs.Prelude.{◌≡◌, ◌<◌, ◌≤◌, ◌++◌, [], List, ℕ, Some, length, take, IfOk, OnOk, OnErr, IsErrOf};
+ghost use Rattle.std.specs.Prelude.{◌≡◌, ◌<◌, ◌≤◌, ◌+◌, ◌++◌, [], List, ℕ, Some, length, take, IfOk, OnOk, OnErr, IsErrOf};
 ghost use Rattle.snap_outside.specs.Causes.{HasCause};
 ghost use Rattle.snap_outside.specs.Streams.{HoldsFront};
-ghost use Rattle.snap_assert.specs.Streams.{ReadCause, TakesPiece};
+ghost use Rattle.snap_assert.specs.Streams.{ReadCause, TakesPiece, TakesAtMost};
 
 use snap_outside::{Fault, Sink, Source};
 use std::alloc::Global;
@@ -29,6 +29,7 @@ fn read_piece<S: Source>(
     ensures piece { IfOk result (λ count. TakesPiece count bytes.old.items bytes.new.items (S.left source.old) (S.left source.new)) }
     ensures end { IfOk result (λ count. count ≡ 0 → 0 < length buffer.old → (xs : List ℕ) → S.left source.old ≡ Some xs → xs ≡ []) }
     ensures within { IfOk result (λ count. count ≤ length buffer.old) }
+    ensures taken { TakesAtMost (length buffer.old) (S.left source.old) (S.left source.new) }
     ensures not_long { IsErrOf result ReadError.TooLong → ⊥ }
     ensures cause { ReadCause (S.faults source.old) (S.faults source.new) result }
 {
@@ -44,11 +45,12 @@ fn read_piece<S: Source>(
     }
 }
 
-/// Reads the source to its end, within the limit. At most one byte more than the limit is taken.
+/// Reads the source to its end, within the limit. At most one byte more than the limit is ever taken.
 pub fn read_all<S: Source>(alloc: Global, source: &mut S) -> Result<Vec<u8>, ReadError>
     ensures all { IfOk result (λ bytes. (xs : List ℕ) → S.left source.old ≡ Some xs → bytes.items ≡ xs) }
     ensures end { IfOk result (λ bytes. (xs : List ℕ) → S.left source.old ≡ Some xs → S.left source.new ≡ Some []) }
     ensures within { IfOk result (λ bytes. length bytes.items ≤ MAX_INPUT) }
+    ensures taken { TakesAtMost (MAX_INPUT + 1) (S.left source.old) (S.left source.new) }
     ensures too_long { IsErrOf result ReadError.TooLong → (xs : List ℕ) → S.left source.old ≡ Some xs → MAX_INPUT < length xs }
     ensures cause { ReadCause (S.faults source.old) (S.faults source.new) result }
 {

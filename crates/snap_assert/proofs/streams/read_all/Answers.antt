@@ -1,5 +1,5 @@
 use Rattle.std.proofs.Common.{◌∙◌, arith}
-use Rattle.snap_assert.proofs.Pieces.{more_read, all_read, as_long, part_room, whole_room}
+use Rattle.snap_assert.proofs.Pieces.{more_read, all_read, as_long, part_room, whole_room, room_left, within_then, taken_then}
 use Rattle.snap_assert.proofs.streams.read_all.Goals as goal
 
 -- src/streams.rt:62:21
@@ -18,7 +18,20 @@ loop-buffer-preserved g c = record {
   read = more_read c.in-Ok.count _ _ _ _ _ c.in-Ok.ensures.piece c.loop-buffer.invariant.read;
   count = c.in-Ok.ensures.cause ∙ c.loop-buffer.invariant.count;
   room = whole_room c.min-room.result 4096 c.loop-buffer.buffer c.read_piece.new.buffer c.loop-buffer.invariant.room (omega (arith, c.min-room.ensures)) c.read_piece.auto.buffer;
+  within = within_then 67108865 c.in-Ok.count _ _ _ _ _ c.in-Ok.ensures.piece c.in-Ok.ensures.within
+      (room_left c.min-room.result 4096 67108865 c.loop-buffer.bytes.items c.loop-buffer.buffer c.loop-buffer.invariant.room (omega (arith, c.min-room.ensures))
+      (omega (arith, c.min-room.ensures, c.len-in-loop-buffer.ensures, c.len.ensures, c.loop-buffer-test.true)));
 }
+
+pub returns-then-count-eq0-clause-taken : goal.returns-then-count-eq0-clause-taken
+returns-then-count-eq0-clause-taken g c = taken_then 67108865 _ c.loop-buffer.bytes.items _ _ _ c.loop-buffer.invariant.read c.in-Ok.ensures.taken
+    (room_left c.min-room.result 4096 67108865 c.loop-buffer.bytes.items c.loop-buffer.buffer c.loop-buffer.invariant.room (omega (arith, c.min-room.ensures))
+    (omega (arith, c.min-room.ensures, c.len-in-loop-buffer.ensures, c.len.ensures, c.loop-buffer-test.true)))
+
+pub returns-in-Err-clause-taken : goal.returns-in-Err-clause-taken
+returns-in-Err-clause-taken g c = taken_then 67108865 _ c.loop-buffer.bytes.items _ _ _ c.loop-buffer.invariant.read c.in-Err.ensures.taken
+    (room_left c.min-room.result 4096 67108865 c.loop-buffer.bytes.items c.loop-buffer.buffer c.loop-buffer.invariant.room (omega (arith, c.min-room.ensures))
+    (omega (arith, c.min-room.ensures, c.len-in-loop-buffer.ensures, c.len.ensures, c.loop-buffer-test.true)))
 
 pub returns-clause-too_long : goal.returns-clause-too_long
 returns-clause-too_long g c = λ is xs e. omega (arith, as_long _ _ _ xs c.loop-buffer.invariant.read e, c.loop-buffer-test.false)

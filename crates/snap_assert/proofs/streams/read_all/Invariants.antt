@@ -1,4 +1,4 @@
-use Rattle.std.proofs.Common.{◌≡◌, ◌-◌, length}
+use Rattle.std.proofs.Common.{◌≡◌, ◌≤◌, ◌-◌, length}
 use Rattle.snap_assert.proofs.Pieces.{IsRead}
 use Rattle.snap_assert.proofs.streams.read_all.Given as goal
 
@@ -7,6 +7,7 @@ invariant-loop-buffer g l = record {
   read : IsRead l.bytes.items (g.S.Source.left l.fn.source) (g.S.Source.left l.source);
   count : g.S.Source.faults l.source ≡ g.S.Source.faults l.fn.source;
   room : length l.buffer ≡ 4096;
+  within : length l.bytes.items ≤ 67108865;
 }
 
 -- what is left below the limit: each read takes a byte at least
