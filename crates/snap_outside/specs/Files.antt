@@ -1,11 +1,15 @@
 -- A store's files: a finite map from the text of a path to bytes.
-use Rattle.std.specs.Prelude.{◌≡◌, ◌≢◌, ℕ, Bool, false, List, Option, Some}
+use Rattle.std.specs.Prelude.{◌≡◌, ◌≢◌, ℕ, Bool, false, List, [], ◌++◌, Option, Some, unwrap_or}
 use Rattle.std.specs.Ordering.{nat_cmp}
 use Rattle.std.specs.Cmp.Lexicographic.{slice_cmp}
-use Rattle.std.specs.FinMap.{FinMap, get}
+use Rattle.std.specs.FinMap.{FinMap, get, insert}
 
 abbrev pub Files : Type 0
 Files = FinMap (slice_cmp nat_cmp) (List ℕ)
+
+-- the file at the path has these bytes behind what it held, or is these bytes where there was no file
+abbrev pub appended : Files → List ℕ → List ℕ → Files
+appended m path bytes = insert m path (unwrap_or (get m path) [] ++ bytes)
 
 -- now is known, and holds what m holds at each path but this one
 pub record SameBut (path : List ℕ) (m : Files) (now : Option Files) : Type 0 where

@@ -1,6 +1,7 @@
 //! Files in memory.
-ghost use Rattle.std.specs.Prelude.{◌≡◌, IfOk, OnOk, OnErr, option_copied};
+ghost use Rattle.std.specs.Prelude.{◌≡◌, ◌++◌, [], IfOk, OnOk, OnErr, option_copied, unwrap_or};
 ghost use Rattle.std.specs.FinMap.{empty, insert, remove, get, len};
+ghost use Rattle.snap_outside.specs.Files.{appended};
 ghost use Rattle.snap_outside.specs.Listed.{AreNames};
 
 use crate::listing::name_behind;
@@ -62,6 +63,28 @@ impl MemoryFiles {
         let bytes = Blob::from_slice(self.alloc, bytes)?;
         self.tree.insert(path, bytes)?;
         Ok(())
+    }
+
+    /// Adds these bytes behind those of the file, or makes them a file where there is none.
+    /// After want of memory nothing has changed.
+    pub fn append(&mut self, path: &Text, bytes: &[u8]) -> Result<(), OutOfMemory>
+        ensures ok { OnOk result (self.new ≡ appended self.old path.now bytes.now) }
+        ensures err { OnErr result (self.new ≡ self.old) }
+    {
+        let all = self.held_before(path, bytes)?;
+        self.put(path, all.as_slice())
+    }
+
+    /// What the file holds, nothing where there is none, and these bytes behind it.
+    fn held_before(&self, path: &Text, bytes: &[u8]) -> Result<Vec<u8>, OutOfMemory>
+        ensures { IfOk result (λ all. all.items ≡ unwrap_or (get self.now path.now) [] ++ bytes.now) }
+    {
+        let mut all = Vec::new(self.alloc);
+        if let Some(held) = self.get(path) {
+            all.extend_from_slice(held.as_slice())?;
+        }
+        all.extend_from_slice(bytes)?;
+        Ok(all)
     }
 
     /// Takes the file away, where there is one.

@@ -7,7 +7,7 @@ use crate::names::Names;
 use crate::outside::{Store, StoreError};
 use snap_content::{Blob, Text};
 use std::alloc::{AllocError, Allocator, Global};
-use std::fs::{DirEntry, Files, OpenFile};
+use std::fs::{DirEntry, Files, OpenFile, OpenOptions};
 use std::io::{ErrorKind, Read, Write};
 use std::rt::Runtime;
 use std::{fs, io};
@@ -62,13 +62,18 @@ impl<R: Runtime> Store for FolderStore<R> {
         self.counted(answer)
     }
 
+    fn append(&mut self, path: &Text, bytes: &[u8]) -> Result<(), StoreError> {
+        let answer = append_file(&self.rt, path.as_str(), bytes);
+        self.counted(answer)
+    }
+
     fn remove(&mut self, path: &Text) -> Result<bool, StoreError> {
         let answer = remove_file(&self.rt, path.as_str());
         self.counted(answer)
     }
 
     fn list(&mut self, alloc: Global, folder: &Text) -> Result<Names, StoreError> {
-        let answer = list_folder(&self.rt, alloc, folder.as_str());
+        let answer = list_folder(&self.rt, alloc, folder.as_str(), MAX_NAMES);
         self.counted(answer)
     }
 }
@@ -102,32 +107,74 @@ fn read_to_end<F: Read>(alloc: Global, file: &mut F) -> Result<Vec<u8>, StoreErr
 }
 
 /// Writes the bytes to a helper beside the file, and moves it to the file's place: a write that is cut off
-/// leaves the file whole, old or new. The helper is a hidden file, so no name of the product begins as it does.
-/// The folder's own entry is not synced, for which the kit has no call; a link at the path gives way to the file.
+/// leaves the file whole, old or new. A link at the path gives way to the file.
 fn write_file<R: Runtime>(rt: &R, path: &str, bytes: &[u8]) -> Result<(), StoreError> {
-    let alloc = rt.alloc();
-    let helper = match path.rsplit_once('/') {
-        Some((folder, name)) => {
-            if fs::create_dir_all(rt, folder).is_err() {
-                return Err(StoreError::Failed);
-            }
-            format!(in alloc; "{folder}/.{name}.snap-writing")?
-        }
-        None => format!(in alloc; ".{path}.snap-writing")?,
-    };
-    let written = write_helper(rt, helper.as_str(), bytes);
-    if written.is_err() || fs::rename(rt, helper.as_str(), path).is_err() {
+    let helper = helper_of(rt.alloc(), path)?;
+    let folder = folder_of(path);
+    if fs::create_dir_all(rt, folder).is_err() {
+        return Err(StoreError::Failed);
+    }
+    if move_there(rt, helper.as_str(), path, bytes).is_err() {
         // What is left of the helper does no harm.
         let _ = fs::remove_file(rt, helper.as_str());
         return Err(StoreError::Failed);
     }
-    Ok(())
+    or_failed(sync_folder(rt, folder))
 }
 
-fn write_helper<R: Runtime>(rt: &R, helper: &str, bytes: &[u8]) -> io::Result<()> {
+/// Adds the bytes to the file itself, with no helper: a write that is cut off may leave a part of them there.
+fn append_file<R: Runtime>(rt: &R, path: &str, bytes: &[u8]) -> Result<(), StoreError> {
+    let folder = folder_of(path);
+    if fs::create_dir_all(rt, folder).is_err() || add_bytes(rt, path, bytes).is_err() {
+        return Err(StoreError::Failed);
+    }
+    or_failed(sync_folder(rt, folder))
+}
+
+/// What stands before the last slash of the path; else the working folder.
+fn folder_of(path: &str) -> &str {
+    match path.rsplit_once('/') {
+        Some((folder, _)) => { if folder.is_empty() { "/" } else { folder } }
+        None => ".",
+    }
+}
+
+/// A hidden file beside the file, so no name of the product begins as its name does.
+pub(crate) fn helper_of<A: Allocator>(alloc: A, path: &str) -> Result<String<A>, AllocError> {
+    match path.rsplit_once('/') {
+        Some((folder, name)) => format!(in alloc; "{folder}/.{name}.snap-writing"),
+        None => format!(in alloc; ".{path}.snap-writing"),
+    }
+}
+
+fn move_there<R: Runtime>(rt: &R, helper: &str, path: &str, bytes: &[u8]) -> io::Result<()> {
     let mut file = fs::create(rt, helper)?;
     file.write_all(bytes)?;
+    file.sync_all()?;
+    fs::rename(rt, helper, path)
+}
+
+fn add_bytes<R: Runtime>(rt: &R, path: &str, bytes: &[u8]) -> io::Result<()> {
+    let mut file = OpenOptions::new().append(true).create(true).open(rt, path)?;
+    file.write_all(bytes)?;
     file.sync_all()
+}
+
+/// Makes the entries of the folder last. Some file systems have no such call, and say that it is invalid.
+fn sync_folder<R: Runtime>(rt: &R, folder: &str) -> io::Result<()> {
+    match fs::open(rt, folder)?.sync_all() {
+        Ok(()) => Ok(()),
+        Err(error) if error.kind() == ErrorKind::InvalidInput => Ok(()),
+        Err(error) => Err(error),
+    }
+}
+
+/// An error of the system is a fault.
+fn or_failed(answer: io::Result<()>) -> Result<(), StoreError> {
+    match answer {
+        Ok(()) => Ok(()),
+        Err(_) => Err(StoreError::Failed),
+    }
 }
 
 fn remove_file<R: Runtime>(rt: &R, path: &str) -> Result<bool, StoreError> {
@@ -138,8 +185,13 @@ fn remove_file<R: Runtime>(rt: &R, path: &str) -> Result<bool, StoreError> {
     }
 }
 
-/// The names of the files in a folder: no folders, and no names that are not UTF-8.
-fn list_folder<R: Runtime>(rt: &R, alloc: Global, folder: &str) -> Result<Names, StoreError> {
+/// The names of the files in a folder: no folders, and no names that are not UTF-8. More than `most` are a fault.
+pub(crate) fn list_folder<R: Files + Alloc + Clone + Drop>(
+    rt: &R,
+    alloc: Global,
+    folder: &str,
+    most: usize,
+) -> Result<Names, StoreError> {
     let folder = if folder.is_empty() { "." } else { folder };
     let entries = match fs::read_dir(rt, folder) {
         Ok(entries) => entries,
@@ -151,7 +203,7 @@ fn list_folder<R: Runtime>(rt: &R, alloc: Global, folder: &str) -> Result<Names,
         match entry {
             Ok(entry) => {
                 if is_file(&entry)? {
-                    if names.len() >= MAX_NAMES {
+                    if names.len() >= most {
                         return Err(StoreError::Failed);
                     }
                     names.push(Text::from_str(alloc, entry.file_name())?)?;

@@ -3,7 +3,7 @@ ghost use Rattle.std.specs.Prelude.{◌≡◌, ◌<◌, ◌↔◌, ◌++◌, [],
 ghost use Rattle.std.specs.FinMap.{empty, insert, remove, get, len};
 ghost use Rattle.std.specs.Io.{ReadsAtMost, WritesAtMost};
 ghost use Rattle.snap_outside.specs.Causes.{HasCause, StoreCause};
-ghost use Rattle.snap_outside.specs.Files.{Files, SameBut};
+ghost use Rattle.snap_outside.specs.Files.{Files, SameBut, appended};
 ghost use Rattle.snap_outside.specs.Held.{files_in, left_in, written_in, store_calls, source_calls, sink_calls};
 ghost use Rattle.snap_outside.specs.Listed.{AreNames};
 ghost use Rattle.snap_outside.specs.Schedules.{faults_so_far, fails_next, Counts, IsFresh, ListsCalls, FailsAsListed};
@@ -103,6 +103,23 @@ impl Store for MemoryStore {
             return Err(StoreError::Failed);
         }
         match self.files.put(path, bytes) {
+            Ok(()) => Ok(()),
+            Err(_) => Err(StoreError::OutOfMemory),
+        }
+    }
+
+    fn append(&mut self, path: &Text, bytes: &[u8]) -> Result<(), StoreError>
+        ensures appended { OnOk result (files_in self.new ≡ appended (files_in self.old) path.now bytes.now) }
+        ensures kept { OnErr result (files_in self.new ≡ files_in self.old) }
+        ensures unknown { OnErr result ((m : Files) → Some (files_in self.old) ≡ Some m → SameBut path.now m (Some (files_in self.new))) }
+        ensures cause { StoreCause (faults_so_far (store_calls self.old)) (faults_so_far (store_calls self.new)) result }
+        ensures listed { FailsAsListed (fails_next (store_calls self.old)) result }
+        ensures counts { Counts (store_calls self.old) (store_calls self.new) }
+    {
+        if self.schedule.call_fails() {
+            return Err(StoreError::Failed);
+        }
+        match self.files.append(path, bytes) {
             Ok(()) => Ok(()),
             Err(_) => Err(StoreError::OutOfMemory),
         }

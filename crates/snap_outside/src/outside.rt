@@ -4,7 +4,7 @@ ghost use Rattle.std.specs.Prelude.{◌≡◌, ◌<◌, ◌↔◌, ◌++◌, [],
 ghost use Rattle.std.specs.FinMap.{get, insert, remove};
 ghost use Rattle.std.specs.Io.{ReadsAtMost, WritesAtMost};
 ghost use Rattle.snap_outside.specs.Causes.{HasCause, StoreCause};
-ghost use Rattle.snap_outside.specs.Files.{Files, SameBut};
+ghost use Rattle.snap_outside.specs.Files.{Files, SameBut, appended};
 ghost use Rattle.snap_outside.specs.Listed.{AreNames};
 ghost use Rattle.snap_outside.specs.Streams.{GivesFront};
 
@@ -98,7 +98,7 @@ pub trait Sink {
 }
 
 /// Files by their paths. Paths are texts, and two texts name two files.
-/// After a `write` or a `remove` that failed or found no memory the file at that path is unknown,
+/// After a `write`, an `append` or a `remove` that failed or found no memory the file at that path is unknown,
 /// and all others are as they were; `read` and `list` change nothing.
 pub trait Store {
     /// The files, where it tells them.
@@ -116,6 +116,12 @@ pub trait Store {
     /// Makes these the bytes of the file; missing folders are made.
     fn write(&mut self, path: &Text, bytes: &[u8]) -> Result<(), StoreError>
         ensures written { OnOk result ((m : Files) → files self.old ≡ Some m → files self.new ≡ Some (insert m path.now bytes.now)) }
+        ensures unknown { OnErr result ((m : Files) → files self.old ≡ Some m → SameBut path.now m (files self.new)) }
+        ensures cause { StoreCause (faults self.old) (faults self.new) result };
+
+    /// Adds these bytes behind those of the file, or makes them a file where there is none; missing folders are made.
+    fn append(&mut self, path: &Text, bytes: &[u8]) -> Result<(), StoreError>
+        ensures appended { OnOk result ((m : Files) → files self.old ≡ Some m → files self.new ≡ Some (appended m path.now bytes.now)) }
         ensures unknown { OnErr result ((m : Files) → files self.old ≡ Some m → SameBut path.now m (files self.new)) }
         ensures cause { StoreCause (faults self.old) (faults self.new) result };
 

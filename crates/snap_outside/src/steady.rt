@@ -70,6 +70,13 @@ impl Store for SteadyStore {
         }
     }
 
+    fn append(&mut self, path: &Text, bytes: &[u8]) -> Result<(), StoreError> {
+        match self.files.append(path, bytes) {
+            Ok(()) => Ok(()),
+            Err(_) => Err(StoreError::OutOfMemory),
+        }
+    }
+
     fn remove(&mut self, path: &Text) -> Result<bool, StoreError> {
         let found = self.files.get(path).is_some();
         self.files.remove(path);

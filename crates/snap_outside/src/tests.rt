@@ -1,14 +1,16 @@
-//! The forms in memory and the adapters, each once.
+//! The forms in memory, each call once, and what the tests of the adapters share.
+mod folder;
+mod streams;
+
 use crate::{
-    Fault, FolderStore, MemorySink, MemorySource, MemoryStore, Sink, Source, SteadySink,
-    SteadySource, SteadyStore, Store, StoreError, StreamSink, StreamSource,
+    Fault, MemorySink, MemorySource, MemoryStore, Names, Sink, Source, SteadySink, SteadySource,
+    SteadyStore, Store, StoreError,
 };
 use snap_content::{Blob, OutOfMemory, Text};
 use std::alloc::Global;
-use std::io::{ErrorKind, Read, Write};
+use std::cmp::Ordering;
 use std::process::Abort;
 use std::test::Fail;
-use std::{fs, io};
 
 fn text(alloc: Global, value: &str) -> Result<Text, OutOfMemory> {
     Text::from_str(alloc, value)
@@ -23,6 +25,7 @@ fn blob(alloc: Global, value: &[u8]) -> Result<Blob, OutOfMemory> {
 enum Call {
     Read,
     Write(&'static [u8]),
+    Append(&'static [u8]),
     Remove,
     List,
 }
@@ -68,6 +71,10 @@ fn after_call<S: Store>(
             Ok(()) => text(alloc, "written"),
             Err(error) => after_error(alloc, error),
         },
+        Call::Append(bytes) => match store.append(path, bytes) {
+            Ok(()) => text(alloc, "appended"),
+            Err(error) => after_error(alloc, error),
+        },
         Call::Remove => match store.remove(path) {
             Ok(true) => text(alloc, "removed"),
             Ok(false) => text(alloc, "nothing"),
@@ -96,13 +103,18 @@ fn memory_store_fails_at_the_listed_calls(rt: HostRuntime) -> Result<(), Fail> {
     let path = text(alloc, "w/a")?;
     let mut store = MemoryStore::new(alloc);
     store.put(&path, b"one")?;
-    store.fail_at(vec![in alloc; 1, 3, 5]?);
+    store.fail_at(vec![in alloc; 1, 3, 5, 7, 9]?);
     let steps = [
         ("w/a", Call::Read, "Failed"),
         ("w/a", Call::Read, "one"),
         ("w/a", Call::Write(b"two"), "Failed"),
         ("w/a", Call::Read, "one"),
         ("w/a", Call::Remove, "Failed"),
+        ("w/a", Call::Read, "one"),
+        ("w/a", Call::Append(b"two"), "Failed"),
+        ("w/a", Call::Read, "one"),
+        ("w", Call::List, "Failed"),
+        ("w", Call::List, "a "),
         ("w/a", Call::Write(b"two"), "written"),
     ];
     assert_steps(&rt, alloc, &mut store, &steps)?;
@@ -114,6 +126,28 @@ fn memory_store_fails_at_the_listed_calls(rt: HostRuntime) -> Result<(), Fail> {
         ("w/a", Call::Read, "nothing"),
     ];
     assert_steps(&rt, alloc, &mut store, &steps)?;
+    Ok(())
+}
+
+#[test]
+fn stores_append(rt: HostRuntime) -> Result<(), Fail> {
+    let alloc = rt.alloc();
+    let steps = [
+        ("w/a", Call::Append(b""), "appended"),
+        ("w/a", Call::Read, ""),
+        ("w/a", Call::Append(b"one"), "appended"),
+        ("w/a", Call::Append(b" two"), "appended"),
+        ("w/b", Call::Read, "nothing"),
+        ("w/a", Call::Read, "one two"),
+        ("w/a", Call::Write(b"3"), "written"),
+        ("w/a", Call::Append(b"4"), "appended"),
+        ("w/a", Call::Read, "34"),
+        ("w", Call::List, "a "),
+    ];
+    let mut memory = MemoryStore::new(alloc);
+    assert_steps(&rt, alloc, &mut memory, &steps)?;
+    let mut steady = SteadyStore::new(alloc);
+    assert_steps(&rt, alloc, &mut steady, &steps)?;
     Ok(())
 }
 
@@ -200,90 +234,37 @@ fn sinks_keep_what_is_written(rt: HostRuntime) -> Result<(), Fail> {
 }
 
 #[test]
-fn folder_store_keeps_files(rt: HostRuntime) -> Result<(), Fail> {
+fn names_are_compared_name_by_name(rt: HostRuntime) -> Result<(), Fail> {
     let alloc = rt.alloc();
-    let _ = fs::remove_dir_all(&rt, "folder_store_test");
-    let mut store = FolderStore::new(rt.clone()?);
-    let steps = [
-        ("folder_store_test/x", Call::List, ""),
-        ("folder_store_test/x/a", Call::Read, "nothing"),
-        ("folder_store_test/x/s/b", Call::Write(b"deep"), "written"),
-        ("folder_store_test/x/a", Call::Write(b"one"), "written"),
-        ("folder_store_test/x/a", Call::Write(b"two"), "written"),
-        ("folder_store_test/x/a", Call::Read, "two"),
-        ("folder_store_test/x", Call::List, "a "),
-        ("folder_store_test/x/a", Call::Remove, "removed"),
-        ("folder_store_test/x/a", Call::Remove, "nothing"),
-        // A folder in a file's place, and a file in a folder's.
-        ("folder_store_test/x", Call::Read, "Failed"),
-        ("folder_store_test/x", Call::Write(b"one"), "Failed"),
-        ("folder_store_test/x", Call::Remove, "Failed"),
-        ("folder_store_test/x/s/b", Call::List, "Failed"),
-        ("folder_store_test", Call::List, ""),
-    ];
-    assert_steps(&rt, alloc, &mut store, &steps)?;
-    fs::remove_dir_all(&rt, "folder_store_test")?;
+    let mut names = Names::new(alloc);
+    names.push(text(alloc, "a")?)?;
+    names.push(text(alloc, "b")?)?;
+    for (others, order) in [
+        (
+            vec![in alloc; text(alloc, "a")?, text(alloc, "b")?]?,
+            Ordering::Equal,
+        ),
+        (vec![in alloc; text(alloc, "a")?]?, Ordering::Greater),
+        (vec![in alloc; text(alloc, "ab")?]?, Ordering::Less),
+    ] {
+        let others = Names::from_vec(others);
+        assert_eq!(rt; names.cmp(&others), order);
+        assert_eq!(rt; names == others, order == Ordering::Equal);
+    }
+    assert_eq!(rt; names.into_vec().len(), 2);
     Ok(())
 }
 
-/// Fails at its first call, gives or takes nothing at its second, and does not flush at its third.
-#[derive(Drop)]
-struct Stubborn {
-    calls: u8,
-}
-
-fn refused() -> io::Error {
-    io::Error::from(ErrorKind::Other)
-}
-
-impl Read for Stubborn {
-    fn read(&mut self, buf: &mut [u8]) -> io::Result<usize> {
-        self.calls = self.calls.saturating_add(1);
-        match self.calls {
-            1 => Err(refused()),
-            2 => Ok(0),
-            _ => b"abc".as_slice().read(buf),
-        }
-    }
-}
-
-impl Write for Stubborn {
-    fn write(&mut self, buf: &[u8]) -> io::Result<usize> {
-        self.calls = self.calls.saturating_add(1);
-        match self.calls {
-            1 => Err(refused()),
-            2 => Ok(0),
-            _ => Ok(buf.len()),
-        }
-    }
-
-    fn flush(&mut self) -> io::Result<()> {
-        if self.calls == 3 {
-            Err(refused())
-        } else {
-            Ok(())
-        }
-    }
-}
-
 #[test]
-fn streams_answer_faults(rt: HostRuntime) -> Result<(), Fail> {
+fn errors_tell_their_names(rt: HostRuntime) -> Result<(), Fail> {
     let alloc = rt.alloc();
-    let mut source = StreamSource::new(Stubborn { calls: 0 });
-    assert_eq!(rt;
-        read_all(alloc, &mut source, 3)?.as_slice(),
-        b"!abc".as_slice()
-    );
-    let mut source = StreamSource::new(b"abcdef".as_slice());
-    assert_eq!(rt;
-        read_all(alloc, &mut source, 3)?.as_slice(),
-        b"abcdef".as_slice()
-    );
-    let mut sink = StreamSink::new(Stubborn { calls: 0 });
-    for want in [Err(Fault), Err(Fault), Err(Fault), Ok(2)] {
-        assert_eq!(rt; sink.write(b"ab"), want);
+    assert_eq!(rt; format!(in alloc; "{}", Fault)?.as_str(), "Fault");
+    for (error, name) in [
+        (StoreError::Failed, "Failed"),
+        (StoreError::OutOfMemory, "OutOfMemory"),
+    ] {
+        assert_eq!(rt; format!(in alloc; "{error}")?.as_str(), name);
+        assert_eq!(rt; format!(in alloc; "{error:?}")?.as_str(), name);
     }
-    let mut sink = StreamSink::new(Vec::new(alloc));
-    assert_eq!(rt; sink.write(b"ab"), Ok(2));
     Ok(())
 }
