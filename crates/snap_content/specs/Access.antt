@@ -1,6 +1,6 @@
 -- What is seen of a tree from outside.
 use Rattle.std.specs.Prelude.{ℕ, ◌^◌, ℤ, pos, negsuc, Bool, true, false, List, Option, None, Some, nat_lt, if◌then◌else◌}
-use Rattle.snap_content.specs.Tree.{Tree, some, newtype_struct, newtype_variant, string, none, unit, u8, u16, u32, u64, u128, i8, i16, i32, i64, i128}
+use Rattle.snap_content.specs.Tree.{Tree, Trees, bool, bytes, seq, tuple, tuple_variant, some, newtype_struct, newtype_variant, string, none, unit, u8, u16, u32, u64, u128, i8, i16, i32, i64, i128}
 
 -- the tree behind wrappers
 abbrev pub resolved : Tree → Tree
@@ -37,3 +37,34 @@ abbrev pub fitting_u64 : Option ℤ → Option ℕ
 fitting_u64 (Some (pos n)) = if nat_lt n (2 ^ 64) then Some n else None
 fitting_u64 (Some (negsuc n)) = None
 fitting_u64 None = None
+
+-- a number from 0 to 2^128 - 1, and ones from -2^63 to 2^63 - 1 and from -2^127 to 2^127 - 1
+abbrev pub fitting_u128 : Option ℤ → Option ℕ
+fitting_u128 (Some (pos n)) = if nat_lt n (2 ^ 128) then Some n else None
+fitting_u128 (Some (negsuc n)) = None
+fitting_u128 None = None
+
+abbrev pub fitting_i64 : Option ℤ → Option ℤ
+fitting_i64 (Some (pos n)) = if nat_lt n (2 ^ 63) then Some (pos n) else None
+fitting_i64 (Some (negsuc n)) = if nat_lt n (2 ^ 63) then Some (negsuc n) else None
+fitting_i64 None = None
+
+abbrev pub fitting_i128 : Option ℤ → Option ℤ
+fitting_i128 (Some (pos n)) = if nat_lt n (2 ^ 127) then Some (pos n) else None
+fitting_i128 (Some (negsuc n)) = if nat_lt n (2 ^ 127) then Some (negsuc n) else None
+fitting_i128 None = None
+
+abbrev pub bytes_in : Tree → Option (List ℕ)
+bytes_in (bytes held) = Some held
+bytes_in _ = None
+
+abbrev pub bool_in : Tree → Option Bool
+bool_in (bool value) = Some value
+bool_in _ = None
+
+-- the trees that stand side by side in a sequence, a tuple or a tuple variant
+abbrev pub items_in : Tree → Option Trees
+items_in (seq items) = Some items
+items_in (tuple items) = Some items
+items_in (tuple_variant name index variant items) = Some items
+items_in _ = None

@@ -1,5 +1,6 @@
 pub mod Text
 pub mod Blob
+pub mod Lent
 pub mod Tree
 pub mod View
 pub mod Access
@@ -12,3 +13,7 @@ pub mod Spell
 pub mod Lines
 pub mod Readable
 pub mod Printed
+pub mod Orders
+pub mod Compared
+pub mod TotalOrder
+pub mod OrderLaws

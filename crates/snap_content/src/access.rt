@@ -1,8 +1,8 @@
 //! Looking into a tree.
-ghost use Rattle.std.specs.Prelude.{◌≡◌, ◌↔◌, IsTrue, Some, option_map};
+ghost use Rattle.std.specs.Prelude.{◌≡◌, option_map, option_copied};
 ghost use Rattle.std.specs.Str.{chars};
-ghost use Rattle.snap_content.specs.View.{tree};
-ghost use Rattle.snap_content.specs.Access.{resolved, text_in, whole_number_in, is_nil_tree, fitting_u64};
+ghost use Rattle.snap_content.specs.View.{tree, item_trees};
+ghost use Rattle.snap_content.specs.Access.{resolved, text_in, bytes_in, bool_in, items_in, whole_number_in, is_nil_tree, fitting_u64, fitting_u128, fitting_i64, fitting_i128};
 
 use crate::content::Content;
 
@@ -19,12 +19,58 @@ impl Content {
         }
     }
 
+    /// The tree behind wrappers, to be changed. What is written there stands inside the same wrappers.
+    // The clause says what stands there at the call. What the whole tree becomes is tested alone: a reference
+    // that comes out of one of several variants gets no proof of that.
+    pub fn resolve_inner_mut(&mut self) -> &mut Content
+        ensures { tree result.now ≡ resolved (tree self.old) }
+    {
+        match self {
+            Content::Some(inner) => inner.resolve_inner_mut(),
+            Content::NewtypeStruct(_, inner) => inner.resolve_inner_mut(),
+            Content::NewtypeVariant(_, _, _, inner) => inner.resolve_inner_mut(),
+            other => other,
+        }
+    }
+
     /// The text of a `String`, behind wrappers.
     pub fn as_str(&self) -> Option<&str>
         ensures { option_map (λ text. chars text.now) result ≡ text_in (resolved (tree self.now)) }
     {
         match self.resolve_inner() {
             Content::String(text) => Some(text.as_str()),
+            _ => None,
+        }
+    }
+
+    /// The bytes of a `Bytes`, behind wrappers.
+    pub fn as_bytes(&self) -> Option<&[u8]>
+        ensures { option_copied result ≡ bytes_in (resolved (tree self.now)) }
+    {
+        match self.resolve_inner() {
+            Content::Bytes(blob) => Some(blob.as_slice()),
+            _ => None,
+        }
+    }
+
+    /// The value of a `Bool`, behind wrappers.
+    pub fn as_bool(&self) -> Option<bool>
+        ensures { result ≡ bool_in (resolved (tree self.now)) }
+    {
+        match self.resolve_inner() {
+            Content::Bool(value) => Some(*value),
+            _ => None,
+        }
+    }
+
+    /// The items of a `Seq`, `Tuple` or `TupleVariant`, behind wrappers. A `TupleStruct` has none.
+    pub fn as_slice(&self) -> Option<&[Content]>
+        ensures { option_map (λ items. item_trees items.now) result ≡ items_in (resolved (tree self.now)) }
+    {
+        match self.resolve_inner() {
+            Content::Seq(items) => Some(items.as_slice()),
+            Content::Tuple(items) => Some(items.as_slice()),
+            Content::TupleVariant(_, _, _, items) => Some(items.as_slice()),
             _ => None,
         }
     }
@@ -51,6 +97,62 @@ impl Content {
             Content::I32(value) => u64::try_from(*value).ok(),
             Content::I64(value) => u64::try_from(*value).ok(),
             Content::I128(value) => u64::try_from(*value).ok(),
+            _ => None,
+        }
+    }
+    /// The whole number, behind wrappers, where it fits.
+    pub fn as_u128(&self) -> Option<u128>
+        ensures { result ≡ fitting_u128 (whole_number_in (resolved (tree self.now))) }
+    {
+        match self.resolve_inner() {
+            Content::U8(value) => Some(u128::from(*value)),
+            Content::U16(value) => Some(u128::from(*value)),
+            Content::U32(value) => Some(u128::from(*value)),
+            Content::U64(value) => Some(u128::from(*value)),
+            Content::U128(value) => Some(*value),
+            Content::I8(value) => u128::try_from(*value).ok(),
+            Content::I16(value) => u128::try_from(*value).ok(),
+            Content::I32(value) => u128::try_from(*value).ok(),
+            Content::I64(value) => u128::try_from(*value).ok(),
+            Content::I128(value) => u128::try_from(*value).ok(),
+            _ => None,
+        }
+    }
+
+    /// The whole number, behind wrappers, where it fits.
+    pub fn as_i64(&self) -> Option<i64>
+        ensures { result ≡ fitting_i64 (whole_number_in (resolved (tree self.now))) }
+    {
+        match self.resolve_inner() {
+            Content::U8(value) => Some(i64::from(*value)),
+            Content::U16(value) => Some(i64::from(*value)),
+            Content::U32(value) => Some(i64::from(*value)),
+            Content::U64(value) => i64::try_from(*value).ok(),
+            Content::U128(value) => i64::try_from(*value).ok(),
+            Content::I8(value) => Some(i64::from(*value)),
+            Content::I16(value) => Some(i64::from(*value)),
+            Content::I32(value) => Some(i64::from(*value)),
+            Content::I64(value) => Some(*value),
+            Content::I128(value) => i64::try_from(*value).ok(),
+            _ => None,
+        }
+    }
+
+    /// The whole number, behind wrappers, where it fits.
+    pub fn as_i128(&self) -> Option<i128>
+        ensures { result ≡ fitting_i128 (whole_number_in (resolved (tree self.now))) }
+    {
+        match self.resolve_inner() {
+            Content::U8(value) => Some(i128::from(*value)),
+            Content::U16(value) => Some(i128::from(*value)),
+            Content::U32(value) => Some(i128::from(*value)),
+            Content::U64(value) => Some(i128::from(*value)),
+            Content::U128(value) => i128::try_from(*value).ok(),
+            Content::I8(value) => Some(i128::from(*value)),
+            Content::I16(value) => Some(i128::from(*value)),
+            Content::I32(value) => Some(i128::from(*value)),
+            Content::I64(value) => Some(i128::from(*value)),
+            Content::I128(value) => Some(*value),
             _ => None,
         }
     }

@@ -7,16 +7,24 @@ pub mod access;
 pub mod blob;
 pub mod characters;
 pub mod clone;
+pub mod comparisons;
 pub mod content;
 pub mod error;
 pub mod laws;
+pub mod lent;
 pub mod lists;
+pub mod make;
 pub mod memory;
+pub mod order;
 pub mod text;
 
 pub use blob::Blob;
 pub use content::Content;
 pub use error::Error;
+pub use lent::Lent;
 pub use lists::{Fields, Items, Pairs};
 pub use memory::OutOfMemory;
 pub use text::Text;
+
+#[cfg(test)]
+mod tests;
