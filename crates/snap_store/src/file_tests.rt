@@ -12,9 +12,18 @@ const FILES: [(&[u8], &str); 11] = [
     (b"---\nsource: a\n---\nb\n\n---\nc\n", "b\n\n---\nc"),
     (b"---\nsource: a\n--- \nb\r\nc", "b\nc"),
     (b"---\nsource: a\n", ""),
-    (b"---\nextension: png\nsnapshot_kind: binary\n---\nb\n", "a payload"),
-    (b"---\nsnapshot_kind: binary\n---\n", "A required field was missing"),
-    (b"---\nb\n---\n", "The present data type wasn't what was expected"),
+    (
+        b"---\nextension: png\nsnapshot_kind: binary\n---\nb\n",
+        "a payload",
+    ),
+    (
+        b"---\nsnapshot_kind: binary\n---\n",
+        "A required field was missing",
+    ),
+    (
+        b"---\nb\n---\n",
+        "The present data type wasn't what was expected",
+    ),
     (b"---\na:  1\n---\n", "Failed parsing the YAML from \"p\""),
     (b"a: 1\n", "Failed parsing the YAML from \"p\""),
     (b"", "Failed parsing the YAML from \"p\""),
@@ -60,7 +69,10 @@ fn described(alloc: Global) -> Result<MetaData, OutOfMemory> {
 fn a_snapshot_is_saved(rt: HostRuntime) -> Result<(), Fail> {
     let alloc = rt.alloc();
     let path = Text::from_str(alloc, "p")?;
-    let body = TextSnapshotContents::new(Text::from_str(alloc, "a: 1\r\n\n")?, TextSnapshotKind::File);
+    let body = TextSnapshotContents::new(
+        Text::from_str(alloc, "a: 1\r\n\n")?,
+        TextSnapshotKind::File,
+    );
     let contents = SnapshotContents::from_text(body);
     let snapshot = Snapshot::from_components(Text::empty(), None, described(alloc)?, contents);
     let mut store = SteadyStore::new(alloc);

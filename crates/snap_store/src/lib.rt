@@ -4,6 +4,8 @@
 
 pub mod contents;
 pub mod fields;
+#[cfg(test)]
+mod file_tests;
 mod header;
 pub mod laws;
 pub mod metadata;
@@ -11,8 +13,6 @@ mod reading;
 mod saving;
 pub mod snapshot;
 pub mod split;
-#[cfg(test)]
-mod file_tests;
 #[cfg(test)]
 mod tests;
 
