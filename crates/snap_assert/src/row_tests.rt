@@ -1,4 +1,6 @@
 //! Whole runs: more documents than one, inputs in pieces, refusals, faults, and the text of each status.
+ghost use Rattle.std.specs.Prelude.{None};
+
 use crate::{RefusalKind, Status, run};
 use snap_content::{Blob, Text};
 use snap_outside::{Fault, MemorySink, MemorySource, MemoryStore, Sink, Source, Store};

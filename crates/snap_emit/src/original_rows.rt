@@ -8,9 +8,10 @@
 //!
 //! A tree is written so: `null`, `true`, `false`; a number behind its kind; a text behind the number of its
 //! characters and a colon; a list in brackets, each item ended by a semicolon; a map in braces, each pair's key
-//! ended by `=` and its value by a semicolon.
+//! ended by `=` and its value by a semicolon. The rows stand in four lists, since one of a hundred is more than the
+//! prover's memory holds.
 
-pub const ROWS: [(&str, &str); 100] = [
+pub const FIRST: [(&str, &str); 25] = [
     ("1:b", "---\nb\n"),
     (
         "{6:before=I64 1;1:k=10:snake_case;5:below={1:k=10:snake_case;};}",
@@ -84,6 +85,9 @@ pub const ROWS: [(&str, &str); 100] = [
         "---\nbefore: 1\nk: \"'\"\nbelow:\n  k: \"'\"\n",
     ),
     ("1:\\", "---\n\"\\\\\"\n"),
+];
+
+pub const SECOND: [(&str, &str); 25] = [
     ("2:`a", "---\n\"`a\"\n"),
     ("1:~", "---\n\"~\"\n"),
     (
@@ -157,6 +161,9 @@ pub const ROWS: [(&str, &str); 100] = [
         "[I64 65535;{I64 65535=I64 65535;5:65535=5:65535;};]",
         "---\n- 65535\n- 65535: 65535\n  \"65535\": \"65535\"\n",
     ),
+];
+
+pub const THIRD: [(&str, &str); 25] = [
     ("{I64 10=4:-0x1;}", "---\n10: \"-0x1\"\n"),
     (
         "[19:9223372036854775807;]",
@@ -215,6 +222,9 @@ pub const ROWS: [(&str, &str); 100] = [
     ("[true;2:0.;]", "---\n- true\n- \"0.\"\n"),
     ("9:z?]\t'-=\u{a0}1", "---\n\"z?]\\t'-=\u{a0}1\"\n"),
     ("3:a\u{11}b", "---\n\"a\\u0011b\"\n"),
+];
+
+pub const FOURTH: [(&str, &str); 25] = [
     (
         "{3:a\u{86}b={5:\0\u{7}\t#|=[null;3:a\u{8}b;];2:*/=[2:on;4:.nan;null;2:\n\u{e9};];};}",
         "---\na\u{86}b:\n  \"\\u0000\\u0007\\t#|\":\n    - ~\n    - a\u{8}b\n  \"*/\":\n    - \"on\"\n    - \".nan\"\n    - ~\n    - \"\\n\u{e9}\"\n",

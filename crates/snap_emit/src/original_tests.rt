@@ -1,12 +1,12 @@
 //! Our texts and trees beside those of insta 1.49.0.
-use crate::original_rows::ROWS;
+use crate::original_rows::{FIRST, FOURTH, SECOND, THIRD};
 use crate::{parse_str, to_string};
 use snap_content::{Blob, Content, Fields, Items, OutOfMemory, Pairs, Text};
 use std::alloc::Global;
 use std::process::Abort;
 use std::test::Fail;
 
-/// Adds the tree as `ROWS` writes it.
+/// Adds the tree as the rows write it.
 #[cycle(shown)]
 fn push_shown(out: &mut Text, alloc: Global, content: &Content) -> Result<(), OutOfMemory> {
     match content {
@@ -115,8 +115,32 @@ fn one_pair(alloc: Global, key: Content, value: Content) -> Result<Content, OutO
 }
 
 #[test]
-fn rows_of_the_original(rt: HostRuntime) -> Result<(), Fail> {
-    for (tree, text) in ROWS {
+fn first_rows_of_the_original(rt: HostRuntime) -> Result<(), Fail> {
+    for (tree, text) in FIRST {
+        row_holds(&rt, rt.alloc(), tree, text)?;
+    }
+    Ok(())
+}
+
+#[test]
+fn second_rows_of_the_original(rt: HostRuntime) -> Result<(), Fail> {
+    for (tree, text) in SECOND {
+        row_holds(&rt, rt.alloc(), tree, text)?;
+    }
+    Ok(())
+}
+
+#[test]
+fn third_rows_of_the_original(rt: HostRuntime) -> Result<(), Fail> {
+    for (tree, text) in THIRD {
+        row_holds(&rt, rt.alloc(), tree, text)?;
+    }
+    Ok(())
+}
+
+#[test]
+fn fourth_rows_of_the_original(rt: HostRuntime) -> Result<(), Fail> {
+    for (tree, text) in FOURTH {
         row_holds(&rt, rt.alloc(), tree, text)?;
     }
     Ok(())
