@@ -122,23 +122,57 @@ strays_of_names m path folder names f is l = record {
 }
 
 -- a text that does not begin with the path is no stray
-pub not_behind : (path front q text : List ℕ) → front ≡ path → text ≡ q → past_mark front text ≡ None → false ≡ is_stray path q
-not_behind path front q text f t none =
-    sym (ap is_slashless (past_mark-append path (codes ".new.") q ∙ ap (then_past (codes ".new.")) (ap (λ x. past_mark x q) (sym f) ∙ ap (past_mark front) (sym t) ∙ none)))
+pub not_behind : (path q : List ℕ) → past_mark path q ≡ None → false ≡ is_stray path q
+not_behind path q none = sym (ap is_slashless (past_mark-append path (codes ".new.") q ∙ ap (then_past (codes ".new.")) none))
 
-pub not_new : (path front q text rest : List ℕ) → front ≡ path → text ≡ q → past_mark front text ≡ Some rest → past_mark (codes ".new.") rest ≡ None → false ≡ is_stray path q
-not_new path front q text rest f t some none =
-    sym (ap is_slashless (past_mark-append path (codes ".new.") q ∙ ap (then_past (codes ".new.")) (ap (λ x. past_mark x q) (sym f) ∙ ap (past_mark front) (sym t) ∙ some) ∙ none))
+pub not_new : (path q rest : List ℕ) → past_mark path q ≡ Some rest → past_mark (codes ".new.") rest ≡ None → false ≡ is_stray path q
+not_new path q rest some none =
+    sym (ap is_slashless (past_mark-append path (codes ".new.") q ∙ ap (then_past (codes ".new.")) some ∙ none))
 
-pub behind_new : (path front q text rest more : List ℕ) (slash : Bool) → front ≡ path → text ≡ q → past_mark front text ≡ Some rest → past_mark (codes ".new.") rest ≡ Some more
-    → slash ≡ holds_slash more → not slash ≡ is_stray path q
-behind_new path front q text rest more slash f t some further s =
-    ap not s
-    ∙ sym (ap is_slashless (past_mark-append path (codes ".new.") q ∙ ap (then_past (codes ".new.")) (ap (λ x. past_mark x q) (sym f) ∙ ap (past_mark front) (sym t) ∙ some) ∙ further))
+pub behind_new : (path q rest more : List ℕ) (slash : Bool) → past_mark path q ≡ Some rest → past_mark (codes ".new.") rest ≡ Some more → slash ≡ holds_slash more
+    → not slash ≡ is_stray path q
+behind_new path q rest more slash some further s =
+    ap not s ∙ sym (ap is_slashless (past_mark-append path (codes ".new.") q ∙ ap (then_past (codes ".new.")) some ∙ further))
 
--- the stray paths in any order
-pub in_any_order : (path folder : List ℕ) (m : Files) (names found sorted : List (List ℕ)) → IsFilePath path → folder ≡ parent_of path → AreNames m folder names
-    → found ≡ filter (is_stray path) (map (joined folder) names) → IsPermutation found sorted → AreStrays path m sorted
-in_any_order path folder m names found sorted f is l made p = record {
-  each = λ q. sym (list_any-IsPermutation (bytes_eq q) found sorted p) ∙ ap (list_any (bytes_eq q)) made ∙ (strays_of_names m path folder names f is l).each q;
+past_mark-behind : (front a b : List ℕ) → past_mark (front ++ a) (front ++ b) ≡ past_mark a b
+past_mark-behind [] a b = refl
+past_mark-behind (c ∷ front) a b =
+    ap (λ t. cond t (past_mark (front ++ a) (front ++ b)) None) (eq-eqb c c refl) ∙ past_mark-behind front a b
+
+stray_front-behind : (front last path : List ℕ) → path ≡ front ++ last → front ++ stray_front last ≡ stray_front path
+stray_front-behind front last path is =
+    sym (append_assoc front last (codes ".new.")) ∙ ap (λ p. p ++ codes ".new.") (sym is)
+
+-- a name is stray beside the last component where its path is beside the whole path
+stray_name : (path last name : List ℕ) → IsFilePath path → name_of path ≡ Some last → IsName name → is_stray last name ≡ is_stray path (joined (parent_of path) name)
+stray_name path last name f l n =
+    let front = front_of (parent_of path) in
+    ap is_slashless
+    (sym (past_mark-behind front (stray_front last) name)
+        ∙ ap (λ mark. past_mark mark (front ++ name)) (stray_front-behind front last path (parted path last f.normal l))
+        ∙ ap (past_mark (stray_front path)) (sym (joined-name (parent_of path) name n)))
+
+kept_first : (f : List ℕ → List ℕ) (x : List ℕ) (kept : List (List ℕ)) (t : Bool) → map f (cond t (x ∷ kept) kept) ≡ cond t (f x ∷ map f kept) (map f kept)
+kept_first f x kept true = refl
+kept_first f x kept false = refl
+
+chosen_by_name : (path last : List ℕ) (names : List (List ℕ)) → IsFilePath path → name_of path ≡ Some last → All IsName names
+    → map (joined (parent_of path)) (filter (is_stray last) names) ≡ filter (is_stray path) (map (joined (parent_of path)) names)
+chosen_by_name path last [] f l all = refl
+chosen_by_name path last (n ∷ names) f l all =
+    let folder = parent_of path in
+    let kept = map (joined folder) (filter (is_stray last) names) in
+    kept_first (joined folder) n (filter (is_stray last) names) (is_stray last n)
+    ∙ ap (λ t. cond t (joined folder n ∷ kept) kept) (stray_name path last n f l (All-head IsName n names all))
+    ∙ ap (λ more. cond (is_stray path (joined folder n)) (joined folder n ∷ more) more) (chosen_by_name path last names f l (All-tail IsName n names all))
+
+-- the paths of the stray names in any order
+pub in_any_order : (path folder last : List ℕ) (m : Files) (names found sorted : List (List ℕ)) → IsFilePath path → folder ≡ parent_of path → name_of path ≡ Some last
+    → AreNames m folder names → found ≡ map (joined folder) (filter (is_stray last) names) → IsPermutation found sorted → AreStrays path m sorted
+in_any_order path folder last m names found sorted f is l listed made p = record {
+  each = λ q. sym (list_any-IsPermutation (bytes_eq q) found sorted p)
+      ∙ ap (list_any (bytes_eq q))
+      (made ∙ ap (λ d. map (joined d) (filter (is_stray last) names)) is ∙ chosen_by_name path last names f l listed.only
+          ∙ ap (λ d. filter (is_stray path) (map (joined d) names)) (sym is))
+      ∙ (strays_of_names m path folder names f is listed).each q;
 }

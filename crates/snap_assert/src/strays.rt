@@ -12,7 +12,7 @@ ghost use Rattle.snap_assert.specs.Strays.{IsFilePath, AreStrays};
 use crate::front::{behind, behind_ascii};
 use snap_content::{OutOfMemory, Text};
 use snap_outside::{Store, StoreError};
-use snap_path::path_join;
+use snap_path::{path_join, path_name};
 use std::alloc::Global;
 
 fn holds_slash_text(text: &str) -> bool
@@ -21,11 +21,11 @@ fn holds_slash_text(text: &str) -> bool
     text.chars().any(|c| c == '/')
 }
 
-/// Whether this path is left behind by payloads of the snapshot's path.
-fn is_stray_path(path: &Text, found: &Text) -> bool
-    ensures { result ≡ is_stray path.now found.now }
+/// Whether a file of this name is left behind by payloads of the file that stands beside it.
+fn is_stray_name(file: &str, name: &str) -> bool
+    ensures { result ≡ is_stray (chars file.now) (chars name.now) }
 {
-    match behind(found.as_str(), path.as_str()) {
+    match behind(name, file) {
         None => false,
         Some(rest) => match behind_ascii(rest, ".new.") {
             None => false,
@@ -34,20 +34,19 @@ fn is_stray_path(path: &Text, found: &Text) -> bool
     }
 }
 
-/// The stray paths among the names in the folder.
+/// The paths of the stray names in the folder. Few names are: the others are not joined.
 fn strays_among(
     alloc: Global,
     folder: &Text,
-    path: &Text,
+    file: &str,
     names: &[Text],
 ) -> Result<Vec<Text>, OutOfMemory>
-    ensures { IfOk result (λ strays. strays.items ≡ filter (is_stray path.now) (map (joined folder.now) names.now)) }
+    ensures { IfOk result (λ strays. strays.items ≡ map (joined folder.now) (filter (is_stray (chars file.now)) names.now)) }
 {
     let mut strays = Vec::new(alloc);
     for name in names {
-        let found = path_join(alloc, folder, name)?;
-        if is_stray_path(path, &found) {
-            strays.push(found)?;
+        if is_stray_name(file, name.as_str()) {
+            strays.push(path_join(alloc, folder, name)?)?;
         }
     }
     Ok(strays)
@@ -64,11 +63,14 @@ pub fn stray_paths<S: Store>(
     ensures same { S.files store.new ≡ S.files store.old }
     ensures cause { StoreCause (S.faults store.old) (S.faults store.new) result }
 {
+    let Some(file) = path_name(path) else {
+        return Ok(Vec::new(alloc));
+    };
     let names = match store.list(alloc, folder) {
         Ok(names) => names,
         Err(error) => return Err(error),
     };
-    let Ok(mut strays) = strays_among(alloc, folder, path, names.as_slice()) else {
+    let Ok(mut strays) = strays_among(alloc, folder, file, names.as_slice()) else {
         return Err(StoreError::OutOfMemory);
     };
     match strays.sort() {

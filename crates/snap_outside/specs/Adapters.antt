@@ -13,3 +13,9 @@ source_faults source = source.faults
 
 abbrev pub sink_faults : {W : Type 0} → StreamSink W → ℕ
 sink_faults sink = sink.faults
+
+abbrev pub reader_of : {R : Type 0} → StreamSource R → R
+reader_of source = source.reader
+
+abbrev pub writer_of : {W : Type 0} → StreamSink W → W
+writer_of sink = sink.writer

@@ -1,5 +1,5 @@
 -- What the objects in memory hold.
-use Rattle.std.specs.Prelude.{ℕ, List}
+use Rattle.std.specs.Prelude.{ℕ, List, length, min, max}
 use Rattle.snap_outside.specs.Files.{Files}
 use Rattle.snap_outside.specs.declared.schedule.Schedule.{Schedule}
 use Rattle.snap_outside.specs.declared.memory.MemoryStore.{MemoryStore}
@@ -20,6 +20,10 @@ store_calls store = store.schedule
 abbrev pub left_in : MemorySource → List ℕ
 left_in source = source.pieces
 
+-- how many bytes a read gives at most
+abbrev pub piece_of : MemorySource → ℕ
+piece_of source = source.piece
+
 abbrev pub source_calls : MemorySource → Schedule
 source_calls source = source.schedule
 
@@ -35,5 +39,12 @@ steady_files store = store.files
 abbrev pub steady_left : SteadySource → List ℕ
 steady_left source = source.pieces
 
+abbrev pub steady_piece : SteadySource → ℕ
+steady_piece source = source.piece
+
 abbrev pub steady_written : SteadySink → List ℕ
 steady_written sink = sink.bytes.items
+
+-- a piece, or as much as there is room for and is left; a piece of 0 counts as 1
+abbrev pub count_given : ℕ → List ℕ → List ℕ → ℕ
+count_given piece buffer left = min (max 1 piece) (min (length buffer) (length left))

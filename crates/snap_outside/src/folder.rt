@@ -9,6 +9,7 @@ use snap_content::{Blob, Text};
 use std::alloc::{AllocError, Allocator, Global};
 use std::fs::{DirEntry, Files, OpenFile, OpenOptions};
 use std::io::{ErrorKind, Read, Write};
+use std::os::unix::fs::MetadataExt;
 use std::rt::Runtime;
 use std::{fs, io};
 
@@ -193,6 +194,7 @@ pub(crate) fn list_folder<R: Files + Alloc + Clone + Drop>(
     most: usize,
 ) -> Result<Names, StoreError> {
     let folder = if folder.is_empty() { "." } else { folder };
+    let has_folders = may_hold_folders(rt, folder);
     let entries = match fs::read_dir(rt, folder) {
         Ok(entries) => entries,
         Err(error) if error.kind() == ErrorKind::NotFound => return Ok(Names::new(alloc)),
@@ -202,7 +204,7 @@ pub(crate) fn list_folder<R: Files + Alloc + Clone + Drop>(
     for entry in entries {
         match entry {
             Ok(entry) => {
-                if is_file(&entry)? {
+                if !has_folders || is_file(&entry)? {
                     if names.len() >= most {
                         return Err(StoreError::Failed);
                     }
@@ -215,6 +217,15 @@ pub(crate) fn list_folder<R: Files + Alloc + Clone + Drop>(
         }
     }
     Ok(names)
+}
+
+/// Whether folders may stand in the folder. Where a file system counts a folder's links, these are its name, its
+/// own `.`, and the `..` of each folder in it: two say that there is none. One that doesn't count has another number.
+fn may_hold_folders<R: Files>(rt: &R, folder: &str) -> bool {
+    match fs::metadata(rt, folder) {
+        Ok(metadata) => metadata.nlink() != 2,
+        Err(_) => true,
+    }
 }
 
 /// Whether the entry is no folder, and still there.

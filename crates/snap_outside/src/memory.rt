@@ -4,7 +4,7 @@ ghost use Rattle.std.specs.FinMap.{empty, insert, remove, get, len};
 ghost use Rattle.std.specs.Io.{ReadsAtMost, WritesAtMost};
 ghost use Rattle.snap_outside.specs.Causes.{HasCause, StoreCause};
 ghost use Rattle.snap_outside.specs.Files.{Files, SameBut, appended};
-ghost use Rattle.snap_outside.specs.Held.{files_in, left_in, written_in, store_calls, source_calls, sink_calls};
+ghost use Rattle.snap_outside.specs.Held.{files_in, left_in, piece_of, count_given, written_in, store_calls, source_calls, sink_calls};
 ghost use Rattle.snap_outside.specs.Listed.{AreNames};
 ghost use Rattle.snap_outside.specs.Schedules.{faults_so_far, fails_next, Counts, IsFresh, ListsCalls, FailsAsListed};
 
@@ -160,6 +160,7 @@ impl Store for MemoryStore {
 #[derive(Drop)]
 pub struct MemorySource {
     pieces: Pieces,
+    piece: usize,
     schedule: Schedule,
 }
 
@@ -167,10 +168,12 @@ impl MemorySource {
     /// Gives these bytes in pieces of this length, and no call fails. A piece of 0 counts as 1.
     pub fn new(bytes: Blob, piece: usize) -> MemorySource
         ensures bytes { left_in result ≡ bytes }
+        ensures piece { piece_of result ≡ piece }
         ensures fresh { IsFresh (source_calls result) }
     {
         MemorySource {
-            pieces: Pieces::new(bytes, piece),
+            pieces: Pieces::new(bytes),
+            piece,
             schedule: Schedule::new(),
         }
     }
@@ -178,6 +181,7 @@ impl MemorySource {
     /// The calls with these numbers fail: from 1 on, counted from the making of the source.
     pub fn fail_at(&mut self, calls: Vec<u64>)
         ensures same { left_in self.new ≡ left_in self.old }
+        ensures piece { piece_of self.new ≡ piece_of self.old }
         ensures listed { ListsCalls calls.items (source_calls self.old) (source_calls self.new) }
     {
         self.schedule.fail_at(calls);
@@ -192,6 +196,8 @@ impl Source for MemorySource {
     fn read(&mut self, buffer: &mut [u8]) -> Result<usize, Fault>
         ensures bound { ReadsAtMost result buffer.new }
         ensures bytes { IfOk result (λ count. left_in self.old ≡ take count buffer.new ++ left_in self.new) }
+        ensures count { IfOk result (λ count. count ≡ count_given (piece_of self.old) buffer.new (left_in self.old)) }
+        ensures piece { piece_of self.new ≡ piece_of self.old }
         ensures end { IfOk result (λ count. count ≡ 0 → 0 < length buffer.new → (xs : List ℕ) → Some (left_in self.old) ≡ Some xs → xs ≡ []) }
         ensures kept { OnErr result (left_in self.new ≡ left_in self.old) }
         ensures cause { HasCause (faults_so_far (source_calls self.old)) (faults_so_far (source_calls self.new)) result }
@@ -201,7 +207,7 @@ impl Source for MemorySource {
         if self.schedule.call_fails() {
             return Err(Fault);
         }
-        Ok(self.pieces.take(buffer))
+        Ok(self.pieces.take(self.piece.max(1), buffer))
     }
 }
 

@@ -1,7 +1,9 @@
 //! A store, a source and a sink in memory that do not fail.
-ghost use Rattle.std.specs.Prelude.{◌≡◌, ◌++◌, [], Some, length, take, IfOk, OnOk, OnErr, option_map};
+ghost use Rattle.std.specs.Prelude.{◌≡◌, ◌<◌, ◌++◌, [], List, ℕ, Some, length, take, IfOk, OnOk, OnErr, option_map};
 ghost use Rattle.std.specs.FinMap.{empty, insert, get, len};
-ghost use Rattle.snap_outside.specs.Held.{steady_files, steady_left, steady_written};
+ghost use Rattle.std.specs.Io.{ReadsAtMost};
+ghost use Rattle.snap_outside.specs.Causes.{HasCause};
+ghost use Rattle.snap_outside.specs.Held.{steady_files, steady_left, steady_piece, count_given, steady_written};
 
 use crate::files::MemoryFiles;
 use crate::names::Names;
@@ -92,15 +94,18 @@ impl Store for SteadyStore {
 #[derive(Drop)]
 pub struct SteadySource {
     pieces: Pieces,
+    piece: usize,
 }
 
 impl SteadySource {
     /// Gives these bytes in pieces of this length. A piece of 0 counts as 1.
     pub fn new(bytes: Blob, piece: usize) -> SteadySource
-        ensures { steady_left result ≡ bytes }
+        ensures bytes { steady_left result ≡ bytes }
+        ensures piece { steady_piece result ≡ piece }
     {
         SteadySource {
-            pieces: Pieces::new(bytes, piece),
+            pieces: Pieces::new(bytes),
+            piece,
         }
     }
 }
@@ -110,8 +115,16 @@ impl Source for SteadySource {
 
     ghost faults = { λ _. 0 };
 
-    fn read(&mut self, buffer: &mut [u8]) -> Result<usize, Fault> {
-        Ok(self.pieces.take(buffer))
+    fn read(&mut self, buffer: &mut [u8]) -> Result<usize, Fault>
+        ensures bound { ReadsAtMost result buffer.new }
+        ensures bytes { IfOk result (λ count. steady_left self.old ≡ take count buffer.new ++ steady_left self.new) }
+        ensures count { IfOk result (λ count. count ≡ count_given (steady_piece self.old) buffer.new (steady_left self.old)) }
+        ensures piece { steady_piece self.new ≡ steady_piece self.old }
+        ensures end { IfOk result (λ count. count ≡ 0 → 0 < length buffer.new → (xs : List ℕ) → Some (steady_left self.old) ≡ Some xs → xs ≡ []) }
+        ensures kept { OnErr result (steady_left self.new ≡ steady_left self.old) }
+        ensures cause { HasCause 0 0 result }
+    {
+        Ok(self.pieces.take(self.piece.max(1), buffer))
     }
 }
 

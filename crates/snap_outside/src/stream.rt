@@ -1,7 +1,9 @@
 //! A source over a reader, and a sink over a writer. They tell nothing of their bytes.
-ghost use Rattle.std.specs.Prelude.{◌≡◌, None};
-ghost use Rattle.snap_outside.specs.Adapters.{source_faults, sink_faults};
-ghost use Rattle.snap_outside.specs.Causes.{Rose};
+ghost use Rattle.std.specs.Prelude.{◌≡◌, ◌<◌, None, length, take, IfOk};
+ghost use Rattle.std.specs.Io.{ReadsAtMost, WritesAtMost};
+ghost use Rattle.std.specs.Io.KnownBytes.{ReadConsumes, Appends};
+ghost use Rattle.snap_outside.specs.Adapters.{source_faults, sink_faults, reader_of, writer_of};
+ghost use Rattle.snap_outside.specs.Causes.{HasCause, Rose};
 
 use crate::outside::{Fault, Sink, Source};
 use std::io::{Read, Write};
@@ -26,7 +28,11 @@ impl<R: Read + Drop> Source for StreamSource<R> {
 
     ghost faults = { λ source. source.faults };
 
-    fn read(&mut self, buffer: &mut [u8]) -> Result<usize, Fault> {
+    fn read(&mut self, buffer: &mut [u8]) -> Result<usize, Fault>
+        ensures bound { ReadsAtMost result buffer.new }
+        ensures given { ReadConsumes (R.Read.remaining (reader_of self.old)) (R.Read.remaining (reader_of self.new)) result buffer.new }
+        ensures cause { HasCause (source_faults self.old) (source_faults self.new) result }
+    {
         match self.reader.read(buffer) {
             Ok(count) => Ok(count),
             Err(_) => {
@@ -65,7 +71,12 @@ impl<W: Write + Drop> Sink for StreamSink<W> {
 
     ghost faults = { λ sink. sink.faults };
 
-    fn write(&mut self, bytes: &[u8]) -> Result<usize, Fault> {
+    fn write(&mut self, bytes: &[u8]) -> Result<usize, Fault>
+        ensures bound { WritesAtMost result bytes.now }
+        ensures some { IfOk result (λ count. 0 < length bytes.now → 0 < count) }
+        ensures taken { IfOk result (λ count. Appends (W.Write.contents (writer_of self.old)) (W.Write.contents (writer_of self.new)) (take count bytes.now)) }
+        ensures cause { HasCause (sink_faults self.old) (sink_faults self.new) result }
+    {
         let count = match self.writer.write(bytes) {
             Ok(0) if !bytes.is_empty() => return Err(self.fault()),
             Ok(count) => count,

@@ -1,7 +1,7 @@
 -- The entries of a header, pair by pair.
 use Rattle.std.proofs.Common.{◌≡◌, ℕ, List, [], ◌∷◌, ◌++◌, Option, Some, refl, ap, sym, ◌∙◌, rules}
 use Rattle.std.specs.Prelude.{codes}
-use Rattle.snap_content.specs.Plain.{plain, text, int, dict, Entries, entry, no_entries, pair_entries}
+use Rattle.snap_content.specs.Plain.{plain, text, dict, Entries, entry, no_entries, pair_entries}
 use Rattle.snap_content.specs.Tree as t
 use Rattle.snap_content.specs.View.{tree, pair_list, pair_trees}
 use Rattle.snap_content.specs.declared.content.Content.{Content, String, U32, Map, the_lemmas}

@@ -1,14 +1,14 @@
 -- Looking up a name among pairs of trees.
-use Rattle.std.proofs.Common.{◌≡◌, ℕ, ◌+◌, ◌<◌, ◌≤◌, ◌^◌, ℤ, pos, negsuc, Bool, true, false, not, ◌&&◌, cond, nat_lt, List, [], ◌∷◌, ◌++◌, length, take, get_or, Option, None, Some, refl, ap, sym, ◌∙◌, add-one, rules}
+use Rattle.std.proofs.Common.{◌≡◌, ℕ, ◌+◌, ◌<◌, ◌≤◌, ◌^◌, ℤ, pos, negsuc, Bool, true, false, not, ◌&&◌, cond, nat_lt, List, [], ◌∷◌, ◌++◌, length, take, get_or, Option, None, Some, refl, ap, sym, ◌∙◌, add-one}
 use Rattle.std.proofs.Math.Seq.{take-suc}
 use Rattle.std.proofs.lemmas.List.{take_all}
 use Rattle.std.specs.Prelude.{option_map, if◌then◌else◌}
 use Rattle.snap_content.specs.Plain as p
 use Rattle.snap_content.specs.Tree as t
 use Rattle.snap_content.specs.View.{tree, pair_trees}
-use Rattle.snap_content.specs.Access.{resolved, text_in, is_nil_tree, whole_number_in, fitting_u64}
+use Rattle.snap_content.specs.Access.{resolved, is_nil_tree}
 use Rattle.snap_content.specs.declared.content.Content.{Content}
-use Rattle.snap_store.specs.Fields.{is_named, is_nil, later_or, last_value, is_filled, last_filled, text_value, line_value}
+use Rattle.snap_store.specs.Fields.{is_named, is_nil, later_or, last_value, is_filled, last_filled}
 use Rattle.snap_store.specs.Header.{is_key}
 
 -- the value of the last pair that passes a test

@@ -1,5 +1,5 @@
 -- What reading a file comes to, exit by exit.
-use Rattle.std.proofs.Common.{◌≡◌, ℕ, List, Option, None, Some, Result, Ok, Err, true, refl, ap, sym, ◌∙◌, subst, IsErrAnd}
+use Rattle.std.proofs.Common.{◌≡◌, ℕ, List, Option, Result, Ok, Err, refl, ap, sym, ◌∙◌, subst, IsErrAnd}
 use Rattle.snap_content.specs.Plain.{Plain, dict, Entries, content_of}
 use Rattle.snap_content.specs.View.{tree}
 use Rattle.snap_content.specs.declared.content.Content.{Content}
@@ -7,9 +7,8 @@ use Rattle.snap_content.specs.declared.error.Error.{Error}
 use Rattle.snap_content.specs.declared.error.Error.TheVariants.{FailedParsingYaml, UnexpectedDataType, MissingField, FileIo, FloatText, JsonKey, NotText, NoFile, OutOfMemory}
 use Rattle.snap_emit.specs.Parsed.{IsReadFrom}
 use Rattle.snap_store.specs.Causes.{ErrorCause}
-use Rattle.snap_store.specs.FileSplit.{is_headed, header_of, body_of}
-use Rattle.snap_store.specs.Fields.{kind_in, fields}
-use Rattle.snap_store.specs.Header.{FieldsEnd, HasFields, HasNoExtension}
+use Rattle.snap_store.specs.FileSplit.{body_of}
+use Rattle.snap_store.specs.Header.{FieldsEnd, HasFields}
 use Rattle.snap_store.specs.Reading.{IsTextFile, HasHeader, HoldsBody, IsRefused, FileEnd, IsReadAs}
 use Rattle.snap_store.specs.Split.{IsSplit}
 use Rattle.snap_store.specs.Views.{meta_of, meta_in, contents_in}

@@ -1,7 +1,7 @@
 -- What a store holds behind a write, and where nothing was written.
 use Rattle.std.proofs.Common.{◌≡◌, ℕ, List, Option, Some, Result, Ok, Err, refl, ap, sym, ◌∙◌, OnErr}
 use Rattle.std.proofs.lemmas.Str.{encodes-chars}
-use Rattle.std.specs.FinMap.{get, insert}
+use Rattle.std.specs.FinMap.{insert}
 use Rattle.std.specs.Prelude.{encode_utf8_all}
 use Rattle.std.specs.Str.{IsUtf8, chars}
 use Rattle.snap_content.specs.declared.error.Error.{Error}

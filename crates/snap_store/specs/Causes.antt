@@ -1,5 +1,5 @@
 -- When a call on a file may say that the store failed.
-use Rattle.std.specs.Prelude.{◌≡◌, ℕ, List, Result, Ok, Err}
+use Rattle.std.specs.Prelude.{◌≡◌, ℕ, Result, Ok, Err}
 use Rattle.snap_content.specs.declared.error.Error.{Error}
 use Rattle.snap_content.specs.declared.error.Error.TheVariants.{FileIo}
 use Rattle.snap_outside.specs.Causes.{Rose}

@@ -1,7 +1,7 @@
 -- The fields that the header of a file gives.
-use Rattle.std.specs.Prelude.{◌^◌, ℕ, ℤ, pos, negsuc, Bool, true, false, List, Option, None, Some, option_map, nat_lt, codes, if◌then◌else◌}
+use Rattle.std.specs.Prelude.{◌^◌, ℕ, pos, Bool, true, false, List, Option, None, Some, option_map, nat_lt, codes, if◌then◌else◌}
 use Rattle.std.specs.Str.{bytes_eq}
-use Rattle.snap_content.specs.Plain.{Plain, content_of, null, bool, text, int, list, dict, Entries, entry, no_entries}
+use Rattle.snap_content.specs.Plain.{Plain, content_of, null, text, int, Entries, entry, no_entries}
 use Rattle.snap_store.specs.Meta.{Meta}
 use Rattle.snap_store.specs.declared.metadata.SnapshotKind.{SnapshotKind}
 use Rattle.snap_store.specs.declared.metadata.SnapshotKind.TheVariants.{Text, Binary}

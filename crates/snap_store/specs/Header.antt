@@ -1,5 +1,5 @@
 -- The tree of a header, as it is made and as it is read.
-use Rattle.std.specs.Prelude.{◌≡◌, ℕ, Bool, false, List, [], ◌∷◌, Option, None, Some, Result, Ok, Err}
+use Rattle.std.specs.Prelude.{◌≡◌, ℕ, Bool, false, List, [], ◌∷◌, None, Some, Result, Ok, Err}
 use Rattle.std.specs.Str.{bytes_eq}
 use Rattle.snap_content.specs.Plain.{Plain, plain, dict, Entries, entry}
 use Rattle.snap_content.specs.Tree.{Tree, string}

@@ -1,8 +1,7 @@
 -- The metadata of a snapshot, and the tree that they are written as.
-use Rattle.std.specs.Prelude.{ℕ, ℤ, pos, List, [], ◌∷◌, Option, None, Some, option_map, codes}
+use Rattle.std.specs.Prelude.{ℕ, pos, List, [], ◌∷◌, Option, None, Some, codes}
 use Rattle.snap_content.specs.Plain.{Plain, plain, text, int, dict, Entries, entry, no_entries}
 use Rattle.snap_content.specs.Tree.{Tree}
-use Rattle.snap_content.specs.View.{tree}
 use Rattle.snap_store.specs.declared.metadata.SnapshotKind.{SnapshotKind}
 use Rattle.snap_store.specs.declared.metadata.SnapshotKind.TheVariants.{Text, Binary}
 

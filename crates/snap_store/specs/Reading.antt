@@ -1,5 +1,5 @@
 -- What a file is read as, and when it is refused.
-use Rattle.std.specs.Prelude.{◌≡◌, ℕ, Bool, true, List, Option, None, Some, Result, Ok, Err}
+use Rattle.std.specs.Prelude.{◌≡◌, ℕ, true, List, Option, None, Some, Result, Ok, Err}
 use Rattle.std.specs.Str.{IsUtf8, chars}
 use Rattle.std.specs.FinMap.{get}
 use Rattle.snap_content.specs.Plain.{Plain, dict, Entries}

@@ -28,7 +28,7 @@ impl SnapshotKind {
 }
 
 /// What is known of a snapshot beside its contents.
-#[derive(Drop)]
+#[derive(Debug, Drop)]
 pub struct MetaData {
     pub(crate) source: Option<Text>,
     pub(crate) assertion_line: Option<u32>,

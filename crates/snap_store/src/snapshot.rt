@@ -9,7 +9,7 @@ use snap_text::TextSnapshotContents;
 use std::alloc::Global;
 
 /// A snapshot: its names, its metadata and its contents.
-#[derive(Drop)]
+#[derive(Debug, Drop)]
 pub struct Snapshot {
     module_name: Text,
     snapshot_name: Option<Text>,

@@ -1,4 +1,4 @@
-use Rattle.std.proofs.Common.{ap, sym, ◌∙◌}
+use Rattle.std.proofs.Common.{sym}
 use Rattle.snap_store.proofs.Outcomes.{header_read, refused_fields, fields_no_fault, read_as}
 use Rattle.snap_store.proofs.reading.snapshot_of_text.Goals as goal
 

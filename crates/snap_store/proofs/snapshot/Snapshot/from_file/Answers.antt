@@ -1,4 +1,3 @@
-use Rattle.std.proofs.Common.{rules}
 use Rattle.snap_store.proofs.Told.{file_at}
 use Rattle.snap_store.proofs.Outcomes.{no_memory}
 use Rattle.snap_store.proofs.snapshot.Snapshot.from_file.Goals as goal
