@@ -4,11 +4,9 @@ use Rattle.std.proofs.Common.{Bool, true, false, cond, None, ap, ◌∙◌, inl,
 use Rattle.snap_outside.specs.Causes.{Rose}
 use Rattle.snap_outside.specs.Files.{Files}
 use Rattle.snap_assert.specs.Requests.{RequestView, Spells}
-use Rattle.snap_assert.specs.Answers.{RunWords, words_mean}
+use Rattle.snap_assert.specs.Answers.{RunWords}
 use Rattle.snap_assert.specs.Runs.{StopsAt}
 use Rattle.snap_assert.specs.StatusOf.{status_at}
-use Rattle.snap_assert.specs.declared.config.Update.TheVariants.{InPlace}
-use Rattle.snap_assert.proofs.Statuses.{none_fails}
 use Rattle.snap_assert.specs.Status.{RunsTo, AreSpelled, IsSteady, EndsWell}
 use Rattle.snap_assert.specs.declared.documents.DocumentError.{DocumentError}
 use Rattle.snap_assert.specs.declared.documents.DocumentError.TheVariants as error
@@ -30,29 +28,17 @@ no_request words error.OutOfMemory n k d f g w v e s r h = cc
 
 -- what no fault leaves of the statuses
 pub ends_well : (status : Status) (said : RunWords) (docs : List (List ℕ)) (f g : Option Files) (w v : Option (List ℕ)) → AreSpelled docs → RunsTo status said docs f g w v
-    → (status ≡ BadWords → ⊥) → ((n : ℕ) (p : List ℕ) → status ≡ FileIo n p → ⊥) → (status ≡ ReadFault → ⊥) → (status ≡ WriteFault → ⊥) → (status ≡ InputTooLong → ⊥) → said.update ≡ InPlace → EndsWell status
-ends_well AllPassed said docs f g w v spelled run a b c d e h = inl refl
-ends_well OutOfMemory said docs f g w v spelled run a b c d e h = inr refl
-ends_well SomeFailed said docs f g w v spelled run a b c d e h = absurd (let fails = run.failing in let none = none_fails said run.answers h in cc (fails, none))
-ends_well BadWords said docs f g w v spelled run a b c d e h = absurd (a refl)
-ends_well (FileIo n p) said docs f g w v spelled run a b c d e h = absurd (b n p refl)
-ends_well ReadFault said docs f g w v spelled run a b c d e h = absurd (c refl)
-ends_well WriteFault said docs f g w v spelled run a b c d e h = absurd (d refl)
-ends_well InputTooLong said docs f g w v spelled run a b c d e h = absurd (e refl)
-ends_well (Refused n kind) said docs f g w v spelled run a b c d e h = absurd run
-ends_well (BadRequest n) said docs f g w v spelled run a b c d e h =
+    → (status ≡ BadWords → ⊥) → ((n : ℕ) (p : List ℕ) → status ≡ FileIo n p → ⊥) → (status ≡ ReadFault → ⊥) → (status ≡ WriteFault → ⊥) → (status ≡ InputTooLong → ⊥) → EndsWell status
+ends_well AllPassed said docs f g w v spelled run a b c d e = inl refl
+ends_well SomeFailed said docs f g w v spelled run a b c d e = inr (inl refl)
+ends_well OutOfMemory said docs f g w v spelled run a b c d e = inr (inr refl)
+ends_well BadWords said docs f g w v spelled run a b c d e = absurd (a refl)
+ends_well (FileIo n p) said docs f g w v spelled run a b c d e = absurd (b n p refl)
+ends_well ReadFault said docs f g w v spelled run a b c d e = absurd (c refl)
+ends_well WriteFault said docs f g w v spelled run a b c d e = absurd (d refl)
+ends_well InputTooLong said docs f g w v spelled run a b c d e = absurd (e refl)
+ends_well (Refused n kind) said docs f g w v spelled run a b c d e = absurd run
+ends_well (BadRequest n) said docs f g w v spelled run a b c d e =
     let s = run.stops in
     let at = spelled_at s.done s.document s.later (subst AreSpelled s.cut spelled) in
     absurd (no_request said run.stop.error run.stop.document n s.document s.between g s.sent v run.status_is s.stops at.0 at.1)
-
-chosen_in_place : (b : Bool) (r said : RunWords) → cond b (Some r) None ≡ Some said → r.update ≡ InPlace → said.update ≡ InPlace
-chosen_in_place true r said e h = let same : r ≡ said = cc in ap (λ x. x.update) (sym same) ∙ h
-chosen_in_place false r said e h = absurd (cc)
-
--- the words that are built say to update in place
-pub words_in_place : (words : List (List ℕ)) (said : RunWords) → words_mean words ≡ Some said → said.update ≡ InPlace
-words_in_place [] said e = absurd (cc)
-words_in_place (a ∷ []) said e = absurd (cc)
-words_in_place (a ∷ b ∷ []) said e = absurd (cc)
-words_in_place (a ∷ b ∷ c ∷ []) said e = chosen_in_place _ _ said e refl
-words_in_place (a ∷ b ∷ c ∷ d ∷ more) said e = absurd (cc)

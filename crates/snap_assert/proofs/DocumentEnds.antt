@@ -49,6 +49,7 @@ document_answered runner document r asked outcome f g reads is x = record {
   answer = record { request = r; passed = x.passed };
   reads = reads;
   verdict = x.verdict;
+  fails = x.fails;
   path = x.path ∙ ap (λ a. a.path) is;
   allowed = λ m e. subst (λ a. May x.passed (get m a.path) a.tree) is (x.allowed m e);
   stands = λ m e. x.stands m e ∙ ap (λ a. Some (step runner.config.update runner.config.force_update a x.passed m)) is;

@@ -11,7 +11,7 @@ use Rattle.std.specs.List.{list_any}
 use Rattle.std.specs.FinMap.{get, insert, remove, get-insert, get-remove, get-retain_keys, same_map, slice_cmp-IsAntisymmetric, nat_cmp-IsAntisymmetric}
 use Rattle.snap_outside.specs.Files.{Files, SameBut, SameOutside}
 use Rattle.snap_assert.specs.Removed.{remove_each, is_among}
-use Rattle.snap_assert.specs.Steps.{Asked, is_stray, is_near, cleared, pending_path, written, passed_files, step}
+use Rattle.snap_assert.specs.Steps.{Asked, is_stray, is_near, KeepsFar, cleared, pending_path, written, passed_files, step}
 use Rattle.snap_assert.specs.declared.config.Update.{Update}
 use Rattle.snap_assert.specs.declared.config.Update.TheVariants.{InPlace, NewFile, NoUpdate}
 use Rattle.snap_assert.specs.Strays.{AreStrays}
@@ -111,6 +111,9 @@ far path q h =
 kept_far : (path : List ℕ) (m : Files) (q : List ℕ) → is_stray path q ≡ false → get (cleared path m) q ≡ get m q
 kept_far path m q h = get-cleared path m q ∙ ap (λ b. cond (not b) (get m q) None) h
 
+pub keeps_cleared : (path : List ℕ) (m : Files) → KeepsFar path m (cleared path m)
+keeps_cleared path m q h = kept_far path m q (far path q h).not_stray
+
 -- where the removal stopped only stray paths may be gone
 pub stopped_removing : (path : List ℕ) (m : Files) (strays : List (List ℕ)) (now : Option Files) → AreStrays path m strays → SameOutside (is_among strays) m now → SameOutside (is_near path) m now
 stopped_removing path m strays now s o = record {
@@ -119,19 +122,19 @@ stopped_removing path m strays now s o = record {
   others = λ q h. o.others q (s.each q ∙ ap (λ b. b && is_some (get m q)) (far path q h).not_stray);
 }
 
--- where the last step stopped only its own path is unknown besides
+-- where a step stopped only its own path is unknown besides
+pub stopped_at_path : (path q : List ℕ) (m n : Files) (now : Option Files) → ((k : List ℕ) → IsFar path k → k ≢ q) → KeepsFar path m n → SameBut q n now → SameOutside (is_near path) m now
+stopped_at_path path q m n now off keeps s = record {
+  files = s.files;
+  told = s.told;
+  others = λ k h. s.others k (off k (far path k h)) ∙ keeps k h;
+}
+
 pub stopped_pending : (path : List ℕ) (m : Files) (now : Option Files) → SameBut (pending_path path) (cleared path m) now → SameOutside (is_near path) m now
 stopped_pending path m now s = record {
   files = s.files;
   told = s.told;
   others = λ q h. let f = far path q h in s.others q f.not_pending ∙ kept_far path m q f.not_stray;
-}
-
-pub stopped_writing : (path : List ℕ) (m : Files) (now : Option Files) → SameBut path (cleared path m) now → SameOutside (is_near path) m now
-stopped_writing path m now s = record {
-  files = s.files;
-  told = s.told;
-  others = λ q h. let f = far path q h in s.others q f.not_path ∙ kept_far path m q f.not_stray;
 }
 
 pub untouched : (test : List ℕ → Bool) (m : Files) (now : Option Files) → now ≡ Some m → SameOutside test m now
@@ -150,6 +153,9 @@ written_far NoUpdate asked m q f = refl
 
 passed_far : (path : List ℕ) (m : Files) (q : List ℕ) → IsFar path q → get (passed_files path m) q ≡ get m q
 passed_far path m q f = remove_far (cleared path m) (pending_path path) q f.off_pending ∙ kept_far path m q f.not_stray
+
+pub keeps_passed : (path : List ℕ) (m : Files) → KeepsFar path m (passed_files path m)
+keeps_passed path m q h = passed_far path m q (far path q h)
 
 forced_far : (force : Bool) (mode : Update) (asked : Asked) (m : Files) (q : List ℕ) → IsFar asked.path q
     → get (cond force (written mode asked (passed_files asked.path m)) (passed_files asked.path m)) q ≡ get m q

@@ -1,11 +1,12 @@
 -- How a run over documents goes on from one to the next.
-use Rattle.std.proofs.Common.{◌≡◌, ℕ, ◌+◌, List, [], ◌∷◌, ◌++◌, length, take, drop, Option, Some, refl, sym, ◌∙◌, ap, subst, arith, append_assoc, length-append}
+use Rattle.std.proofs.Common.{◌≡◌, ◌||◌, Bool, true, false, ℕ, ◌+◌, List, [], ◌∷◌, ◌++◌, length, take, drop, Option, Some, refl, sym, ◌∙◌, ap, subst, arith, append_assoc, length-append}
 use Rattle.std.proofs.lemmas.List.{append-nil}
 use Rattle.snap_outside.specs.Files.{Files}
 use Rattle.snap_assert.specs.Cut.{documents}
 use Rattle.snap_assert.specs.Requests.{RequestView, Reads}
-use Rattle.snap_assert.specs.Answers.{Answer, RunWords, step_of, line_of, requests_of, AreAllowed, files_after, lines_of}
-use Rattle.snap_assert.specs.Runs.{Ran, Stops, StopsAt}
+use Rattle.snap_assert.specs.Answers.{Answer, RunWords, step_of, line_of, requests_of, AreAllowed, files_after, lines_of, answer_fails, some_fails}
+use Rattle.snap_assert.specs.Runs.{Ran, RanOne, Stops, StopsAt}
+use Rattle.snap_assert.specs.Status.{Ended}
 use Rattle.snap_assert.specs.declared.documents.DocumentError.{DocumentError}
 
 requests_of-append : (a b : List Answer) → requests_of (a ++ b) ≡ requests_of a ++ requests_of b
@@ -42,34 +43,58 @@ Ran-append words ds es a b f g h w v u p q = record {
   lines = λ x e. q.lines (x ++ lines_of words a) (p.lines x e) ∙ ap Some (append_assoc x (lines_of words a) (lines_of words b) ∙ ap (λ t. x ++ t) (sym (lines_of-append words a b)));
 }
 
+some_fails-append : (words : RunWords) (a b : List Answer) → some_fails words (a ++ b) ≡ (some_fails words a || some_fails words b)
+some_fails-append words [] b = refl
+some_fails-append words (x ∷ a) b = ap (λ t. answer_fails words x || t) (some_fails-append words a b) ∙ grouped (answer_fails words x) (some_fails words a) (some_fails words b)
+  where
+    grouped : (x y z : Bool) → (x || (y || z)) ≡ ((x || y) || z)
+    grouped true y z = refl
+    grouped false y z = refl
+
+one_more_fails : (words : RunWords) (answers : List Answer) (answer : Answer) (fails failed : Bool) → some_fails words answers ≡ fails → answer_fails words answer ≡ failed
+    → some_fails words (answers ++ answer ∷ []) ≡ (fails || failed)
+one_more_fails words answers answer fails failed before now =
+    some_fails-append words answers (answer ∷ []) ∙ ap (λ x. x || (answer_fails words answer || false)) before
+    ∙ ap (λ y. fails || (y || false)) now ∙ ap (λ z. fails || z) (alone failed)
+  where
+    alone : (b : Bool) → (b || false) ≡ b
+    alone true = refl
+    alone false = refl
+
 -- n documents of all were run, and these bytes are left
-pub record IsRun (words : RunWords) (all : List (List ℕ)) (rest : List ℕ) (n : ℕ) (files files' : Option Files) (written written' : Option (List ℕ)) : Type 0 where
+pub record IsRun (words : RunWords) (all : List (List ℕ)) (rest : List ℕ) (n : ℕ) (fails : Bool) (files files' : Option Files) (written written' : Option (List ℕ)) : Type 0 where
   pub done : List (List ℕ)
   pub answers : List Answer
   pub cut : all ≡ done ++ documents rest
   pub number : n ≡ length done
   pub ran : Ran words done answers files files' written written'
+  pub failing : some_fails words answers ≡ fails
 
-pub begins : (words : RunWords) (input : List ℕ) (f : Option Files) (w : Option (List ℕ)) → IsRun words (documents input) input 0 f f w w
-begins words input f w = record { done = []; answers = []; cut = refl; number = refl; ran = nothing_run words f w }
+pub begins : (words : RunWords) (input : List ℕ) (f : Option Files) (w : Option (List ℕ)) → IsRun words (documents input) input 0 false f f w w
+begins words input f w = record { done = []; answers = []; cut = refl; number = refl; ran = nothing_run words f w; failing = refl }
 
-pub goes_on : (words : RunWords) (all : List (List ℕ)) (rest d later : List ℕ) (n : ℕ) (f g h : Option Files) (w v u : Option (List ℕ)) (answer : Answer)
-    → documents rest ≡ d ∷ documents later → IsRun words all rest n f g w v → Ran words (d ∷ []) (answer ∷ []) g h v u → IsRun words all later (n + 1) f h w u
-goes_on words all rest d later n f g h w v u answer first r q = record {
+pub goes_on : (words : RunWords) (all : List (List ℕ)) (rest d later : List ℕ) (n : ℕ) (fails failed : Bool) (f g h : Option Files) (w v u : Option (List ℕ))
+    → documents rest ≡ d ∷ documents later → IsRun words all rest n fails f g w v → RanOne words d failed g h v u → IsRun words all later (n + 1) (fails || failed) f h w u
+goes_on words all rest d later n fails failed f g h w v u first r q = record {
   done = r.done ++ d ∷ [];
-  answers = r.answers ++ answer ∷ [];
+  answers = r.answers ++ q.answer ∷ [];
   cut = r.cut ∙ ap (λ t. r.done ++ t) first ∙ sym (append_assoc r.done (d ∷ []) (documents later));
   number = omega (arith, r.number, length-append r.done (d ∷ []));
-  ran = Ran-append words r.done (d ∷ []) r.answers (answer ∷ []) f g h w v u r.ran q;
+  ran = Ran-append words r.done (d ∷ []) r.answers (q.answer ∷ []) f g h w v u r.ran q.ran;
+  failing = one_more_fails words r.answers q.answer fails failed r.failing q.failing;
 }
 
-pub ends : (words : RunWords) (all : List (List ℕ)) (rest : List ℕ) (n : ℕ) (f g : Option Files) (w v : Option (List ℕ)) → length rest ≡ 0 → IsRun words all rest n f g w v → (answers : List Answer) × Ran words all answers f g w v
-ends words all [] n f g w v none r = (r.answers, subst (λ ds. Ran words ds r.answers f g w v) (sym (r.cut ∙ append-nil r.done)) r.ran)
-ends words all (b ∷ rest) n f g w v none r = absurd (omega arith)
+pub ends : (words : RunWords) (all : List (List ℕ)) (rest : List ℕ) (n : ℕ) (fails : Bool) (f g : Option Files) (w v : Option (List ℕ)) → length rest ≡ 0 → IsRun words all rest n fails f g w v → Ended fails words all f g w v
+ends words all [] n fails f g w v none r = record {
+  answers = r.answers;
+  ran = subst (λ ds. Ran words ds r.answers f g w v) (sym (r.cut ∙ append-nil r.done)) r.ran;
+  failing = r.failing;
+}
+ends words all (b ∷ rest) n fails f g w v none r = absurd (omega arith)
 
-pub stops : (words : RunWords) (all : List (List ℕ)) (rest d later : List ℕ) (n : ℕ) (error : DocumentError) (f g h : Option Files) (w v u : Option (List ℕ))
-    → documents rest ≡ d ∷ documents later → IsRun words all rest n f g w v → StopsAt words error d g h v u → Stops words all (record { document = n + 1; error = error }) f h w u
-stops words all rest d later n error f g h w v u first r s = record {
+pub stops : (words : RunWords) (all : List (List ℕ)) (rest d later : List ℕ) (n : ℕ) (fails : Bool) (error : DocumentError) (f g h : Option Files) (w v u : Option (List ℕ))
+    → documents rest ≡ d ∷ documents later → IsRun words all rest n fails f g w v → StopsAt words error d g h v u → Stops words all (record { document = n + 1; error = error }) f h w u
+stops words all rest d later n fails error f g h w v u first r s = record {
   done = r.done;
   document = d;
   later = documents later;

@@ -1,5 +1,5 @@
 -- The answers of a run: its requests in turn, what they leave and the lines that tell of them.
-use Rattle.std.specs.Prelude.{◌&&◌, ◌||◌, ℕ, Bool, false, not, List, [], ◌∷◌, ◌++◌, codes, encode_utf8_all, Option, None, Some, if◌then◌else◌}
+use Rattle.std.specs.Prelude.{◌&&◌, ◌||◌, ℕ, Bool, true, false, not, List, [], ◌∷◌, ◌++◌, codes, encode_utf8_all, Option, None, Some, if◌then◌else◌}
 use Rattle.std.specs.Str.{bytes_eq}
 use Rattle.std.specs.FinMap.{get}
 use Rattle.snap_content.specs.Spell.{spell_text}
@@ -9,8 +9,9 @@ use Rattle.snap_assert.specs.Place.{PlaceView}
 use Rattle.snap_assert.specs.Judging.{May}
 use Rattle.snap_assert.specs.Steps.{Asked, asked_of, step, verdict_of, is_failure}
 use Rattle.snap_assert.specs.Requests.{RequestView}
+use Rattle.snap_assert.specs.declared.config.Flags.{Flags}
 use Rattle.snap_assert.specs.declared.config.Update.{Update}
-use Rattle.snap_assert.specs.declared.config.Update.TheVariants.{InPlace}
+use Rattle.snap_assert.specs.declared.config.Update.TheVariants.{InPlace, NewFile, NoUpdate}
 use Rattle.snap_assert.specs.declared.outcome.Verdict.{Verdict}
 use Rattle.snap_assert.specs.declared.outcome.Verdict.TheVariants.{Passed, Updated, Pending, Rejected}
 
@@ -21,11 +22,45 @@ pub record RunWords : Type 0 where
   pub force_update : Bool
   pub force_pass : Bool
 
--- the words that are built: `run`, `inplace` and a workspace
+-- the modes
+abbrev pub mode_of : List ℕ → Option Update
+mode_of word =
+    if bytes_eq word (codes "inplace") then Some InPlace
+    else if bytes_eq word (codes "new") then Some NewFile
+    else if bytes_eq word (codes "no") then Some NoUpdate
+    else None
+
+abbrev pub flags_of : Bool → Bool → Flags
+flags_of force_update force_pass = record { force_update = force_update; force_pass = force_pass }
+
+abbrev pub is_force : List ℕ → Bool
+is_force word = bytes_eq word (codes "--force")
+
+abbrev pub is_force_pass : List ℕ → Bool
+is_force_pass word = bytes_eq word (codes "--force-pass")
+
+abbrev pub one_flag : List ℕ → Option Flags
+one_flag word = if is_force word then Some (flags_of true false) else if is_force_pass word then Some (flags_of false true) else None
+
+-- none, one, or both in either order
+abbrev pub flags_mean : List (List ℕ) → Option Flags
+flags_mean [] = Some (flags_of false false)
+flags_mean (word ∷ []) = one_flag word
+flags_mean (first ∷ second ∷ []) =
+    if (is_force first && is_force_pass second) || (is_force second && is_force_pass first) then Some (flags_of true true) else None
+flags_mean (first ∷ second ∷ third ∷ more) = None
+
+abbrev pub words_at : List ℕ → Update → Flags → RunWords
+words_at workspace update flags = record { workspace = workspace; update = update; force_update = flags.force_update; force_pass = flags.force_pass }
+
+abbrev pub said_of : List ℕ → Option Update → Option Flags → Option RunWords
+said_of workspace (Some update) (Some flags) = Some (words_at workspace update flags)
+said_of workspace (Some update) None = None
+said_of workspace None flags = None
+
+-- the words that are built: `run`, a mode, a workspace and flags
 abbrev pub words_mean : List (List ℕ) → Option RunWords
-words_mean (command ∷ mode ∷ workspace ∷ []) =
-    if bytes_eq command (codes "run") && bytes_eq mode (codes "inplace")
-    then Some (record { workspace = workspace; update = InPlace; force_update = false; force_pass = false }) else None
+words_mean (command ∷ mode ∷ workspace ∷ flags) = if bytes_eq command (codes "run") then said_of workspace (mode_of mode) (flags_mean flags) else None
 words_mean _ = None
 
 -- a request is made in the workspace, with new settings and no function

@@ -8,7 +8,7 @@ use Rattle.snap_store.specs.Agreement.{Agree}
 use Rattle.snap_store.specs.declared.contents.SnapshotContents.{SnapshotContents}
 use Rattle.snap_store.specs.Views.{meta_in, contents_in, text_in}
 use Rattle.snap_assert.specs.Steps.{Asked, pending_path, step}
-use Rattle.snap_assert.specs.declared.config.Update.TheVariants.{InPlace}
+use Rattle.snap_assert.specs.declared.config.Config.{Config}
 use Rattle.snap_assert.specs.Strays.{IsFilePath, AreStrays}
 use Rattle.snap_assert.specs.Judging.{May}
 use Rattle.snap_assert.specs.Outcomes.{AreWarnings, warnings_in}
@@ -42,9 +42,9 @@ pub record IsSeen (asked : Asked) (m : Files) (seen : Seen) : Type 0 where
   pub strays : AreStrays asked.path m seen.strays.items
 
 -- judged, and the files are those of the step
-pub record IsSettled (asked : Asked) (m : Files) (judged : Judged) (files' : Option Files) : Type 0 where
+pub record IsSettled (config : Config) (asked : Asked) (m : Files) (judged : Judged) (files' : Option Files) : Type 0 where
   pub compared : IsJudged asked m judged
-  pub stands : files' ≡ Some (step InPlace false asked judged.passed m)
+  pub stands : files' ≡ Some (step config.update config.force_update asked judged.passed m)
 
 -- no pass, with these warnings
 abbrev pub NoPass : List Warning → Result Judged AssertError → Type 0

@@ -2,7 +2,6 @@
 use Rattle.std.specs.Prelude.{◌≡◌, false}
 use Rattle.snap_assert.specs.Settings.{settings_of, new_settings}
 use Rattle.snap_assert.specs.Answers.{RunWords}
-use Rattle.snap_assert.specs.declared.config.Update.TheVariants.{InPlace}
 use Rattle.snap_assert.specs.declared.runner.Runner.{Runner}
 
 abbrev pub words_of : Runner → RunWords
@@ -13,11 +12,8 @@ words_of runner = record {
   force_pass = runner.config.force_pass;
 }
 
--- the mode and the flags that are built, and new settings
+-- no flag that is not built, and new settings
 pub record IsReady (runner : Runner) : Type 0 where
-  pub in_place : runner.config.update ≡ InPlace
-  pub unforced : runner.config.force_update ≡ false
   pub loose : runner.config.require_full_match ≡ false
-  pub strict : runner.config.force_pass ≡ false
   pub no_blocks : runner.config.literal ≡ false
   pub settings : settings_of runner.settings ≡ new_settings

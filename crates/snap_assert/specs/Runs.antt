@@ -1,10 +1,10 @@
 -- What a run over many documents leaves, and where it stops.
-use Rattle.std.specs.Prelude.{◌≡◌, ℕ, ◌+◌, List, ◌∷◌, ◌++◌, length, Option, Some, Result, Ok, Err}
+use Rattle.std.specs.Prelude.{◌≡◌, ℕ, ◌+◌, List, ◌∷◌, ◌++◌, [], Bool, length, Option, Some, Result, Ok, Err}
 use Rattle.snap_outside.specs.Causes.{Rose}
 use Rattle.snap_outside.specs.Files.{Files}
 use Rattle.snap_outside.specs.Streams.{HoldsFront}
 use Rattle.snap_assert.specs.Requests.{RequestView, Spells, ReadsAs, Reads}
-use Rattle.snap_assert.specs.Answers.{Answer, RunWords, asked_by, IsAllowed, step_of, line_of, requests_of, AreAllowed, files_after, lines_of}
+use Rattle.snap_assert.specs.Answers.{Answer, RunWords, asked_by, IsAllowed, step_of, line_of, requests_of, AreAllowed, files_after, lines_of, answer_fails, some_fails}
 use Rattle.snap_assert.specs.Steps.{verdict_of}
 use Rattle.snap_assert.specs.Outcomes.{OnlyNear}
 use Rattle.snap_assert.specs.declared.outcome.Outcome.{Outcome}
@@ -19,6 +19,12 @@ pub record Ran (words : RunWords) (documents : List (List ℕ)) (answers : List 
   pub allowed : (m : Files) → files ≡ Some m → AreAllowed words answers m
   pub stands : (m : Files) → files ≡ Some m → files' ≡ Some (files_after words answers m)
   pub lines : (w : List ℕ) → written ≡ Some w → written' ≡ Some (w ++ lines_of words answers)
+
+-- the same of one document, and whether its answer fails
+pub record RanOne (words : RunWords) (document : List ℕ) (fails : Bool) (files files' : Option Files) (written written' : Option (List ℕ)) : Type 0 where
+  pub answer : Answer
+  pub ran : Ran words (document ∷ []) (answer ∷ []) files files' written written'
+  pub failing : answer_fails words answer ≡ fails
 
 -- the document's request was in work: all paths but its own are as before
 pub record FileFails (words : RunWords) (document : List ℕ) (files files' : Option Files) : Type 0 where
@@ -44,6 +50,7 @@ pub record IsDocumentAnswered (words : RunWords) (document : List ℕ) (outcome 
   pub answer : Answer
   pub reads : ReadsAs document answer.request
   pub verdict : outcome.verdict ≡ verdict_of words.update answer.passed
+  pub fails : outcome.fails ≡ answer_fails words answer
   pub path : outcome.path ≡ (asked_by words.workspace answer.request).path
   pub allowed : (m : Files) → files ≡ Some m → IsAllowed words answer m
   pub stands : (m : Files) → files ≡ Some m → files' ≡ Some (step_of words answer m)

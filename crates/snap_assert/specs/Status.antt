@@ -19,7 +19,7 @@ WordsCause words _ = (said : RunWords) × (words_mean words ≡ Some said)
 abbrev pub IsUnchanged : Option Files → Option Files → Option (List ℕ) → Option (List ℕ) → Type 0
 IsUnchanged files files' written written' = (files' ≡ files) × (written' ≡ written)
 
--- the run came to its end
+-- the run came to its end, and some answer fails or none does
 pub record Ended (fails : Bool) (words : RunWords) (docs : List (List ℕ)) (files files' : Option Files) (written written' : Option (List ℕ)) : Type 0 where
   pub answers : List Answer
   pub ran : Ran words docs answers files files' written written'
@@ -97,5 +97,6 @@ pub record IsSteady (before now : ℕ) : Type 0 where
   pub same : now ≡ before
   pub below_last : before < 2 ^ 64 - 1
 
+-- the run came to its end, unless memory was wanting
 abbrev pub EndsWell : Status → Type 0
-EndsWell status = (status ≡ AllPassed) ⊎ (status ≡ OutOfMemory)
+EndsWell status = (status ≡ AllPassed) ⊎ ((status ≡ SomeFailed) ⊎ (status ≡ OutOfMemory))

@@ -1,10 +1,11 @@
 -- What one assertion leaves.
-use Rattle.std.specs.Prelude.{◌||◌, ℕ, Bool, true, false, not, List, ◌++◌, Option, None, Some, codes, if◌then◌else◌, encode_utf8_all}
+use Rattle.std.specs.Prelude.{◌≡◌, ◌||◌, ℕ, Bool, true, false, not, List, ◌++◌, Option, None, Some, codes, if◌then◌else◌, encode_utf8_all}
 use Rattle.std.specs.Str.{bytes_eq}
-use Rattle.std.specs.FinMap.{insert, remove, retain_keys}
+use Rattle.std.specs.FinMap.{get, insert, remove, retain_keys}
 use Rattle.snap_content.specs.Plain.{Plain}
 use Rattle.snap_outside.specs.Files.{Files}
 use Rattle.snap_store.specs.Meta.{Meta, header_tree, without_line}
+pub use Rattle.snap_store.specs.Image.{pending_path}
 use Rattle.snap_store.specs.Image.{file_of}
 use Rattle.snap_assert.specs.Settings.{SettingsView}
 use Rattle.snap_path.specs.Names.{past_mark}
@@ -29,10 +30,6 @@ asked_of settings place name tree = record {
   tree = tree;
 }
 
--- where an unapproved snapshot waits
-abbrev pub pending_path : List ℕ → List ℕ
-pending_path path = path ++ codes ".new"
-
 -- what is left behind by payloads that wait: the pending path, a dot, and more without a slash
 abbrev pub stray_front : List ℕ → List ℕ
 stray_front path = path ++ codes ".new."
@@ -47,6 +44,10 @@ is_stray path q = is_slashless (past_mark (stray_front path) q)
 -- the paths that an assertion may change
 abbrev pub is_near : List ℕ → List ℕ → Bool
 is_near path q = bytes_eq q path || bytes_eq q (pending_path path) || is_stray path q
+
+-- n holds what m holds at each other path
+abbrev pub KeepsFar : List ℕ → Files → Files → Type 0
+KeepsFar path m n = (q : List ℕ) → is_near path q ≡ false → get n q ≡ get m q
 
 abbrev pub cleared : List ℕ → Files → Files
 cleared path files = retain_keys files (λ q. not (is_stray path q))

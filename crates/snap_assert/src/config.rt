@@ -12,6 +12,15 @@ pub enum Update {
     NoUpdate,
 }
 
+/// The flags that the words of a run may hold.
+#[derive(Clone, Copy, Debug, PartialEq, Eq)]
+pub struct Flags {
+    /// `--force`: a tree that passes is written too.
+    pub force_update: bool,
+    /// `--force-pass`: no answer fails.
+    pub force_pass: bool,
+}
+
 /// How a run treats its assertions.
 #[derive(Debug, Drop)]
 pub struct Config {

@@ -1,11 +1,12 @@
 //! One document, and many in turn.
-ghost use Rattle.std.specs.Prelude.{◌≡◌, ◌<◌, ◌≤◌, ◌^◌, [], ◌∷◌, List, ℕ, IfOk, IfErr, OnOk, length, true};
+ghost use Rattle.std.specs.Prelude.{◌≡◌, ◌<◌, ◌≤◌, ◌^◌, List, ℕ, IfOk, IfErr, length, true};
 ghost use Rattle.snap_assert.specs.Cut.{documents};
 ghost use Rattle.snap_assert.specs.Place.{names_file, place_of};
 ghost use Rattle.snap_assert.specs.RequestOf.{request_of};
 ghost use Rattle.snap_assert.specs.Runner.{IsReady, words_of};
-ghost use Rattle.snap_assert.specs.Answers.{Answer, line_text, place_by};
-ghost use Rattle.snap_assert.specs.Runs.{Ran, StopsAt, Stops, IsDocumentAnswered, AssertionStops, StoreCount, SinkCount, StopStoreCount, StopSinkCount};
+ghost use Rattle.snap_assert.specs.Answers.{line_text, place_by};
+ghost use Rattle.snap_assert.specs.Status.{Ended};
+ghost use Rattle.snap_assert.specs.Runs.{RanOne, StopsAt, Stops, IsDocumentAnswered, AssertionStops, StoreCount, SinkCount, StopStoreCount, StopSinkCount};
 
 use crate::cut::first_document_end;
 use crate::engine::assert_content;
@@ -138,7 +139,7 @@ fn assert_document<F: Store>(
     }
 }
 
-/// Reads one document, makes its assertion and writes its line.
+/// Reads one document, makes its assertion and writes its line. Whether the answer fails.
 fn run_document<K: Sink, F: Store>(
     alloc: Global,
     runner: &Runner,
@@ -146,9 +147,9 @@ fn run_document<K: Sink, F: Store>(
     document: &[u8],
     sink: &mut K,
     store: &mut F,
-) -> Result<(), DocumentError>
+) -> Result<bool, DocumentError>
     requires { IsReady runner.now }
-    ensures ok { OnOk result ((answer : Answer) × Ran (words_of runner.now) (document.now ∷ []) (answer ∷ [])
+    ensures ok { IfOk result (λ fails. RanOne (words_of runner.now) document.now fails
         (F.files store.old) (F.files store.new) (K.written sink.old) (K.written sink.new)) }
     ensures err { IfErr result (λ error. StopsAt (words_of runner.now) error document.now
         (F.files store.old) (F.files store.new) (K.written sink.old) (K.written sink.new)) }
@@ -163,12 +164,12 @@ fn run_document<K: Sink, F: Store>(
         return Err(DocumentError::OutOfMemory);
     };
     match write_all(sink, line.as_str().as_bytes()) {
-        Ok(()) => Ok(()),
+        Ok(()) => Ok(outcome.fails),
         Err(_) => Err(DocumentError::WriteFault),
     }
 }
 
-/// Runs the documents of an input in turn, up to the first that stops the run.
+/// Runs the documents of an input in turn, up to the first that stops the run. Whether some answer fails.
 pub fn run_documents<K: Sink, F: Store>(
     alloc: Global,
     runner: &Runner,
@@ -176,10 +177,10 @@ pub fn run_documents<K: Sink, F: Store>(
     input: &[u8],
     sink: &mut K,
     store: &mut F,
-) -> Result<(), Stop>
+) -> Result<bool, Stop>
     requires ready { IsReady runner.now }
     requires short { length input.now < 2 ^ 63 }
-    ensures finished { OnOk result ((answers : List Answer) × Ran (words_of runner.now) (documents input.now) answers
+    ensures finished { IfOk result (λ fails. Ended fails (words_of runner.now) (documents input.now)
         (F.files store.old) (F.files store.new) (K.written sink.old) (K.written sink.new)) }
     ensures stopped { IfErr result (λ stop. Stops (words_of runner.now) (documents input.now) stop
         (F.files store.old) (F.files store.new) (K.written sink.old) (K.written sink.new)) }
@@ -188,13 +189,15 @@ pub fn run_documents<K: Sink, F: Store>(
 {
     let mut rest = input;
     let mut document = 0u64;
+    let mut fails = false;
     while !rest.is_empty() {
         let (first, later) = rest.split_at(first_document_end(rest));
         document += 1;
         match run_document(alloc, runner, session, first, sink, store) {
-            Ok(()) => rest = later,
+            Ok(failed) => fails |= failed,
             Err(error) => return Err(Stop { document, error }),
         }
+        rest = later;
     }
-    Ok(())
+    Ok(fails)
 }

@@ -1,5 +1,5 @@
 //! One assertion over a store.
-ghost use Rattle.std.specs.Prelude.{◌≡◌, List, ℕ, false, Some, IsSome, IfOk, OnErr, option_copied};
+ghost use Rattle.std.specs.Prelude.{◌≡◌, ◌&&◌, List, ℕ, false, not, Some, IsSome, IfOk, OnErr, option_copied};
 ghost use Rattle.snap_content.specs.Plain.{plain};
 ghost use Rattle.snap_content.specs.View.{tree};
 ghost use Rattle.snap_assert.specs.Outcomes.{IsAnswered, OnlyNear, AssertCause};
@@ -9,8 +9,7 @@ ghost use Rattle.snap_assert.specs.Place.{place_of};
 ghost use Rattle.snap_outside.specs.Files.{Files};
 ghost use Rattle.snap_store.specs.Views.{contents_in, text_in};
 ghost use Rattle.snap_assert.specs.Prepared.{IsPrepared, IsSettled};
-ghost use Rattle.snap_assert.specs.Steps.{Asked, asked_of, verdict_of};
-ghost use Rattle.snap_assert.specs.declared.config.Update.TheVariants.{InPlace};
+ghost use Rattle.snap_assert.specs.Steps.{Asked, asked_of, verdict_of, is_failure};
 
 use crate::config::{Config, Update};
 use crate::error::AssertError;
@@ -25,25 +24,39 @@ use snap_content::{Content, Text};
 use snap_outside::Store;
 use std::alloc::Global;
 
-/// The verdict of an assertion that updates in place.
-fn verdict_in_place(passed: bool) -> Verdict
-    ensures { result ≡ verdict_of InPlace passed }
+/// The verdict of an assertion.
+fn verdict(mode: Update, passed: bool) -> Verdict
+    ensures { result ≡ verdict_of mode passed }
 {
     if passed {
-        Verdict::Passed
-    } else {
-        Verdict::Updated
+        return Verdict::Passed;
+    }
+    match mode {
+        Update::InPlace => Verdict::Updated,
+        Update::NewFile => Verdict::Pending,
+        Update::NoUpdate => Verdict::Rejected,
     }
 }
 
-/// Reads, lists and compares, and then leaves the store as the update in place says.
+/// Whether the verdict fails a run.
+fn fails(verdict: Verdict, force_pass: bool) -> bool
+    ensures { result ≡ (is_failure verdict && not force_pass) }
+{
+    match verdict {
+        Verdict::Passed | Verdict::Updated => false,
+        Verdict::Pending | Verdict::Rejected => !force_pass,
+    }
+}
+
+/// Reads, lists and compares, and then leaves the store as the mode says.
 fn assert_prepared<S: Store>(
     alloc: Global,
     store: &mut S,
+    config: &Config,
     prepared: &Prepared,
 ) -> Result<Judged, AssertError>
     requires { IsSome (text_in (contents_in prepared.now.snapshot)) }
-    ensures settled { IfOk result (λ judged. (asked : Asked) (m : Files) → IsPrepared asked prepared.now → S.files store.old ≡ Some m → IsSettled asked m judged (S.files store.new)) }
+    ensures settled { IfOk result (λ judged. (asked : Asked) (m : Files) → IsPrepared asked prepared.now → S.files store.old ≡ Some m → IsSettled config.now asked m judged (S.files store.new)) }
     ensures others { OnErr result ((asked : Asked) → IsPrepared asked prepared.now → OnlyNear asked.path (S.files store.old) (S.files store.new)) }
     ensures cause { AssertCause (S.faults store.old) (S.faults store.new) result }
 {
@@ -51,7 +64,14 @@ fn assert_prepared<S: Store>(
         Ok(seen) => seen,
         Err(error) => return Err(error),
     };
-    match settle(alloc, store, prepared, seen.judged.passed, &seen.strays) {
+    match settle(
+        alloc,
+        store,
+        config,
+        prepared,
+        seen.judged.passed,
+        &seen.strays,
+    ) {
         Ok(()) => Ok(seen.judged),
         Err(error) => Err(error),
     }
@@ -67,8 +87,6 @@ fn assert_named<S: Store>(
     name: &Text,
     content: &Content,
 ) -> Result<Outcome, AssertError>
-    requires in_place { config.now.update ≡ InPlace }
-    requires unforced { config.now.force_update ≡ false }
     ensures answered { IfOk result (λ outcome. IsAnswered config.now (asked_of (settings_of settings.now) (place_of place.now) name.now (plain (tree content.now))) outcome (S.files store.old) (S.files store.new)) }
     ensures others { OnErr result (OnlyNear (asked_of (settings_of settings.now) (place_of place.now) name.now (plain (tree content.now))).path (S.files store.old) (S.files store.new)) }
     ensures cause { AssertCause (S.faults store.old) (S.faults store.new) result }
@@ -76,20 +94,23 @@ fn assert_named<S: Store>(
     let Ok(prepared) = prepare(alloc, settings, place, name, content) else {
         return Err(AssertError::OutOfMemory);
     };
-    match assert_prepared(alloc, store, &prepared) {
-        Ok(judged) => Ok(Outcome {
-            verdict: verdict_in_place(judged.passed),
-            path: prepared.path,
-            warnings: judged.warnings,
-            fails: false,
-        }),
+    match assert_prepared(alloc, store, config, &prepared) {
+        Ok(judged) => {
+            let verdict = verdict(config.update, judged.passed);
+            Ok(Outcome {
+                verdict,
+                path: prepared.path,
+                warnings: judged.warnings,
+                fails: fails(verdict, config.force_pass),
+            })
+        }
         Err(error) => Err(error),
     }
 }
 
 /// Asserts that the tree is that of the snapshot of this name, by what its file holds.
 ///
-/// Until other modes and flags are built the config's `update` is `InPlace` and its flags are off, and a name is given.
+/// Until full matches, literal blocks and automatic names are built these two flags are off, and a name is given.
 /// After an error only the snapshot's own path, its pending path and what payloads left behind may have changed.
 pub fn assert_content<S: Store>(
     alloc: Global,
@@ -101,10 +122,7 @@ pub fn assert_content<S: Store>(
     name: Option<&Text>,
     content: Content,
 ) -> Result<Outcome, AssertError>
-    requires in_place { config.now.update ≡ InPlace }
-    requires unforced { config.now.force_update ≡ false }
     requires loose { config.now.require_full_match ≡ false }
-    requires strict { config.now.force_pass ≡ false }
     requires no_blocks { config.now.literal ≡ false }
     requires named { IsSome name }
     ensures answered { IfOk result (λ outcome. (given : List ℕ) → option_copied name.entry ≡ Some given

@@ -27,8 +27,9 @@ mod settle;
 pub mod status;
 mod strays;
 mod streams;
+mod words;
 
-pub use config::{Config, Update};
+pub use config::{Config, Flags, Update};
 pub use engine::assert_content;
 pub use error::{AssertError, DuplicateKey};
 pub use outcome::{Outcome, Verdict, Warning, Warnings};
@@ -39,6 +40,8 @@ pub use session::Session;
 pub use settings::Settings;
 pub use status::{RefusalKind, Status};
 
+#[cfg(test)]
+mod mode_tests;
 #[cfg(test)]
 mod row_tests;
 #[cfg(test)]

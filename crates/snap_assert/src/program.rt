@@ -5,15 +5,14 @@ ghost use Rattle.snap_assert.specs.Answers.{RunWords, words_mean};
 ghost use Rattle.snap_assert.specs.Status.{WordsCause, RunsFrom, LengthCause, SourceCause, SinkCause, StoreCause, AreSpelled, IsSteady, EndsWell};
 ghost use Rattle.snap_assert.specs.StatusOf.{status_of};
 ghost use Rattle.snap_assert.specs.Streams.{TakesAtMost};
-ghost use Rattle.snap_assert.specs.declared.config.Update.TheVariants.{InPlace};
 
 use crate::documents::{DocumentError, Stop, run_documents};
 use crate::runner::Runner;
 use crate::session::Session;
 use crate::status::Status;
 use crate::streams::{MAX_INPUT, ReadError, read_all};
+use crate::words::said_in;
 use snap_content::Text;
-use snap_content::characters::is_same;
 use snap_outside::{Sink, Source, Store};
 use std::alloc::Global;
 
@@ -26,23 +25,6 @@ fn status_of(stop: Stop) -> Status
         DocumentError::FileIo(path) => Status::FileIo { document, path },
         DocumentError::WriteFault => Status::WriteFault,
         DocumentError::OutOfMemory => Status::OutOfMemory,
-    }
-}
-
-/// The workspace of the words `run inplace WORKSPACE`.
-fn workspace_in(words: &[Text]) -> Option<&Text>
-    ensures { MatchOption result (words_mean words.now ≡ None)
-        (λ workspace. words_mean words.now ≡ Some (record { workspace = workspace.now; update = InPlace; force_update = false; force_pass = false })) }
-{
-    match words {
-        [command, mode, workspace] => {
-            if is_same(command.as_str(), "run") && is_same(mode.as_str(), "inplace") {
-                Some(workspace)
-            } else {
-                None
-            }
-        }
-        _ => None,
     }
 }
 
@@ -63,10 +45,10 @@ fn run_words<S: Source, K: Sink, F: Store>(
     ensures write { SinkCause (K.faults sink.old) (K.faults sink.new) result }
     ensures file { StoreCause (F.faults store.old) (F.faults store.new) result }
 {
-    let Some(workspace) = workspace_in(words) else {
+    let Some(said) = said_in(words) else {
         return Status::BadWords;
     };
-    let Ok(runner) = Runner::in_place(alloc, workspace) else {
+    let Ok(runner) = Runner::new(alloc, said.workspace, said.update, said.flags) else {
         return Status::OutOfMemory;
     };
     let input = match read_all(alloc, source) {
@@ -77,13 +59,16 @@ fn run_words<S: Source, K: Sink, F: Store>(
     };
     let mut session = Session::new(alloc);
     match run_documents(alloc, &runner, &mut session, &input, sink, store) {
-        Ok(()) => Status::AllPassed,
+        Ok(false) => Status::AllPassed,
+        Ok(true) => Status::SomeFailed,
         Err(stop) => status_of(stop),
     }
 }
 
 /// Reads the source to its end, asserts its requests in turn over the store, and writes a line for each.
 ///
+/// The words are `run`, a mode, a workspace and flags: `inplace` writes what did not pass, `new` writes it beside the
+/// approved snapshot, and `no` writes nothing; `--force` writes what passes too, and `--force-pass` lets no answer fail.
 /// The words are those of the command line, without the program's name. The line of a request is written before
 /// the next document runs, and the first refusal ends the run; what was done before stays.
 pub fn run<S: Source, K: Sink, F: Store>(

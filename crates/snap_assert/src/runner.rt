@@ -1,7 +1,7 @@
 //! What the documents of a run share.
 ghost use Rattle.std.specs.Prelude.{◌≡◌, IfOk};
 
-use crate::config::{Config, Update};
+use crate::config::{Config, Flags, Update};
 use crate::settings::Settings;
 use snap_content::{OutOfMemory, Text};
 use std::alloc::Global;
@@ -15,18 +15,24 @@ pub struct Runner {
 }
 
 impl Runner {
-    ghost use Rattle.snap_assert.specs.Runner.{IsReady};
+    ghost use Rattle.snap_assert.specs.Answers.{words_at};
+    ghost use Rattle.snap_assert.specs.Runner.{IsReady, words_of};
 
-    /// A run that updates snapshots in place, below this workspace.
-    pub fn in_place(alloc: Global, workspace: &Text) -> Result<Runner, OutOfMemory>
-        ensures workspace { IfOk result (λ runner. runner.workspace ≡ workspace.now) }
+    /// A run below this workspace, with this mode and these flags.
+    pub fn new(
+        alloc: Global,
+        workspace: &Text,
+        update: Update,
+        flags: Flags,
+    ) -> Result<Runner, OutOfMemory>
+        ensures words { IfOk result (λ runner. words_of runner ≡ words_at workspace.now update flags) }
         ensures ready { IfOk result (λ runner. IsReady runner) }
     {
         let config = Config {
-            update: Update::InPlace,
-            force_update: false,
+            update,
+            force_update: flags.force_update,
             require_full_match: false,
-            force_pass: false,
+            force_pass: flags.force_pass,
             literal: false,
             run_id: Text::empty(),
         };

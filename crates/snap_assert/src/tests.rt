@@ -60,7 +60,6 @@ fn empty_input_and_bad_words(rt: HostRuntime) -> Result<(), Fail> {
     for (mode, input, want) in [
         ("inplace", "", 0),
         ("maybe", REQUEST, 2),
-        ("new", REQUEST, 2),
         ("inplace", "---\nduplicates: end\n", 3),
     ] {
         let (code, sink) = run_over(alloc, &["run", mode, "w"], input, &mut store)?;

@@ -1,5 +1,5 @@
 -- What a store holds behind a write, and where nothing was written.
-use Rattle.std.proofs.Common.{◌≡◌, ℕ, List, Option, Some, Result, Ok, Err, refl, ap, sym, ◌∙◌, OnErr}
+use Rattle.std.proofs.Common.{◌≡◌, ℕ, List, Option, Some, Result, Ok, Err, refl, ap, sym, ◌∙◌, subst, OnOk, OnErr}
 use Rattle.std.proofs.lemmas.Str.{encodes-chars}
 use Rattle.std.specs.FinMap.{insert}
 use Rattle.std.specs.Prelude.{encode_utf8_all}
@@ -16,7 +16,24 @@ text_written m now path bytes sent printed text u shown is same e =
 same_but : (path : List ℕ) (m : Files) (files : Option Files) → files ≡ Some m → SameBut path m files
 same_but path m files told = record { files = m; told = told; others = λ q other. refl }
 
-pub nothing_written : (result : Result Unit Error) (path : List ℕ) (files : Option Files)
+pub nothing_written : {T : Type 0} → (result : Result T Error) (path : List ℕ) (files : Option Files)
     → OnErr result ((m : Files) → files ≡ Some m → SameBut path m files)
 nothing_written (Ok done) path files = tt
 nothing_written (Err error) path files = λ m told. same_but path m files told
+
+-- a fact that follows from another follows from it at `Ok`
+pub at_ok : {T E P Q : Type 0} → (result : Result T E) → (P → Q) → OnOk result P → OnOk result Q
+at_ok (Ok value) f p = f p
+at_ok (Err error) f p = tt
+
+pub at_err : {T E P : Type 0} → (result : Result T E) → P → OnErr result P
+at_err (Ok value) p = tt
+at_err (Err error) p = p
+
+pub saved_as : (m : Files) (now : Option Files) (path path' text text' : List ℕ) → now ≡ Some (insert m path (encode_utf8_all text)) → path ≡ path' → text ≡ text'
+    → now ≡ Some (insert m path' (encode_utf8_all text'))
+saved_as m now path path' text text' written same_path same_text =
+    written ∙ ap (λ p. Some (insert m p (encode_utf8_all text))) same_path ∙ ap (λ t. Some (insert m path' (encode_utf8_all t))) same_text
+
+pub same_but_at : (path path' : List ℕ) (m : Files) (files : Option Files) → path ≡ path' → SameBut path m files → SameBut path' m files
+same_but_at path path' m files same s = let P : List ℕ → Type 0 = λ p. SameBut p m files in subst P same s

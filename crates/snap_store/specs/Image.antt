@@ -9,6 +9,14 @@ use Rattle.snap_store.specs.Meta.{Meta, header_tree, without_line}
 abbrev pub file_of : Plain → Plain → List ℕ
 file_of header tree = document_of header ++ (codes "---\n" ++ text_of tree)
 
+-- the file of a text snapshot with these metadata
+abbrev pub text_under : Meta → List ℕ → List ℕ
+text_under meta raw = document_of (header_tree meta) ++ (codes "---\n" ++ (normal raw ++ 10 ∷ []))
+
 -- the file that a text snapshot is saved as
 abbrev pub saved_text : Meta → List ℕ → List ℕ
-saved_text meta raw = document_of (header_tree (without_line meta)) ++ (codes "---\n" ++ (normal raw ++ 10 ∷ []))
+saved_text meta raw = text_under (without_line meta) raw
+
+-- where a snapshot waits for a review
+abbrev pub pending_path : List ℕ → List ℕ
+pending_path path = path ++ codes ".new"

@@ -3,9 +3,9 @@ ghost use Rattle.std.specs.Prelude.{◌≡◌, List, ℕ, Some, IsSome, IfOk, On
 ghost use Rattle.std.specs.FinMap.{insert};
 ghost use Rattle.snap_outside.specs.Files.{Files, SameBut};
 ghost use Rattle.snap_store.specs.Causes.{FileCause};
-ghost use Rattle.snap_store.specs.Image.{saved_text};
+ghost use Rattle.snap_store.specs.Image.{text_under, saved_text, pending_path};
 ghost use Rattle.snap_store.specs.Reading.{SaveEnd};
-ghost use Rattle.snap_store.specs.Meta.{header_tree, without_line};
+ghost use Rattle.snap_store.specs.Meta.{Meta, header_tree};
 ghost use Rattle.snap_store.specs.Views.{meta_in, meta_of, contents_in, text_in};
 ghost use Rattle.snap_content.specs.Lines.{document_of};
 
@@ -29,33 +29,75 @@ impl Snapshot {
         ensures error { SaveEnd path.now result }
         ensures cause { FileCause (S.faults store.old) (S.faults store.new) result }
     {
-        let named = path.try_clone(alloc)?;
-        let text = saved_file(alloc, self)?;
-        match store.write(path, text.as_str().as_bytes()) {
-            Ok(()) => Ok(()),
-            Err(StoreError::Failed) => Err(Error::FileIo(named)),
-            Err(StoreError::OutOfMemory) => Err(Error::OutOfMemory),
-        }
+        let text = file_text(alloc, self, None)?;
+        write_text(alloc, store, path, &text)
+    }
+
+    /// Writes the snapshot, with the line of its assertion, to the file where it waits for a review, and answers
+    /// that file's path: the path with `.new` behind it. After an error only that file is unknown.
+    pub fn save_new<S: Store>(
+        &self,
+        alloc: Global,
+        store: &mut S,
+        path: &Text,
+    ) -> Result<Text, Error>
+        requires { IsSome (text_in (contents_in self.now)) }
+        ensures written { OnOk result ((m : Files) (raw : List ℕ) → S.files store.old ≡ Some m → text_in (contents_in self.now) ≡ Some raw
+            → S.files store.new ≡ Some (insert m (pending_path path.now) (encode_utf8_all (text_under (meta_in self.now) raw)))) }
+        ensures path { IfOk result (λ pending. pending ≡ pending_path path.now) }
+        ensures unknown { OnErr result ((m : Files) → S.files store.old ≡ Some m → SameBut (pending_path path.now) m (S.files store.new)) }
+        ensures error { SaveEnd (pending_path path.now) result }
+        ensures cause { FileCause (S.faults store.old) (S.faults store.new) result }
+    {
+        let pending = pending_text(alloc, path)?;
+        let text = file_text(alloc, self, self.metadata().assertion_line())?;
+        write_text(alloc, store, &pending, &text)?;
+        Ok(pending)
     }
 }
 
-/// The text of the header that metadata are saved under, without the line of the assertion.
-fn saved_header(alloc: Global, metadata: &MetaData) -> Result<Text, OutOfMemory>
-    ensures { IfOk result (λ text. text ≡ document_of (header_tree (without_line (meta_of metadata.now)))) }
+/// The path of the file where a snapshot of this path waits for a review.
+fn pending_text(alloc: Global, path: &Text) -> Result<Text, OutOfMemory>
+    ensures { IfOk result (λ pending. pending ≡ pending_path path.now) }
 {
-    let header = header_content(alloc, metadata, None)?;
+    let mut pending = path.try_clone(alloc)?;
+    pending.push_ascii(alloc, ".new")?;
+    Ok(pending)
+}
+
+/// Writes the text to the file at the path. After an error only that file is unknown.
+fn write_text<S: Store>(alloc: Global, store: &mut S, path: &Text, text: &Text) -> Result<(), Error>
+    ensures written { OnOk result ((m : Files) → S.files store.old ≡ Some m → S.files store.new ≡ Some (insert m path.now (encode_utf8_all text.now))) }
+    ensures unknown { OnErr result ((m : Files) → S.files store.old ≡ Some m → SameBut path.now m (S.files store.new)) }
+    ensures error { SaveEnd path.now result }
+    ensures cause { FileCause (S.faults store.old) (S.faults store.new) result }
+{
+    let named = path.try_clone(alloc)?;
+    match store.write(path, text.as_str().as_bytes()) {
+        Ok(()) => Ok(()),
+        Err(StoreError::Failed) => Err(Error::FileIo(named)),
+        Err(StoreError::OutOfMemory) => Err(Error::OutOfMemory),
+    }
+}
+
+/// The text of the header of these metadata. The line of the assertion is the one given.
+fn header_text(alloc: Global, metadata: &MetaData, line: Option<u32>) -> Result<Text, OutOfMemory>
+    ensures { IfOk result (λ text. text ≡ document_of (header_tree (record (meta_of metadata.now) { assertion_line = line }))) }
+{
+    let header = header_content(alloc, metadata, line)?;
     yaml::to_string(alloc, &header, false)
 }
 
-/// The text of the file that a text snapshot is saved as.
-fn saved_file(alloc: Global, snapshot: &Snapshot) -> Result<Text, OutOfMemory>
+/// The text of the file of a text snapshot. The line of the assertion is the one given.
+fn file_text(alloc: Global, snapshot: &Snapshot, line: Option<u32>) -> Result<Text, OutOfMemory>
     requires { IsSome (text_in (contents_in snapshot.now)) }
-    ensures { IfOk result (λ made. (raw : List ℕ) → text_in (contents_in snapshot.now) ≡ Some raw → made ≡ saved_text (meta_in snapshot.now) raw) }
+    ensures { IfOk result (λ made. (raw : List ℕ) → text_in (contents_in snapshot.now) ≡ Some raw
+        → made ≡ text_under (record (meta_in snapshot.now) { assertion_line = line }) raw) }
 {
     let SnapshotContents::Text(contents) = snapshot.contents() else {
         unreachable!()
     };
-    let mut text = saved_header(alloc, snapshot.metadata())?;
+    let mut text = header_text(alloc, snapshot.metadata(), line)?;
     text.push_ascii(alloc, "---\n")?;
     text.push_text(alloc, &contents.normal(alloc)?)?;
     text.push_ascii(alloc, "\n")?;

@@ -1,6 +1,7 @@
-//! Copies and agreement, at concrete values.
+//! Copies, agreement, and what waits for a review, at concrete values.
 use crate::{MetaData, Snapshot, SnapshotContents, SnapshotKind};
 use snap_content::{Blob, Content, OutOfMemory, Text};
+use snap_outside::SteadyStore;
 use snap_text::{TextSnapshotContents, TextSnapshotKind};
 use std::alloc::Global;
 
@@ -69,4 +70,23 @@ fn absent_payloads_agree(rt: HostRuntime) {
             .expect(&rt, "memory")
     );
     assert!(rt; !absent.agrees(rt.alloc(), &text).expect(&rt, "memory"));
+}
+
+#[test]
+fn waits_beside_its_path(rt: HostRuntime) {
+    let mut store = SteadyStore::new(rt.alloc());
+    let path = Text::from_str(rt.alloc(), "w/m__answer.snap").expect(&rt, "memory");
+    let contents = text_contents(rt.alloc(), "42\n").expect(&rt, "memory");
+    let mut metadata = MetaData::empty();
+    metadata.set_assertion_line(Some(7));
+    let snapshot = Snapshot::from_components(Text::empty(), None, metadata, contents);
+    let pending = snapshot
+        .save_new(rt.alloc(), &mut store, &path)
+        .expect(&rt, "memory");
+    assert_eq!(rt; pending.as_str(), "w/m__answer.snap.new");
+    assert_eq!(rt;
+        store.get(&pending),
+        Some("---\nassertion_line: 7\n---\n42\n".as_bytes())
+    );
+    assert_eq!(rt; store.len(), 1);
 }

@@ -1,3 +1,4 @@
 pub mod Normal
 pub mod Lines
 pub mod Contents
+pub mod Legacy

@@ -1,8 +1,10 @@
 //! The text of a snapshot, with its kind. The one error of these calls is want of memory.
 ghost use Rattle.std.specs.Prelude.{◌≡◌, ◌↔◌, IsTrue, IfOk};
 ghost use Rattle.std.specs.Str.{chars};
+ghost use Rattle.snap_text.specs.Legacy.{legacy};
 ghost use Rattle.snap_text.specs.Normal.{normal};
 
+use crate::legacy::legacy_text;
 use crate::lines::{split_line, trim_returns};
 use crate::normal::{normal_text, trimmed_text};
 use snap_content::{OutOfMemory, Text};
@@ -75,6 +77,20 @@ impl TextSnapshotContents {
         ensures { IsTrue result ↔ (raw_of self.now ≡ raw_of other.now) }
     {
         self.raw == other.raw
+    }
+
+    /// Whether both have one older form: the normal form without returns and line ends at its front, and then
+    /// without one `---` and its line's end.
+    pub fn matches_legacy(
+        &self,
+        alloc: Global,
+        other: &TextSnapshotContents,
+    ) -> Result<bool, OutOfMemory>
+        ensures { IfOk result (λ same. IsTrue same ↔ (legacy (raw_of self.now) ≡ legacy (raw_of other.now))) }
+    {
+        let mine = legacy_text(alloc, self.as_raw())?;
+        let theirs = legacy_text(alloc, other.as_raw())?;
+        Ok(mine == theirs)
     }
 
     /// Whether both have one normal form.
@@ -151,6 +167,35 @@ mod tests {
             let other = contents(alloc, other)?;
             assert_eq!(rt; text.matches_latest(alloc, &other)?, latest);
         }
+        Ok(())
+    }
+
+    #[test]
+    fn older_agreement(rt: HostRuntime) -> Result<(), Fail> {
+        let alloc = rt.alloc();
+        let text = contents(alloc, "a")?;
+        for (other, same) in [
+            ("\na", true),
+            ("\r\n\n---\na\n", true),
+            ("---\na", true),
+            ("---\r\na", true),
+            ("---\n---\na", false),
+            ("---\n\na", false),
+            (" a", false),
+            ("--- a", false),
+            ("---", false),
+        ] {
+            let other = contents(alloc, other)?;
+            assert_eq!(rt; text.matches_legacy(alloc, &other)?, same);
+            assert!(rt; !text.matches_latest(alloc, &other)?);
+        }
+        Ok(())
+    }
+
+    #[test]
+    fn copies(rt: HostRuntime) -> Result<(), Fail> {
+        let alloc = rt.alloc();
+        let text = contents(alloc, "a b\n")?;
         let copy = text.try_clone(alloc)?;
         assert!(rt; text.matches_fully(&copy));
         assert!(rt; text == copy);

@@ -3,6 +3,7 @@
 
 pub mod contents;
 pub mod laws;
+pub mod legacy;
 pub mod lines;
 pub mod normal;
 

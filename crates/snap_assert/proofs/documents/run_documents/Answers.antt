@@ -7,7 +7,7 @@ loop-rest-init g c = record { run = begins _ _ _ _; few = omega arith; store_cou
 
 pub loop-rest-preserved : goal.loop-rest-preserved
 loop-rest-preserved g c = record {
-  run = goes_on _ _ _ _ _ _ _ _ _ _ _ _ c.in-Ok.ensures.ok.0 (first_is _ _ _ _ c.first_document_end.ensures.cut c.split_at.ensures.front c.split_at.ensures.back) c.loop-rest.invariant.run c.in-Ok.ensures.ok.1;
+  run = goes_on _ _ _ _ _ _ _ _ _ _ _ _ _ _ (first_is _ _ _ _ c.first_document_end.ensures.cut c.split_at.ensures.front c.split_at.ensures.back) c.loop-rest.invariant.run c.in-Ok.ensures.ok;
   few = omega (arith, c.split_at.ensures.back_len, c.first_document_end.ensures.positive);
   store_count = c.in-Ok.ensures.store_count ∙ c.loop-rest.invariant.store_count;
   sink_count = c.in-Ok.ensures.sink_count ∙ c.loop-rest.invariant.sink_count;
@@ -15,4 +15,4 @@ loop-rest-preserved g c = record {
 
 pub returns-in-Err-clause-stopped : goal.returns-in-Err-clause-stopped
 returns-in-Err-clause-stopped g c =
-    stops _ _ _ _ c.split_at.result.1.now _ _ _ _ _ _ _ _ (first_is _ _ _ _ c.first_document_end.ensures.cut c.split_at.ensures.front c.split_at.ensures.back) c.loop-rest.invariant.run c.in-Err.ensures.err
+    stops _ _ _ _ c.split_at.result.1.now _ _ _ _ _ _ _ _ _ (first_is _ _ _ _ c.first_document_end.ensures.cut c.split_at.ensures.front c.split_at.ensures.back) c.loop-rest.invariant.run c.in-Err.ensures.err

@@ -10,4 +10,4 @@ returns-in-Err-clause-others g c = c.in-Err.ensures.others _ c.in-Ok.ensures
 
 pub returns-in-Ok-assert_prepared-clause-answered : goal.returns-in-Ok-assert_prepared-clause-answered
 returns-in-Ok-assert_prepared-clause-answered g c =
-    answered c.args.config.now _ c.in-Ok.prepared c.in-Ok-assert_prepared.judged _ _ _ c.requires.in_place c.requires.unforced c.in-Ok.ensures c.verdict_in_place.ensures c.in-Ok-assert_prepared.ensures.settled
+    answered c.args.config.now _ c.in-Ok.prepared c.in-Ok-assert_prepared.judged _ _ _ _ c.in-Ok.ensures c.verdict-verdict.ensures c.fails.ensures c.in-Ok-assert_prepared.ensures.settled

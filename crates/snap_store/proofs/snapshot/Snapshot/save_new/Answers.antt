@@ -1,0 +1,13 @@
+use Rattle.snap_store.proofs.Written.{nothing_written, at_err, saved_as, same_but_at}
+use Rattle.snap_store.specs.Image.{pending_path}
+use Rattle.snap_store.proofs.snapshot.Snapshot.save_new.Goals as goal
+
+pub returns-in_err-pending-clause-unknown : goal.returns-in_err-pending-clause-unknown
+returns-in_err-pending-clause-unknown g c = nothing_written c.from_residual.result (pending_path c.args.path.now) (g.S.Store.files c.args.store.now)
+
+pub returns-in_err-text-clause-unknown : goal.returns-in_err-text-clause-unknown
+returns-in_err-text-clause-unknown g c = nothing_written c.from_residual-in_err-text.result (pending_path c.args.path.now) (g.S.Store.files c.args.store.now)
+
+pub returns-in_err-write_text-clause-unknown : goal.returns-in_err-write_text-clause-unknown
+returns-in_err-write_text-clause-unknown g c =
+    at_err c.from_residual-in_err-write_text.result (λ m told. same_but_at _ _ m _ c.in_ok-pending.ensures (c.in_err-write_text.ensures.unknown m told))
