@@ -149,8 +149,8 @@ stray_name path last name f l n =
     let front = front_of (parent_of path) in
     ap is_slashless
     (sym (past_mark-behind front (stray_front last) name)
-        ∙ ap (λ mark. past_mark mark (front ++ name)) (stray_front-behind front last path (parted path last f.normal l))
-        ∙ ap (past_mark (stray_front path)) (sym (joined-name (parent_of path) name n)))
+    ∙ ap (λ mark. past_mark mark (front ++ name)) (stray_front-behind front last path (parted path last f.normal l))
+    ∙ ap (past_mark (stray_front path)) (sym (joined-name (parent_of path) name n)))
 
 kept_first : (f : List ℕ → List ℕ) (x : List ℕ) (kept : List (List ℕ)) (t : Bool) → map f (cond t (x ∷ kept) kept) ≡ cond t (f x ∷ map f kept) (map f kept)
 kept_first f x kept true = refl
@@ -173,6 +173,6 @@ in_any_order path folder last m names found sorted f is l listed made p = record
   each = λ q. sym (list_any-IsPermutation (bytes_eq q) found sorted p)
       ∙ ap (list_any (bytes_eq q))
       (made ∙ ap (λ d. map (joined d) (filter (is_stray last) names)) is ∙ chosen_by_name path last names f l listed.only
-          ∙ ap (λ d. filter (is_stray path) (map (joined d) names)) (sym is))
+      ∙ ap (λ d. filter (is_stray path) (map (joined d) names)) (sym is))
       ∙ (strays_of_names m path folder names f is listed).each q;
 }
