@@ -1,5 +1,5 @@
 //! The lines that a plain tree is printed as.
-ghost use Rattle.std.specs.Prelude.{◌≡◌, [], ◌∷◌, ◌++◌, IfOk, OnOk, map, true, false, MatchOption};
+ghost use Rattle.std.specs.Prelude.{◌≡◌, ◌&&◌, [], ◌∷◌, ◌++◌, IfOk, IfSome, OnOk, map, true, false, MatchOption};
 ghost use Rattle.std.specs.List.{All, flat_map};
 ghost use Rattle.snap_content.specs.Lines.{behind, indented, lines_of, is_simple, entry_block, item_block, pair_block};
 ghost use Rattle.snap_content.specs.Readable.{IsWithin, IsEntryWithin};
@@ -128,15 +128,40 @@ fn entry_lines(alloc: Global, entries: &[(PlainTree, PlainTree)]) -> Result<Vec<
 {
     let mut out = Vec::new(alloc);
     for (key, value) in entries {
+        if let Some(line) = entry_line(alloc, key, value)? {
+            out.push(line)?;
+            continue;
+        }
         let key_lines = printed_lines(alloc, key)?;
         let value_lines = printed_lines(alloc, value)?;
-        push_entry(&mut out, alloc, key, value, &key_lines, &value_lines)?;
+        push_long_entry(&mut out, alloc, key, value, &key_lines, &value_lines)?;
     }
     Ok(out)
 }
 
-/// Adds the lines of an entry, from the lines of its key and its value.
-fn push_entry(
+/// The line of an entry that stands on one: its key is simple, and its value is written on one line.
+fn entry_line(
+    alloc: Global,
+    key: &PlainTree,
+    value: &PlainTree,
+) -> Result<Option<Text>, OutOfMemory>
+    ensures value { IfOk result (λ found. MatchOption found ((is_simple (view key.now) && is_flat (view value.now)) ≡ false)
+        (λ line. pair_block (view key.now, view value.now) ≡ line ∷ [])) }
+    ensures within { IfOk result (λ found. IfSome found (λ _. IsEntryWithin (view key.now, view value.now))) }
+{
+    if !is_one_line(value) {
+        return Ok(None);
+    }
+    let Some(mut line) = simple_key(alloc, key)? else {
+        return Ok(None);
+    };
+    line.push_ascii(alloc, ": ")?;
+    line.push_text(alloc, &spelled(alloc, value)?)?;
+    Ok(Some(line))
+}
+
+/// Adds the lines of an entry that stands on more than one, from the lines of its key and its value.
+fn push_long_entry(
     out: &mut Vec<Text>,
     alloc: Global,
     key: &PlainTree,
@@ -144,16 +169,11 @@ fn push_entry(
     key_lines: &[Text],
     value_lines: &[Text],
 ) -> Result<(), OutOfMemory>
+    requires { (is_simple (view key.now) && is_flat (view value.now)) ≡ false }
     ensures { OnOk result (out.new.items ≡ out.old.items
         ++ entry_block (view key.now) (view value.now) key_lines.now value_lines.now) }
 {
     if let Some(mut line) = simple_key(alloc, key)? {
-        if is_one_line(value) {
-            line.push_ascii(alloc, ": ")?;
-            line.push_text(alloc, &spelled(alloc, value)?)?;
-            out.push(line)?;
-            return Ok(());
-        }
         line.push(alloc, ':')?;
         out.push(line)?;
         return push_indented(out, alloc, value_lines);
@@ -164,8 +184,9 @@ fn push_entry(
 
 /// The spelling of a key that is written before a colon.
 pub fn simple_key(alloc: Global, key: &PlainTree) -> Result<Option<Text>, OutOfMemory>
-    ensures { IfOk result (λ found. MatchOption found (is_simple (view key.now) ≡ false)
+    ensures value { IfOk result (λ found. MatchOption found (is_simple (view key.now) ≡ false)
         (λ text. (is_simple (view key.now) ≡ true) × (text ≡ spelling (view key.now)))) }
+    ensures within { IfOk result (λ found. IfSome found (λ _. IsWithin (view key.now))) }
 {
     if !is_scalar_tree(key) {
         return Ok(None);
