@@ -7,7 +7,9 @@ use Rattle.snap_content.specs.Printed.{AreLines}
 use Rattle.snap_content.specs.Readable.{IsWithin}
 use Rattle.snap_print.proofs.LineFacts.{printed_lines}
 use Rattle.snap_text.specs.Normal.{normal, unreturned}
+use Rattle.snap_text.specs.Legacy.{legacy}
 use Rattle.snap_text.proofs.NormalForms.{normal-lines}
+use Rattle.snap_text.proofs.OlderForms.{legacy-lines}
 use Rattle.snap_text.proofs.Trimming.{trimmed-push}
 use Rattle.snap_store.specs.FileSplit.{FallsInto}
 use Rattle.snap_store.specs.Image.{file_of}
@@ -22,6 +24,14 @@ normal-lines_of p lines =
 
 pub normal-text_of : (p : Plain) → IsWithin p → normal (text_of p) ++ 10 ∷ [] ≡ text_of p
 normal-text_of p h = normal-lines_of p (printed_lines p h)
+
+-- no printed text has another older form
+pub legacy-text_of : (p : Plain) → IsWithin p → legacy (text_of p) ≡ normal (text_of p)
+legacy-text_of p h =
+    let some = has_line p in
+    let lines : AreLines (some.first ∷ some.others) = subst AreLines some.is (printed_lines p h) in
+    let P : List (List ℕ) → Type 0 = λ ls. legacy (flat_map ended ls) ≡ normal (flat_map ended ls) in
+    subst P (sym some.is) (legacy-lines some.first some.others lines.0 (normal-lines some.first some.others lines))
 
 -- a file of a header and a tree is split into both
 pub splits-file_of : (d p : Plain) → IsWithin d → IsWithin p → FallsInto (file_of d p) (document_of d) (text_of p)

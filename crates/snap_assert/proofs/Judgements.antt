@@ -6,7 +6,7 @@ use Rattle.snap_content.specs.Lines.{text_of}
 use Rattle.snap_content.specs.declared.error.Error.{Error}
 use Rattle.snap_content.specs.declared.error.Error.TheVariants.{FailedParsingYaml, UnexpectedDataType, MissingField, FileIo, FloatText, JsonKey, NotText, NoFile, OutOfMemory}
 use Rattle.snap_text.specs.Contents.{raw_of}
-use Rattle.snap_text.specs.Normal.{normal}
+use Rattle.snap_text.specs.Legacy.{legacy}
 use Rattle.snap_store.specs.Agreement.{Agree}
 use Rattle.snap_store.specs.Fields.{is_named, is_text, is_binary, kind_in, binary_kind, last_value, later_or, text_value}
 use Rattle.snap_store.specs.FileSplit.{body_of}
@@ -111,16 +111,16 @@ pub record Compares (passed : Bool) (old new : SnapshotContents) (printed : List
 some_raw : (a b : List ℕ) → Some a ≡ Some b → a ≡ b
 some_raw a b e = cc
 
-held_agrees : (k : SnapshotKind) (body printed : List ℕ) (old new : SnapshotContents) → HoldsBody k body old → text_in new ≡ Some printed → Agree old new → normal body ≡ normal printed
-held_agrees kind.Text body printed (Text held) (Text fresh) h e a = ap normal (sym h.0) ∙ a ∙ ap normal (some_raw (raw_of fresh) printed e)
+held_agrees : (k : SnapshotKind) (body printed : List ℕ) (old new : SnapshotContents) → HoldsBody k body old → text_in new ≡ Some printed → Agree old new → legacy body ≡ legacy printed
+held_agrees kind.Text body printed (Text held) (Text fresh) h e a = ap legacy (sym h.0) ∙ a ∙ ap legacy (some_raw (raw_of fresh) printed e)
 held_agrees kind.Text body printed (Text held) (Binary payload) h e a = absurd a
 held_agrees kind.Text body printed (Binary payload) new h e a = absurd h
 held_agrees (kind.Binary extension) body printed (Text held) new h e a = absurd h
 held_agrees (kind.Binary extension) body printed (Binary payload) (Text fresh) h e a = absurd a
 held_agrees (kind.Binary extension) body printed (Binary payload) (Binary other) h e a = absurd (cc)
 
-agrees_held : (body printed : List ℕ) (old new : SnapshotContents) → HoldsBody kind.Text body old → text_in new ≡ Some printed → normal body ≡ normal printed → Agree old new
-agrees_held body printed (Text held) (Text fresh) h e n = ap normal h.0 ∙ n ∙ ap normal (sym (some_raw (raw_of fresh) printed e))
+agrees_held : (body printed : List ℕ) (old new : SnapshotContents) → HoldsBody kind.Text body old → text_in new ≡ Some printed → legacy body ≡ legacy printed → Agree old new
+agrees_held body printed (Text held) (Text fresh) h e n = ap legacy h.0 ∙ n ∙ ap legacy (sym (some_raw (raw_of fresh) printed e))
 agrees_held body printed (Text held) (Binary payload) h e n = absurd (cc)
 agrees_held body printed (Binary payload) new h e n = absurd h
 
@@ -156,7 +156,7 @@ read_judged file tree snapshot new passed r c = judged passed file tree
     let one = one_reading file r.text h.whole (dict r.entries) (dict h.entries) r.there r.header h.there h.header in
     let entries : r.entries ≡ h.entries = dict_same r.entries h.entries one.tree in
     let text : r.kind ≡ kind.Text = same_kind r.kind kind.Text (sym r.kind_is ∙ ap kind_in entries ∙ canonical_kind h.entries h.not_binary) in
-    let body : normal (body_of r.text) ≡ normal (text_of tree) = ap (λ t. normal (body_of t)) (one_text file r.text b.whole r.there b.there) ∙ b.same in
+    let body : legacy (body_of r.text) ≡ legacy (text_of tree) = ap (λ t. legacy (body_of t)) (one_text file r.text b.whole r.there b.there) ∙ b.same in
     c.tells.1 (agrees_held (body_of r.text) (text_of tree) (contents_in snapshot) new (subst (λ k. HoldsBody k (body_of r.text) (contents_in snapshot)) text r.contents) c.printed_is body))
     (λ h.
     let one = one_reading file r.text h.whole (dict r.entries) (dict h.entries) r.there r.header h.there h.header in

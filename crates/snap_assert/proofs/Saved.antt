@@ -4,17 +4,23 @@ use Rattle.snap_content.specs.Plain.{Plain, dict}
 use Rattle.snap_content.specs.Lines.{text_of}
 use Rattle.snap_content.specs.Readable.{IsReadable}
 use Rattle.snap_plain.proofs.Injective.{texts_same}
+use Rattle.snap_text.specs.Legacy.{without_breaks, without_fence, legacy}
 use Rattle.snap_text.specs.Normal.{normal}
 use Rattle.snap_store.specs.FileSplit.{body_of}
 use Rattle.snap_store.specs.Image.{file_of}
 use Rattle.snap_assert.specs.Judging.{BodyAgrees, HasCanonicalHeader, IsSavedFor}
-use Rattle.snap_assert.proofs.Below.{normal-text_of, splits-file_of, normal-ended}
+use Rattle.snap_assert.proofs.Below.{normal-text_of, legacy-text_of, splits-file_of, normal-ended}
 use Rattle.snap_assert.proofs.Readings.{one_text}
 
--- two printed trees with one normal form are one tree
-pub normals_same : (a b : Plain) → IsReadable a → IsReadable b → normal (text_of a) ≡ normal (text_of b) → a ≡ b
-normals_same a b h k e =
-    texts_same a b h k (sym (normal-text_of a h.within) ∙ ap (λ t. t ++ 10 ∷ []) e ∙ normal-text_of b k.within)
+-- two printed trees with one older form are one tree
+pub forms_same : (a b : Plain) → IsReadable a → IsReadable b → legacy (text_of a) ≡ legacy (text_of b) → a ≡ b
+forms_same a b h k e =
+    let normals : normal (text_of a) ≡ normal (text_of b) = sym (legacy-text_of a h.within) ∙ e ∙ legacy-text_of b k.within in
+    texts_same a b h k (sym (normal-text_of a h.within) ∙ ap (λ t. t ++ 10 ∷ []) normals ∙ normal-text_of b k.within)
+
+-- the older form is that of the normal form
+by_normal : (a b : List ℕ) → normal a ≡ normal b → legacy a ≡ legacy b
+by_normal a b e = ap (λ n. without_fence (without_breaks n)) e
 
 -- the body of a saved file has the normal form of the tree's text
 body_normal : (file : Option (List ℕ)) (q : Plain) (s : IsSavedFor file q) → normal (body_of (file_of (dict s.entries) q)) ≡ normal (text_of q)
@@ -39,13 +45,14 @@ pub saved_body : (file : Option (List ℕ)) (q tree : Plain) → IsSavedFor file
 saved_body file q tree s e = record {
   whole = file_of (dict s.entries) q;
   there = s.there;
-  same = body_normal file q s ∙ ap (λ t. normal (text_of t)) e;
+  same = by_normal (body_of (file_of (dict s.entries) q)) (text_of q) (body_normal file q s) ∙ ap (λ t. legacy (text_of t)) e;
 }
 
 pub saved_tree : (file : Option (List ℕ)) (q tree : Plain) → IsSavedFor file q → IsReadable tree → BodyAgrees file (text_of tree) → q ≡ tree
 saved_tree file q tree s h b =
     let whole = one_text file b.whole (file_of (dict s.entries) q) b.there s.there in
-    normals_same q tree s.readable h (sym (body_normal file q s) ∙ ap (λ t. normal (body_of t)) (sym whole) ∙ b.same)
+    forms_same q tree s.readable h
+    (sym (by_normal (body_of (file_of (dict s.entries) q)) (text_of q) (body_normal file q s)) ∙ ap (λ t. legacy (body_of t)) (sym whole) ∙ b.same)
 
 -- what a pass says and where it must come decide it against a saved file
 pub against_saved : (passed : Bool) (file : Option (List ℕ)) (tree : Plain)

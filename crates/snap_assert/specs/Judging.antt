@@ -3,6 +3,7 @@ use Rattle.std.specs.Prelude.{◌≡◌, ◌↔◌, ◌||◌, ◌&&◌, ℕ, Boo
 use Rattle.snap_content.specs.Plain.{Plain, dict, Entries, entry, no_entries}
 use Rattle.snap_content.specs.Lines.{text_of}
 use Rattle.snap_content.specs.Readable.{IsReadable}
+use Rattle.snap_text.specs.Legacy.{legacy}
 use Rattle.snap_text.specs.Normal.{normal}
 use Rattle.snap_store.specs.FileSplit.{body_of}
 use Rattle.snap_store.specs.Fields.{is_named, is_binary}
@@ -11,6 +12,12 @@ use Rattle.snap_store.specs.Reading.{IsTextFile, HasHeader}
 
 -- the file's body agrees with the text
 pub record BodyAgrees (file : Option (List ℕ)) (printed : List ℕ) : Type 0 where
+  pub whole : List ℕ
+  pub there : IsTextFile file whole
+  pub same : legacy (body_of whole) ≡ legacy printed
+
+-- the file's body has the normal form of the text
+pub record BodyMatches (file : Option (List ℕ)) (printed : List ℕ) : Type 0 where
   pub whole : List ℕ
   pub there : IsTextFile file whole
   pub same : normal (body_of whole) ≡ normal printed

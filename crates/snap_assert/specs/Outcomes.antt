@@ -1,6 +1,7 @@
 -- What an assertion answers.
-use Rattle.std.specs.Prelude.{◌≡◌, ◌⊎◌, ◌&&◌, ℕ, Bool, not, List, [], ◌∷◌, Option, None, Some, Result, Ok, Err}
+use Rattle.std.specs.Prelude.{◌≡◌, ◌⊎◌, ◌&&◌, ℕ, Bool, true, not, List, [], ◌∷◌, Option, None, Some, Result, Ok, Err}
 use Rattle.std.specs.FinMap.{get}
+use Rattle.snap_content.specs.Lines.{text_of}
 use Rattle.snap_content.specs.Plain.{dict, Entries}
 use Rattle.snap_content.specs.declared.error.Error.{Error}
 use Rattle.snap_content.specs.declared.error.Error.TheVariants.{FailedParsingYaml, UnexpectedDataType, MissingField, NotText}
@@ -9,14 +10,14 @@ use Rattle.snap_outside.specs.Files.{Files, SameOutside}
 use Rattle.snap_store.specs.Fields.{kind_in}
 use Rattle.snap_store.specs.Reading.{IsTextFile, HasHeader, IsRefused}
 use Rattle.snap_store.specs.declared.metadata.SnapshotKind.{SnapshotKind}
-use Rattle.snap_assert.specs.Judging.{May}
+use Rattle.snap_assert.specs.Judging.{BodyMatches, May}
 use Rattle.snap_assert.specs.Steps.{Asked, step, verdict_of, is_failure, is_near}
 use Rattle.snap_assert.specs.declared.config.Config.{Config}
 use Rattle.snap_assert.specs.declared.error.AssertError.{AssertError}
 use Rattle.snap_assert.specs.declared.error.AssertError.TheVariants.{FileIo, OutOfMemory}
 use Rattle.snap_assert.specs.declared.outcome.Outcome.{Outcome}
 use Rattle.snap_assert.specs.declared.outcome.Warning.{Warning}
-use Rattle.snap_assert.specs.declared.outcome.Warning.TheVariants.{Unreadable}
+use Rattle.snap_assert.specs.declared.outcome.Warning.TheVariants.{Unreadable, LegacyContents}
 use Rattle.snap_assert.specs.declared.outcome.Warnings.{Warnings}
 
 abbrev pub warnings_in : Warnings → List Warning
@@ -39,15 +40,17 @@ IsNotUnderstood path file UnexpectedDataType = IsRefused path file UnexpectedDat
 IsNotUnderstood path file MissingField = IsRefused path file MissingField
 IsNotUnderstood path file _ = ⊥
 
-abbrev pub Warns : List ℕ → Option (List ℕ) → Warning → Type 0
-Warns path file (Unreadable error) = IsNotUnderstood path file error
-Warns path file _ = ⊥
+-- a file that isn't understood, or a pass by the older form alone
+abbrev pub Warns : List ℕ → Option (List ℕ) → Bool → List ℕ → Warning → Type 0
+Warns path file passed printed (Unreadable error) = IsNotUnderstood path file error
+Warns path file passed printed LegacyContents = (passed ≡ true) × (IsUnderstood file × (BodyMatches file printed → ⊥))
+Warns path file passed printed _ = ⊥
 
--- one warning exactly where a file is there that isn't understood
-abbrev pub AreWarnings : List ℕ → Option (List ℕ) → List Warning → Type 0
-AreWarnings path file [] = (file ≡ None) ⊎ IsUnderstood file
-AreWarnings path file (warning ∷ []) = Warns path file warning
-AreWarnings path file (warning ∷ next ∷ more) = ⊥
+-- one warning exactly where there is one of these
+abbrev pub AreWarnings : List ℕ → Option (List ℕ) → Bool → List ℕ → List Warning → Type 0
+AreWarnings path file passed printed [] = (file ≡ None) ⊎ (IsUnderstood file × (passed ≡ true → BodyMatches file printed))
+AreWarnings path file passed printed (warning ∷ []) = Warns path file passed printed warning
+AreWarnings path file passed printed (warning ∷ next ∷ more) = ⊥
 
 -- what was asked is answered: by a verdict that is allowed, and with the files of the step where they are told
 pub record IsAnswered (config : Config) (asked : Asked) (outcome : Outcome) (files files' : Option Files) : Type 0 where
@@ -57,7 +60,7 @@ pub record IsAnswered (config : Config) (asked : Asked) (outcome : Outcome) (fil
   pub fails : outcome.fails ≡ (is_failure (verdict_of config.update passed) && not config.force_pass)
   pub allowed : (m : Files) → files ≡ Some m → May passed (get m asked.path) asked.tree
   pub stands : (m : Files) → files ≡ Some m → files' ≡ Some (step config.update config.force_update asked passed m)
-  pub warned : (m : Files) → files ≡ Some m → AreWarnings asked.path (get m asked.path) (warnings_in outcome.warnings)
+  pub warned : (m : Files) → files ≡ Some m → AreWarnings asked.path (get m asked.path) passed (text_of asked.tree) (warnings_in outcome.warnings)
 
 -- the only refusals while names are given and no block is open
 abbrev pub ErrorCause : ℕ → ℕ → AssertError → Type 0

@@ -1,9 +1,10 @@
 -- What is ready before anything is looked at, and what was seen.
-use Rattle.std.specs.Prelude.{◌≡◌, ◌↔◌, IsTrue, List, [], ◌∷◌, false, Option, Some, Result, Ok, Err}
+use Rattle.std.specs.Prelude.{◌≡◌, ◌↔◌, ℕ, Bool, true, IsTrue, List, [], ◌∷◌, false, Option, Some, Result, Ok, Err}
 use Rattle.std.specs.FinMap.{get}
 use Rattle.snap_content.specs.Lines.{text_of, lines_of}
 use Rattle.snap_content.specs.Printed.{AreLines}
 use Rattle.snap_outside.specs.Files.{Files}
+use Rattle.snap_text.specs.Normal.{normal}
 use Rattle.snap_store.specs.Agreement.{Agree}
 use Rattle.snap_store.specs.declared.contents.SnapshotContents.{SnapshotContents}
 use Rattle.snap_store.specs.Views.{meta_in, contents_in, text_in}
@@ -17,7 +18,7 @@ use Rattle.snap_content.specs.declared.error.Error.TheVariants as refusal
 use Rattle.snap_assert.specs.declared.error.AssertError.{AssertError}
 use Rattle.snap_assert.specs.declared.error.AssertError.TheVariants.{FileIo, OutOfMemory}
 use Rattle.snap_assert.specs.declared.outcome.Warning.{Warning}
-use Rattle.snap_assert.specs.declared.outcome.Warning.TheVariants.{Unreadable}
+use Rattle.snap_assert.specs.declared.outcome.Warning.TheVariants.{Unreadable, LegacyContents}
 use Rattle.snap_assert.specs.declared.prepare.Prepared.{Prepared}
 use Rattle.snap_assert.specs.declared.look.Judged.{Judged}
 use Rattle.snap_assert.specs.declared.look.Seen.{Seen}
@@ -34,7 +35,7 @@ pub record IsPrepared (asked : Asked) (prepared : Prepared) : Type 0 where
 -- whether it passes, and what is to be said of the file
 pub record IsJudged (asked : Asked) (m : Files) (judged : Judged) : Type 0 where
   pub allowed : May judged.passed (get m asked.path) asked.tree
-  pub warned : AreWarnings asked.path (get m asked.path) (warnings_in judged.warnings)
+  pub warned : AreWarnings asked.path (get m asked.path) judged.passed (text_of asked.tree) (warnings_in judged.warnings)
 
 -- the same, and what is to go
 pub record IsSeen (asked : Asked) (m : Files) (seen : Seen) : Type 0 where
@@ -52,9 +53,29 @@ NoPass warnings (Ok judged) = (judged.passed ≡ false) × (warnings_in judged.w
 NoPass warnings (Err OutOfMemory) = Unit {0}
 NoPass warnings (Err _) = ⊥
 
--- a pass exactly where both contents agree, and nothing is to be said
+-- two texts with one normal form
+abbrev pub TextsMatch : Option (List ℕ) → Option (List ℕ) → Type 0
+TextsMatch (Some a) (Some b) = normal a ≡ normal b
+TextsMatch _ _ = Unit {0}
+
+-- two texts with different normal forms
+abbrev pub TextsDiffer : Option (List ℕ) → Option (List ℕ) → Type 0
+TextsDiffer (Some a) (Some b) = normal a ≡ normal b → ⊥
+TextsDiffer _ _ = ⊥
+
+abbrev pub DifferAs : Bool → Option (List ℕ) → Option (List ℕ) → Type 0
+DifferAs true old new = TextsDiffer old new
+DifferAs false old new = TextsMatch old new
+
+-- a pass by the older form alone is to be said
+abbrev pub OlderEnd : Bool → Option (List ℕ) → Option (List ℕ) → List Warning → Type 0
+OlderEnd passed old new [] = passed ≡ true → TextsMatch old new
+OlderEnd passed old new (LegacyContents ∷ []) = (passed ≡ true) × TextsDiffer old new
+OlderEnd passed old new _ = ⊥
+
+-- a pass exactly where both contents agree
 abbrev pub ComparedEnd : SnapshotContents → SnapshotContents → Result Judged AssertError → Type 0
-ComparedEnd old new (Ok judged) = (IsTrue judged.passed ↔ Agree old new) × (warnings_in judged.warnings ≡ [])
+ComparedEnd old new (Ok judged) = (IsTrue judged.passed ↔ Agree old new) × OlderEnd judged.passed (text_in old) (text_in new) (warnings_in judged.warnings)
 ComparedEnd old new (Err OutOfMemory) = Unit {0}
 ComparedEnd old new (Err _) = ⊥
 

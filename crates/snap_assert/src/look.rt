@@ -1,15 +1,16 @@
 //! What stands in the store: whether the tree passes, and what is to go.
-ghost use Rattle.std.specs.Prelude.{◌≡◌, ℕ, [], ◌∷◌, false, Some, IfOk};
+ghost use Rattle.std.specs.Prelude.{◌≡◌, ℕ, [], ◌∷◌, true, false, Some, IfOk};
 ghost use Rattle.snap_outside.specs.Files.{Files};
 ghost use Rattle.snap_assert.specs.Outcomes.{AssertCause, warnings_in};
 ghost use Rattle.snap_assert.specs.Steps.{Asked};
-ghost use Rattle.snap_assert.specs.Prepared.{IsPrepared, IsJudged, IsSeen, NoPass, RefusedEnd, ComparedEnd};
+ghost use Rattle.snap_assert.specs.Prepared.{IsPrepared, IsJudged, IsSeen, NoPass, RefusedEnd, DifferAs, OlderEnd, ComparedEnd};
+ghost use Rattle.snap_store.specs.Views.{text_in};
 
 use crate::error::AssertError;
 use crate::outcome::{Warning, Warnings};
 use crate::prepare::Prepared;
 use crate::strays::stray_paths;
-use snap_content::{Error, Text};
+use snap_content::{Error, OutOfMemory, Text};
 use snap_outside::{Store, StoreError};
 use snap_path::path_parent;
 use snap_store::{Snapshot, SnapshotContents};
@@ -73,6 +74,35 @@ fn refused(alloc: Global, error: Error) -> Result<Judged, AssertError>
     }
 }
 
+/// Whether both are texts with different normal forms.
+fn texts_differ(
+    alloc: Global,
+    old: &SnapshotContents,
+    new: &SnapshotContents,
+) -> Result<bool, OutOfMemory>
+    ensures { IfOk result (λ differ. DifferAs differ (text_in old.now) (text_in new.now)) }
+{
+    match (old.as_text(), new.as_text()) {
+        (Some(old), Some(new)) => Ok(!old.matches_latest(alloc, new)?),
+        _ => Ok(false),
+    }
+}
+
+/// What is to be said of contents that agree: that they do by their older forms alone.
+fn agreement_warnings(
+    alloc: Global,
+    old: &SnapshotContents,
+    new: &SnapshotContents,
+) -> Result<Warnings, OutOfMemory>
+    ensures { IfOk result (λ warnings. OlderEnd true (text_in old.now) (text_in new.now) (warnings_in warnings)) }
+{
+    let mut warnings = Warnings::new(alloc);
+    if texts_differ(alloc, old, new)? {
+        warnings.push(Warning::LegacyContents)?;
+    }
+    Ok(warnings)
+}
+
 /// What a file that was read comes to: a pass exactly where its contents agree with the new ones.
 fn compared(
     alloc: Global,
@@ -83,10 +113,14 @@ fn compared(
     ensures no_fault { (count : ℕ) → AssertCause count count result }
 {
     match old.agrees(alloc, new) {
-        Ok(passed) => Ok(Judged {
-            passed,
-            warnings: Warnings::new(alloc),
-        }),
+        Ok(true) => match agreement_warnings(alloc, old, new) {
+            Ok(warnings) => Ok(Judged {
+                passed: true,
+                warnings,
+            }),
+            Err(_) => Err(AssertError::OutOfMemory),
+        },
+        Ok(false) => Ok(no_pass(alloc)),
         Err(_) => Err(AssertError::OutOfMemory),
     }
 }

@@ -1,6 +1,8 @@
 //! The modes and the flags.
-use crate::run;
-use snap_content::{Blob, Text};
+use crate::{
+    Config, Outcome, Place, Session, Settings, Update, Verdict, Warning, assert_content, run,
+};
+use snap_content::{Blob, Content, Pairs, Text};
 use snap_outside::{SteadySink, SteadySource, SteadyStore};
 use std::alloc::Global;
 use std::test::Fail;
@@ -19,6 +21,9 @@ const SAVED: &str = "---\nsource: src/a.rs\nexpression: x\n---\na: 1\n";
 
 /// The same tree under other metadata.
 const OTHER: &str = "---\nsource: z\n---\na: 1\n";
+
+/// The file with an empty line before its body.
+const OLDER: &str = "---\nsource: src/a.rs\nexpression: x\n---\n\na: 1\n";
 
 const WAITING: &str = "---\nsource: src/a.rs\nassertion_line: 7\nexpression: x\n---\na: 1\n";
 
@@ -60,7 +65,7 @@ fn holds(alloc: Global, store: &SteadyStore, path: &str, file: &str) -> Result<b
 }
 
 /// The words, the file and the one beside it before, the input; the status, the verdict, and both files after.
-const CASES: [(&str, &str, &str, &str, u8, &str, &str, &str); 11] = [
+const CASES: [(&str, &str, &str, &str, u8, &str, &str, &str); 13] = [
     (
         "run new w",
         SAVED,
@@ -144,6 +149,17 @@ const CASES: [(&str, &str, &str, &str, u8, &str, &str, &str); 11] = [
         OTHER,
         "",
     ),
+    ("run no w", OLDER, "", REQUEST, 0, "passed", OLDER, ""),
+    (
+        "run inplace w --force",
+        OLDER,
+        "",
+        REQUEST,
+        0,
+        "passed",
+        SAVED,
+        "",
+    ),
 ];
 
 #[test]
@@ -211,5 +227,55 @@ fn other_words_are_wrong(rt: HostRuntime) -> Result<(), Fail> {
         assert_eq!(rt; code, 2, "{words}");
         assert_eq!(rt; sink.written(), "".as_bytes());
     }
+    Ok(())
+}
+
+/// The answer of an assertion of the tree `a: 1` over a store that holds this file.
+fn answer(alloc: Global, file: &str) -> Result<Outcome, Fail> {
+    let mut store = SteadyStore::new(alloc);
+    put(alloc, &mut store, PATH, file)?;
+    let config = Config {
+        update: Update::NoUpdate,
+        force_update: false,
+        require_full_match: false,
+        force_pass: false,
+        literal: false,
+        run_id: Text::empty(),
+    };
+    let place = Place::new(
+        Text::from_str(alloc, "w")?,
+        Text::empty(),
+        Text::from_str(alloc, "m")?,
+        Text::from_str(alloc, "src/a.rs")?,
+        7,
+        Text::from_str(alloc, "x")?,
+    )?;
+    let mut pairs = Pairs::new(alloc);
+    pairs.push((Content::from_str(alloc, "a")?, Content::U8(1)))?;
+    let name = Text::from_str(alloc, "one")?;
+    let mut session = Session::new(alloc);
+    let settings = Settings::new(alloc)?;
+    Ok(assert_content(
+        alloc,
+        &mut session,
+        &mut store,
+        &config,
+        &settings,
+        &place,
+        Some(&name),
+        Content::Map(pairs),
+    )?)
+}
+
+#[test]
+fn warns_of_an_older_form(rt: HostRuntime) -> Result<(), Fail> {
+    let alloc = rt.alloc();
+    let latest = answer(alloc, SAVED)?;
+    assert!(rt; latest.verdict == Verdict::Passed);
+    assert_eq!(rt; latest.warnings.len(), 0);
+    let older = answer(alloc, OLDER)?;
+    assert!(rt; older.verdict == Verdict::Passed);
+    assert_eq!(rt; older.warnings.len(), 1);
+    assert!(rt; matches!(older.warnings.get(0), Some(Warning::LegacyContents)));
     Ok(())
 }

@@ -3,3 +3,4 @@ mod Returns
 mod Shown
 pub mod Trimming
 pub mod NormalForms
+pub mod OlderForms
