@@ -1,6 +1,6 @@
 -- A run without faults over spelled requests ends well.
-use Rattle.std.specs.Prelude.{◌≡◌, ℕ, List, [], ◌∷◌, ◌++◌, Option, Some, refl}
-use Rattle.std.proofs.Common.{Bool, true, false, cond, None, ap, ◌∙◌, inl, inr, subst, sym, arith}
+use Rattle.std.specs.Prelude.{◌≡◌, ℕ, List, [], ◌∷◌, ◌++◌, Option, refl}
+use Rattle.std.proofs.Common.{inl, inr, subst, arith}
 use Rattle.snap_outside.specs.Causes.{Rose}
 use Rattle.snap_outside.specs.Files.{Files}
 use Rattle.snap_assert.specs.Requests.{RequestView, Spells}

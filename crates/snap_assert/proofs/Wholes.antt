@@ -1,5 +1,5 @@
 -- The parts of a path, and the documents of an input.
-use Rattle.std.proofs.Common.{◌≡◌, ◌==◌, ◌&&◌, ◌||◌, ℕ, Bool, true, false, cond, List, [], ◌∷◌, ◌++◌, refl, ap, ◌∙◌}
+use Rattle.std.proofs.Common.{◌≡◌, ◌==◌, ◌&&◌, ℕ, Bool, true, false, cond, List, [], ◌∷◌, ◌++◌, refl, ap, ◌∙◌}
 use Rattle.std.specs.List.{concat}
 use Rattle.snap_path.specs.Paths.{attached}
 use Rattle.snap_assert.specs.Cut.{begins_document, documents}

@@ -4,7 +4,7 @@ use Rattle.snap_outside.specs.Causes.{Rose}
 use Rattle.snap_outside.specs.Files.{Files}
 use Rattle.snap_outside.specs.Streams.{HoldsFront}
 use Rattle.snap_assert.specs.Requests.{RequestView, Spells, ReadsAs, Reads}
-use Rattle.snap_assert.specs.Answers.{Answer, RunWords, asked_by, IsAllowed, step_of, line_of, requests_of, AreAllowed, files_after, lines_of, answer_fails, some_fails}
+use Rattle.snap_assert.specs.Answers.{Answer, RunWords, asked_by, IsAllowed, step_of, line_of, requests_of, AreAllowed, files_after, lines_of, answer_fails}
 use Rattle.snap_assert.specs.Steps.{verdict_of}
 use Rattle.snap_assert.specs.Outcomes.{OnlyNear}
 use Rattle.snap_assert.specs.declared.outcome.Outcome.{Outcome}

@@ -3,12 +3,14 @@ ghost use Rattle.std.specs.Prelude.{◌≡◌, ◌++◌, ◌∷◌, ℕ, List, [
 ghost use Rattle.std.specs.List.{concat};
 ghost use Rattle.snap_content.specs.Plain.{Entries};
 ghost use Rattle.snap_store.specs.Fields.{is_binary};
+ghost use Rattle.snap_assert.specs.Answers.{Answer, RunWords, some_fails};
 ghost use Rattle.snap_assert.specs.Cut.{documents};
 ghost use Rattle.snap_assert.specs.Judging.{says_binary};
 ghost use Rattle.snap_assert.specs.Place.{PlaceView, holds_slash, last_part};
 ghost use Rattle.snap_assert.specs.Session.{SessionView, empty_session, name_step};
 ghost use Rattle.snap_assert.specs.Settings.{SettingsView, new_settings};
 ghost use Rattle.snap_assert.specs.SnapshotPath.{path_of};
+ghost use Rattle.snap_assert.specs.declared.config.Update.TheVariants.{InPlace};
 
 /// The last part of a path is what stands behind its last slash, and the whole path where it has none.
 pub const fn last_part_is_behind_the_slash()
@@ -24,6 +26,11 @@ pub const fn cut_loses_nothing()
 /// A header that is read as binary has a pair that says so, and is no canonical one.
 pub const fn a_binary_header_is_not_canonical()
     ensures { (entries : Entries) → is_binary entries ≡ true → says_binary entries ≡ true }
+{}
+
+/// Where the mode writes in place no answer fails, so a run does not end with failures.
+pub const fn nothing_fails_in_place()
+    ensures { (words : RunWords) (answers : List Answer) → words.update ≡ InPlace → some_fails words answers ≡ false }
 {}
 
 /// Names, paths and documents at concrete values.

@@ -1,5 +1,5 @@
 -- The older form of printed texts is their normal form.
-use Rattle.std.proofs.Common.{◌≡◌, ◌==◌, ◌||◌, ◌&&◌, ℕ, List, [], ◌∷◌, ◌++◌, Bool, true, false, cond, refl, sym, ap, ◌∙◌, append_assoc}
+use Rattle.std.proofs.Common.{◌≡◌, ◌==◌, ◌||◌, ◌&&◌, ℕ, List, [], ◌∷◌, ◌++◌, Bool, true, false, cond, refl, sym, ap, ◌∙◌}
 use Rattle.std.specs.List.{list_any, flat_map}
 use Rattle.snap_content.specs.Front.{begins}
 use Rattle.snap_content.specs.Lines.{ended}

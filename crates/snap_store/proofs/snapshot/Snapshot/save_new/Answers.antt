@@ -1,4 +1,4 @@
-use Rattle.snap_store.proofs.Written.{nothing_written, at_err, saved_as, same_but_at}
+use Rattle.snap_store.proofs.Written.{nothing_written, at_err, same_but_at}
 use Rattle.snap_store.specs.Image.{pending_path}
 use Rattle.snap_store.proofs.snapshot.Snapshot.save_new.Goals as goal
 
