@@ -54,8 +54,8 @@ abbrev pub words_at : List ℕ → Update → Flags → RunWords
 words_at workspace update flags = record { workspace = workspace; update = update; force_update = flags.force_update; force_pass = flags.force_pass }
 
 abbrev pub said_of : List ℕ → Option Update → Option Flags → Option RunWords
-said_of workspace (Some update) (Some flags) = Some (words_at workspace update flags)
-said_of workspace (Some update) None = None
+said_of workspace (Some mode) (Some flags) = Some (words_at workspace mode flags)
+said_of workspace (Some mode) None = None
 said_of workspace None flags = None
 
 -- the words that are built: `run`, a mode, a workspace and flags
