@@ -76,7 +76,11 @@ fn absent_payloads_agree(rt: HostRuntime) {
 fn waits_beside_its_path(rt: HostRuntime) {
     let mut store = SteadyStore::new(rt.alloc());
     let path = Text::from_str(rt.alloc(), "w/m__answer.snap").expect(&rt, "memory");
-    let contents = text_contents(rt.alloc(), "42\n").expect(&rt, "memory");
+    let text = Text::from_str(rt.alloc(), "42\n").expect(&rt, "memory");
+    let contents = SnapshotContents::from_text(TextSnapshotContents::new(
+        text,
+        TextSnapshotKind::File,
+    ));
     let mut metadata = MetaData::empty();
     metadata.set_assertion_line(Some(7));
     let snapshot = Snapshot::from_components(Text::empty(), None, metadata, contents);
