@@ -9,36 +9,42 @@ use Rattle.snap_text.specs.Contents.{raw_of}
 use Rattle.snap_text.specs.Legacy.{legacy}
 use Rattle.snap_store.specs.Agreement.{Agree}
 use Rattle.snap_store.specs.Fields.{is_named, is_text, is_binary, kind_in, binary_kind, last_value, later_or, text_value}
-use Rattle.snap_store.specs.FileSplit.{body_of}
-use Rattle.snap_store.specs.Reading.{HasHeader, HoldsBody, IsReadAs, IsRefused}
-use Rattle.snap_store.specs.Views.{contents_in, text_in}
+use Rattle.snap_store.specs.FileSplit.{is_headed, body_of}
+use Rattle.snap_store.specs.Meta.{Meta}
+use Rattle.snap_store.specs.Reading.{IsTextFile, HasHeader, HoldsBody, IsReadAs, IsRefused, Tells}
+use Rattle.snap_store.specs.Views.{meta_in, contents_in, legacy_in, text_in}
 use Rattle.snap_store.specs.declared.contents.SnapshotContents.{SnapshotContents}
 use Rattle.snap_store.specs.declared.contents.SnapshotContents.TheVariants.{Text, Binary}
 use Rattle.snap_store.specs.declared.metadata.SnapshotKind.{SnapshotKind}
 use Rattle.snap_store.specs.declared.metadata.SnapshotKind.TheVariants as kind
 use Rattle.snap_store.specs.declared.snapshot.Snapshot.{Snapshot}
-use Rattle.snap_assert.specs.Judging.{BodyAgrees, HasCanonicalHeader, HasBinaryHeader, says_binary, May}
-use Rattle.snap_assert.proofs.Readings.{one_text, no_text_file, text_or_none, one_reading}
+use Rattle.snap_assert.specs.Judging.{BodyAgrees, HasCanonicalHeader, HasBinaryHeader, IsLegacyFile, says_binary, May}
+use Rattle.snap_assert.proofs.Readings.{one_text, no_text_file, text_or_none, one_reading, headed_or_not}
 use Rattle.snap_assert.proofs.Saved.{against_saved}
 
--- a pass that is decided by two facts and two refusals
+-- a pass that is decided by three facts and two refusals
 pub judged : (passed : Bool) (file : Option (List ℕ)) (tree : Plain) → (file ≡ None → passed ≡ false)
     → (passed ≡ true → BodyAgrees file (text_of tree)) → (HasCanonicalHeader file → BodyAgrees file (text_of tree) → passed ≡ true)
-    → (HasBinaryHeader file → passed ≡ false) → May passed file tree
-judged passed file tree absent agrees canonical binary = record {
+    → (IsLegacyFile file → BodyAgrees file (text_of tree) → passed ≡ true) → (HasBinaryHeader file → passed ≡ false) → May passed file tree
+judged passed file tree absent agrees canonical legacy binary = record {
   absent = absent;
   agrees = agrees;
   canonical = canonical;
+  legacy = legacy;
   binary = binary;
   saved = against_saved passed file tree agrees canonical;
 }
 
--- no pass, where the file has no canonical header
-pub no_pass : (file : Option (List ℕ)) (tree : Plain) → (HasCanonicalHeader file → ⊥) → May false file tree
-no_pass file tree none = judged false file tree (λ e. refl) (λ e. cc) (λ h b. absurd (none h)) (λ h. refl)
+-- no pass, where the file has a header that isn't canonical
+pub no_pass : (file : Option (List ℕ)) (tree : Plain) → (HasCanonicalHeader file → ⊥) → (IsLegacyFile file → ⊥) → May false file tree
+no_pass file tree none headed = judged false file tree (λ e. refl) (λ e. cc) (λ h b. absurd (none h)) (λ h b. absurd (headed h)) (λ h. refl)
 
 pub no_file : (file : Option (List ℕ)) (tree : Plain) → file ≡ None → May false file tree
-no_file file tree none = no_pass file tree (λ h. no_text_file file h.whole none h.there)
+no_file file tree none = no_pass file tree (λ h. no_text_file file h.whole none h.there) (λ h. no_text_file file h.whole none h.there)
+
+-- no file with a header is one of the oldest format
+has_header : (file : Option (List ℕ)) (text : List ℕ) → IsTextFile file text → is_headed text ≡ true → IsLegacyFile file → ⊥
+has_header file text there headed h = headed_or_not file text h.whole there h.there headed h.unheaded
 
 -- where the header reads as binary, one of its pairs says so
 pub or_right : (a b : Bool) → b ≡ true → (a || b) ≡ true
@@ -77,25 +83,28 @@ kind_of_text b extension h = ap (λ c. cond c (binary_kind extension) (Some kind
 pub canonical_kind : (entries : Entries) → says_binary entries ≡ false → kind_in entries ≡ Some kind.Text
 canonical_kind entries h = kind_of_text (is_binary entries) (text_value (last_value (codes "extension") entries)) (canonical_text entries h)
 
+dict_same : (a b : Entries) → dict a ≡ dict b → a ≡ b
+dict_same a b e = cc
+
 -- a refusal of the file is no pass
 pub refused_no_pass : (path : List ℕ) (file : Option (List ℕ)) (tree : Plain) (error : Error) → IsRefused path file error
     → ((named : List ℕ) → error ≡ FileIo named → ⊥) → (error ≡ OutOfMemory → ⊥) → May false file tree
 refused_no_pass path file tree (NoFile named) h io memory = no_file file tree h.1
-refused_no_pass path file tree (NotText named) h io memory = no_pass file tree (λ k. text_or_none file k.whole h.1 k.there)
+refused_no_pass path file tree (NotText named) h io memory = no_pass file tree (λ k. text_or_none file k.whole h.1 k.there) (λ k. text_or_none file k.whole h.1 k.there)
 refused_no_pass path file tree (FailedParsingYaml named) h io memory =
     no_pass file tree (λ k. h.1.none (dict k.entries) (subst (λ t. HasHeader t (dict k.entries)) (one_text file k.whole h.1.text k.there h.1.there) k.header))
+    (has_header file h.1.text h.1.there h.1.headed)
 refused_no_pass path file tree UnexpectedDataType h io memory =
     no_pass file tree (λ k. h.other k.entries (one_reading file h.text k.whole h.tree (dict k.entries) h.there h.header k.there k.header).tree)
+    (has_header file h.text h.there h.header.headed)
 refused_no_pass path file tree MissingField h io memory =
     no_pass file tree (λ k.
     let same : h.entries ≡ k.entries = dict_same h.entries k.entries (one_reading file h.text k.whole (dict h.entries) (dict k.entries) h.there h.header k.there k.header).tree in
     let text = canonical_kind k.entries k.not_binary in
     let lacking = h.lacking in
     clash h.entries k.entries same lacking text)
+    (has_header file h.text h.there h.header.headed)
   where
-    dict_same : (a b : Entries) → dict a ≡ dict b → a ≡ b
-    dict_same a b e = cc
-
     clash : (a b : Entries) → a ≡ b → kind_in a ≡ None → kind_in b ≡ Some kind.Text → ⊥
     clash a b same none some = let e = sym none ∙ ap kind_in same ∙ some in cc e
 refused_no_pass path file tree (FileIo named) h io memory = absurd (io named refl)
@@ -143,27 +152,49 @@ binary_is b (Some x) k h e = (x, let f : cond true (binary_kind (Some x)) (Some 
 same_kind : (a b : SnapshotKind) → Some a ≡ Some b → a ≡ b
 same_kind a b e = cc
 
+-- the kind that was read, by what the file is
+kind_canonical : (file : Option (List ℕ)) (was : Bool) (text : List ℕ) (meta : Meta) → IsTextFile file text → Tells was text meta → HasCanonicalHeader file → meta.kind ≡ kind.Text
+kind_canonical file false text meta there t h =
+    let one = one_reading file text h.whole (dict t.entries) (dict h.entries) there t.header h.there h.header in
+    let entries : t.entries ≡ h.entries = dict_same t.entries h.entries one.tree in
+    ap (λ m. m.kind) t.meta_is ∙ same_kind t.kind kind.Text (sym t.kind_is ∙ ap kind_in entries ∙ canonical_kind h.entries h.not_binary)
+kind_canonical file true text meta there t h = absurd (headed_or_not file h.whole text h.there there h.header.headed t.unheaded)
+
+kind_legacy : (file : Option (List ℕ)) (was : Bool) (text : List ℕ) (meta : Meta) → IsTextFile file text → Tells was text meta → IsLegacyFile file → meta.kind ≡ kind.Text
+kind_legacy file false text meta there t h = absurd (headed_or_not file text h.whole there h.there t.header.headed h.unheaded)
+kind_legacy file true text meta there t h = ap (λ m. m.kind) t.meta_is
+
+kind_binary : (file : Option (List ℕ)) (was : Bool) (text : List ℕ) (meta : Meta) → IsTextFile file text → Tells was text meta → HasBinaryHeader file → (x : List ℕ) × (meta.kind ≡ kind.Binary x)
+kind_binary file false text meta there t h =
+    let one = one_reading file text h.whole (dict t.entries) (dict h.entries) there t.header h.there h.header in
+    let entries : t.entries ≡ h.entries = dict_same t.entries h.entries one.tree in
+    let binary : is_binary t.entries ≡ true = ap is_binary entries ∙ h.binary in
+    let found = binary_is (is_binary t.entries) (text_value (last_value (codes "extension") t.entries)) t.kind binary t.kind_is in
+    (found.0, ap (λ m. m.kind) t.meta_is ∙ found.1)
+kind_binary file true text meta there t h = absurd (headed_or_not file h.whole text h.there there h.header.headed t.unheaded)
+
+-- a text that was read passes where its body agrees
+agreement_passes : (file : Option (List ℕ)) (tree : Plain) (snapshot : Snapshot) (new : SnapshotContents) (passed : Bool) (r : IsReadAs file snapshot)
+    → Compares passed (contents_in snapshot) new (text_of tree) → (meta_in snapshot).kind ≡ kind.Text → BodyAgrees file (text_of tree) → passed ≡ true
+agreement_passes file tree snapshot new passed r c text b =
+    let body : legacy (body_of r.text) ≡ legacy (text_of tree) = ap (λ t. legacy (body_of t)) (one_text file r.text b.whole r.there b.there) ∙ b.same in
+    let Holds : SnapshotKind → Type 0 = λ k. HoldsBody k (body_of r.text) (contents_in snapshot) in
+    c.tells.1 (agrees_held (body_of r.text) (text_of tree) (contents_in snapshot) new (subst Holds text r.contents) c.printed_is body)
+
 pub read_judged : (file : Option (List ℕ)) (tree : Plain) (snapshot : Snapshot) (new : SnapshotContents) (passed : Bool) → IsReadAs file snapshot
     → Compares passed (contents_in snapshot) new (text_of tree) → May passed file tree
-read_judged file tree snapshot new passed r c = judged passed file tree
+read_judged file tree snapshot new passed r c =
+    let meta = meta_in snapshot in
+    let was = legacy_in snapshot in
+    judged passed file tree
     (λ none. absurd (no_text_file file r.text none r.there))
     (λ yes. record {
       whole = r.text;
       there = r.there;
-      same = held_agrees r.kind (body_of r.text) (text_of tree) (contents_in snapshot) new r.contents c.printed_is (c.tells.0 yes);
+      same = held_agrees meta.kind (body_of r.text) (text_of tree) (contents_in snapshot) new r.contents c.printed_is (c.tells.0 yes);
     })
-    (λ h b.
-    let one = one_reading file r.text h.whole (dict r.entries) (dict h.entries) r.there r.header h.there h.header in
-    let entries : r.entries ≡ h.entries = dict_same r.entries h.entries one.tree in
-    let text : r.kind ≡ kind.Text = same_kind r.kind kind.Text (sym r.kind_is ∙ ap kind_in entries ∙ canonical_kind h.entries h.not_binary) in
-    let body : legacy (body_of r.text) ≡ legacy (text_of tree) = ap (λ t. legacy (body_of t)) (one_text file r.text b.whole r.there b.there) ∙ b.same in
-    c.tells.1 (agrees_held (body_of r.text) (text_of tree) (contents_in snapshot) new (subst (λ k. HoldsBody k (body_of r.text) (contents_in snapshot)) text r.contents) c.printed_is body))
+    (λ h b. agreement_passes file tree snapshot new passed r c (kind_canonical file was r.text meta r.there r.metadata h) b)
+    (λ h b. agreement_passes file tree snapshot new passed r c (kind_legacy file was r.text meta r.there r.metadata h) b)
     (λ h.
-    let one = one_reading file r.text h.whole (dict r.entries) (dict h.entries) r.there r.header h.there h.header in
-    let entries : r.entries ≡ h.entries = dict_same r.entries h.entries one.tree in
-    let binary : is_binary r.entries ≡ true = ap is_binary entries ∙ h.binary in
-    let found = binary_is (is_binary r.entries) (text_value (last_value (codes "extension") r.entries)) r.kind binary r.kind_is in
-    not_true passed (λ yes. no_agreement r.kind (body_of r.text) (text_of tree) (contents_in snapshot) new found.0 found.1 r.contents c.printed_is (c.tells.0 yes)))
-  where
-    dict_same : (a b : Entries) → dict a ≡ dict b → a ≡ b
-    dict_same a b e = cc
+    let found = kind_binary file was r.text meta r.there r.metadata h in
+    not_true passed (λ yes. no_agreement meta.kind (body_of r.text) (text_of tree) (contents_in snapshot) new found.0 found.1 r.contents c.printed_is (c.tells.0 yes)))

@@ -1,5 +1,5 @@
 -- What was seen of a file, and of what is asked.
-use Rattle.std.proofs.Common.{◌≡◌, ◌↔◌, IsTrue, ℕ, Bool, true, false, List, [], ◌∷◌, Option, Some, Result, Ok, Err, sym, ap, ◌∙◌, subst, inl, inr}
+use Rattle.std.proofs.Common.{◌≡◌, ℕ, Bool, true, false, List, [], ◌∷◌, Option, Some, Result, Ok, Err, refl, sym, ap, ◌∙◌, subst, inl, inr}
 use Rattle.std.specs.Prelude.{IfOk}
 use Rattle.std.specs.FinMap.{get}
 use Rattle.snap_content.specs.Lines.{text_of}
@@ -10,8 +10,9 @@ use Rattle.snap_store.specs.Agreement.{Agree}
 use Rattle.snap_text.specs.Contents.{raw_of}
 use Rattle.snap_text.specs.Normal.{normal}
 use Rattle.snap_store.specs.FileSplit.{body_of}
-use Rattle.snap_store.specs.Reading.{IsReadAs, IsReadFrom, IsRefused, HoldsBody}
-use Rattle.snap_store.specs.Views.{contents_in, text_in}
+use Rattle.snap_store.specs.Meta.{Meta}
+use Rattle.snap_store.specs.Reading.{IsTextFile, IsReadAs, IsReadFrom, IsRefused, HoldsBody, Tells}
+use Rattle.snap_store.specs.Views.{meta_in, contents_in, legacy_in, text_in}
 use Rattle.snap_store.specs.declared.contents.SnapshotContents.{SnapshotContents}
 use Rattle.snap_store.specs.declared.contents.SnapshotContents.TheVariants.{Text, Binary}
 use Rattle.snap_store.specs.declared.metadata.SnapshotKind.{SnapshotKind}
@@ -19,19 +20,15 @@ use Rattle.snap_store.specs.declared.metadata.SnapshotKind.TheVariants as kind
 use Rattle.snap_store.specs.declared.snapshot.Snapshot.{Snapshot}
 use Rattle.snap_assert.specs.Judging.{May}
 use Rattle.snap_assert.specs.Steps.{Asked}
-use Rattle.snap_assert.specs.Outcomes.{AreWarnings, AssertCause, IsUnderstood, IsNotUnderstood, warnings_in}
-use Rattle.snap_assert.specs.Prepared.{IsPrepared, IsJudged, TextsMatch, TextsDiffer, OlderEnd, RefusedEnd, ComparedEnd}
+use Rattle.snap_assert.specs.Outcomes.{AreWarnings, PassWarns, IsNotUnderstood, warnings_in}
+use Rattle.snap_assert.specs.Prepared.{IsPrepared, IsJudged, TextsMatch, TextsDiffer, OlderAs, RefusedEnd, IsCompared, said_if, said}
 use Rattle.snap_assert.specs.declared.error.AssertError.{AssertError}
 use Rattle.snap_assert.specs.declared.look.Judged.{Judged}
 use Rattle.snap_assert.specs.declared.outcome.Warning.{Warning}
-use Rattle.snap_assert.specs.declared.outcome.Warning.TheVariants.{LegacyFile, NumberAsText, Unreadable, LegacyContents, OpenLiteral, InlineInDoctest}
-use Rattle.snap_assert.specs.declared.outcome.Warnings.{Warnings}
+use Rattle.snap_assert.specs.declared.outcome.Warning.TheVariants.{Unreadable, LegacyContents}
 use Rattle.snap_assert.specs.declared.prepare.Prepared.{Prepared}
 use Rattle.snap_assert.proofs.Judgements.{read_judged, refused_no_pass}
 use Rattle.snap_assert.proofs.Readings.{one_text}
-
-understood : (file : Option (List ℕ)) (snapshot : Snapshot) → IsReadAs file snapshot → IsUnderstood file
-understood file snapshot r = record { whole = r.text; there = r.there; entries = r.entries; header = r.header; kind = r.kind; kind_is = r.kind_is }
 
 no_warning : (path : List ℕ) (file : Option (List ℕ)) (passed : Bool) (printed : List ℕ) (ws : List Warning) → ws ≡ [] → AreWarnings path file passed printed [] → AreWarnings path file passed printed ws
 no_warning path file passed printed ws none h = let P : List Warning → Type 0 = λ w. AreWarnings path file passed printed w in subst P (sym none) h
@@ -60,61 +57,58 @@ differs_held kind.Text body printed (Binary payload) new h e d n = absurd h
 differs_held (kind.Binary extension) body printed (Text held) new h e d n = absurd h
 differs_held (kind.Binary extension) body printed (Binary payload) new h e d n = d
 
--- what is said of a file that was read
-warned_read : (path : List ℕ) (file : Option (List ℕ)) (snapshot : Snapshot) (new : SnapshotContents) (passed : Bool) (printed : List ℕ) (ws : List Warning) → IsReadAs file snapshot
-    → text_in new ≡ Some printed → (passed ≡ true → Agree (contents_in snapshot) new) → OlderEnd passed (text_in (contents_in snapshot)) (text_in new) ws → AreWarnings path file passed printed ws
-warned_read path file snapshot new passed printed [] r e agrees end =
-    inr (
-      understood file snapshot r,
-      λ yes. record {
-        whole = r.text;
-        there = r.there;
-        same = matches_held r.kind (body_of r.text) printed (contents_in snapshot) new r.contents e (agrees yes) (end yes);
-      },
-    )
-warned_read path file snapshot new passed printed (LegacyContents ∷ []) r e agrees end = (
-  end.0,
-  (
-    understood file snapshot r,
-    λ b.
-        differs_held r.kind (body_of r.text) printed (contents_in snapshot) new r.contents e end.1
-        (ap (λ t. normal (body_of t)) (one_text file r.text b.whole r.there b.there) ∙ b.same),
-  ),
+-- what is said of a pass
+warned_pass : (file : Option (List ℕ)) (snapshot : Snapshot) (new : SnapshotContents) (passed older : Bool) (printed : List ℕ) → IsReadAs file snapshot
+    → text_in new ≡ Some printed → (passed ≡ true → Agree (contents_in snapshot) new) → OlderAs passed older (text_in (contents_in snapshot)) (text_in new)
+    → PassWarns file passed printed (said_if older LegacyContents)
+warned_pass file snapshot new passed false printed r e agrees how = λ yes. record {
+  whole = r.text;
+  there = r.there;
+  same = matches_held (meta_in snapshot).kind (body_of r.text) printed (contents_in snapshot) new r.contents e (agrees yes) (how yes);
+}
+warned_pass file snapshot new passed true printed r e agrees how = (
+  how.0,
+  λ b.
+      differs_held (meta_in snapshot).kind (body_of r.text) printed (contents_in snapshot) new r.contents e how.1
+      (ap (λ t. normal (body_of t)) (one_text file r.text b.whole r.there b.there) ∙ b.same),
 )
-warned_read path file snapshot new passed printed (LegacyContents ∷ next ∷ more) r e agrees end = absurd end
-warned_read path file snapshot new passed printed (LegacyFile ∷ more) r e agrees end = absurd end
-warned_read path file snapshot new passed printed (NumberAsText ∷ more) r e agrees end = absurd end
-warned_read path file snapshot new passed printed (Unreadable error ∷ more) r e agrees end = absurd end
-warned_read path file snapshot new passed printed (OpenLiteral ∷ more) r e agrees end = absurd end
-warned_read path file snapshot new passed printed (InlineInDoctest ∷ more) r e agrees end = absurd end
+
+-- what is said of a file that was read
+warned_file : (path : List ℕ) (file : Option (List ℕ)) (was older passed : Bool) (text printed : List ℕ) (meta : Meta) → IsTextFile file text → Tells was text meta
+    → PassWarns file passed printed (said_if older LegacyContents) → AreWarnings path file passed printed (said was older)
+warned_file path file true older passed text printed meta there t h = (record { whole = text; there = there; unheaded = t.unheaded }, h)
+warned_file path file false false passed text printed meta there t h =
+    inr (record { whole = text; there = there; entries = t.entries; header = t.header; kind = t.kind; kind_is = t.kind_is }, h)
+warned_file path file false true passed text printed meta there t h =
+    inr (record { whole = text; there = there; entries = t.entries; header = t.header; kind = t.kind; kind_is = t.kind_is }, h)
 
 -- a file that was read is judged by the comparison
-read_compared : (asked : Asked) (m : Files) (prepared : Prepared) (files : Option Files) (snapshot : Snapshot) (old new : SnapshotContents) (passed : Bool) (warnings : Warnings)
-    → IsPrepared asked prepared → files ≡ Some m → IsReadFrom prepared.path files (Ok snapshot) → old ≡ contents_in snapshot → new ≡ contents_in prepared.snapshot
-    → (IsTrue passed ↔ Agree old new) → OlderEnd passed (text_in old) (text_in new) (warnings_in warnings) → IsJudged asked m (record { passed = passed; warnings = warnings })
-read_compared asked m prepared files snapshot old new passed warnings p told r is_old is_new tells said =
-    let file : r.file ≡ get m asked.path = r.told m told ∙ ap (get m) p.path in
-    let May_at : Option (List ℕ) → Type 0 = λ f. May passed f asked.tree in
-    let Warned_at : Option (List ℕ) → Type 0 = λ f. AreWarnings asked.path f passed (text_of asked.tree) (warnings_in warnings) in
-    let Said : SnapshotContents → Type 0 = λ c. OlderEnd passed (text_in c) (text_in new) (warnings_in warnings) in
-    let printed : text_in new ≡ Some (text_of asked.tree) = ap (λ c. text_in c) is_new ∙ p.printed in
-    let Compared : SnapshotContents → Type 0 = λ c. IsTrue passed ↔ Agree c new in
-    let tells_old : IsTrue passed ↔ Agree (contents_in snapshot) new = subst Compared is_old tells in
+read_compared : (asked : Asked) (m : Files) (file : Option (List ℕ)) (snapshot : Snapshot) (new : SnapshotContents) (judged : Judged)
+    → file ≡ get m asked.path → IsReadAs file snapshot → text_in new ≡ Some (text_of asked.tree) → IsCompared (legacy_in snapshot) (contents_in snapshot) new judged → IsJudged asked m judged
+read_compared asked m file snapshot new judged is r printed c =
+    let May_at : Option (List ℕ) → Type 0 = λ f. May judged.passed f asked.tree in
+    let Warned_at : Option (List ℕ) → Type 0 = λ f. AreWarnings asked.path f judged.passed (text_of asked.tree) (warnings_in judged.warnings) in
+    let Warned_by : List Warning → Type 0 = λ ws. AreWarnings asked.path file judged.passed (text_of asked.tree) ws in
+    let pass = warned_pass file snapshot new judged.passed c.older (text_of asked.tree) r printed (λ yes. c.tells.0 yes) c.older_is in
+    let warned = warned_file asked.path file (legacy_in snapshot) c.older judged.passed r.text (text_of asked.tree) (meta_in snapshot) r.there r.metadata pass in
     record {
-      allowed = subst May_at file (read_judged r.file asked.tree snapshot new passed r.comes_to (record {
-        tells = tells_old;
-        printed_is = printed;
-      }));
-      warned = subst Warned_at file
-          (warned_read asked.path r.file snapshot new passed (text_of asked.tree) (warnings_in warnings) r.comes_to printed (λ yes. tells_old.0 yes) (subst Said is_old said));
+      allowed = subst May_at is (read_judged file asked.tree snapshot new judged.passed r (record { tells = c.tells; printed_is = printed }));
+      warned = subst Warned_at is (subst Warned_by (sym c.said_is) warned);
     }
 
-pub judge_read : (asked : Asked) (m : Files) (prepared : Prepared) (files : Option Files) (snapshot : Snapshot) (old new : SnapshotContents) (result : Result Judged AssertError)
-    → IsPrepared asked prepared → files ≡ Some m → IsReadFrom prepared.path files (Ok snapshot) → old ≡ contents_in snapshot → new ≡ contents_in prepared.snapshot
-    → ComparedEnd old new result → IfOk result (λ judged. IsJudged asked m judged)
-judge_read asked m prepared files snapshot old new (Ok judged) p told r is_old is_new end =
-    read_compared asked m prepared files snapshot old new judged.passed judged.warnings p told r is_old is_new end.0 end.1
-judge_read asked m prepared files snapshot old new (Err e) p told r is_old is_new end = tt
+compared_with : (was : Bool) (old new : SnapshotContents) (judged : Judged) (snapshot : Snapshot) → was ≡ legacy_in snapshot → old ≡ contents_in snapshot
+    → IsCompared was old new judged → IsCompared (legacy_in snapshot) (contents_in snapshot) new judged
+compared_with was old new judged snapshot was_is old_is c =
+    let By_kind : Bool → Type 0 = λ b. IsCompared b (contents_in snapshot) new judged in
+    let By_old : SnapshotContents → Type 0 = λ x. IsCompared was x new judged in
+    subst By_kind was_is (subst By_old old_is c)
+
+pub judge_read : (asked : Asked) (m : Files) (prepared : Prepared) (files : Option Files) (snapshot : Snapshot) (was : Bool) (old new : SnapshotContents) (judged : Judged)
+    → IsPrepared asked prepared → files ≡ Some m → IsReadFrom prepared.path files (Ok snapshot) → was ≡ legacy_in snapshot → old ≡ contents_in snapshot
+    → new ≡ contents_in prepared.snapshot → IsCompared was old new judged → IsJudged asked m judged
+judge_read asked m prepared files snapshot was old new judged p told r was_is old_is new_is c =
+    read_compared asked m r.file snapshot new judged (r.told m told ∙ ap (get m) p.path) r.comes_to (ap (λ x. text_in x) new_is ∙ p.printed)
+    (compared_with was old new judged snapshot was_is old_is c)
 
 not_passed : (asked : Asked) (m : Files) (file : Option (List ℕ)) (judged : Judged) → file ≡ get m asked.path → judged.passed ≡ false
     → May false file asked.tree → AreWarnings asked.path file judged.passed (text_of asked.tree) (warnings_in judged.warnings) → IsJudged asked m judged
@@ -129,7 +123,7 @@ by_error : (asked : Asked) (m : Files) (file : Option (List ℕ)) (error : Error
 by_error asked m file error (Err e) is h end = tt
 by_error asked m file (NoFile named) (Ok judged) is h end =
     not_passed asked m file judged is end.0 (refused_no_pass asked.path file asked.tree (NoFile named) h (λ n e. cc) (λ e. cc))
-    (no_warning asked.path file judged.passed (text_of asked.tree) (warnings_in judged.warnings) end.1 (inl h.1))
+    (no_warning asked.path file judged.passed (text_of asked.tree) (warnings_in judged.warnings) end.1 (inl (h.1, refl)))
 by_error asked m file (FileIo named) (Ok judged) is h end = absurd (cc end)
 by_error asked m file OutOfMemory (Ok judged) is h end = absurd (cc end)
 by_error asked m file (NotText named) (Ok judged) is h end =
@@ -158,9 +152,3 @@ pub all_judged : (prepared : Prepared) (files : Option Files) (result : Result J
     → IfOk result (λ judged. (asked : Asked) (m : Files) → IsPrepared asked prepared → files ≡ Some m → IsJudged asked m judged)
 all_judged prepared files (Ok judged) h = h
 all_judged prepared files (Err e) h = tt
-
--- what causes no fault by itself has the cause of what was done before
-pub cause_kept : (before now : ℕ) (result : Result Judged AssertError) → now ≡ before → ((count : ℕ) → AssertCause count count result) → AssertCause before now result
-cause_kept before now result same calm =
-    let Caused : ℕ → Type 0 = λ count. AssertCause before count result in
-    subst Caused (sym same) (calm before)

@@ -1,9 +1,10 @@
 -- One file is read in one way.
-use Rattle.std.proofs.Common.{◌≡◌, ℕ, List, Option, None, Some, drop, sym, ap, ◌∙◌, subst}
+use Rattle.std.proofs.Common.{◌≡◌, ℕ, true, false, List, Option, None, Some, drop, sym, ap, ◌∙◌, subst}
 use Rattle.std.specs.Str.{chars, IsUtf8}
 use Rattle.snap_content.specs.Plain.{Plain, dict, Entries}
 use Rattle.snap_content.specs.Lines.{document_of, text_of}
 use Rattle.snap_plain.proofs.Injective.{texts_same}
+use Rattle.snap_store.specs.FileSplit.{is_headed}
 use Rattle.snap_store.specs.Reading.{IsTextFile, HasHeader, IsNoText}
 
 same_some : (a b : List ℕ) → Some a ≡ Some b → a ≡ b
@@ -41,3 +42,7 @@ pub one_reading : (file : Option (List ℕ)) (x y : List ℕ) (a b : Plain) → 
 one_reading file x y a b p h q k =
     let same = one_text file x y p q in
     record { text = same; tree = one_header y a b (subst (λ t. HasHeader t a) same h) k }
+
+-- a file has a header or none
+pub headed_or_not : (file : Option (List ℕ)) (x y : List ℕ) → IsTextFile file x → IsTextFile file y → is_headed x ≡ true → is_headed y ≡ false → ⊥
+headed_or_not file x y p q headed unheaded = let e = sym headed ∙ ap is_headed (one_text file x y p q) ∙ unheaded in cc e

@@ -5,7 +5,7 @@ use Rattle.snap_content.specs.Lines.{text_of}
 use Rattle.snap_content.specs.Readable.{IsReadable}
 use Rattle.snap_text.specs.Legacy.{legacy}
 use Rattle.snap_text.specs.Normal.{normal}
-use Rattle.snap_store.specs.FileSplit.{body_of}
+use Rattle.snap_store.specs.FileSplit.{is_headed, body_of}
 use Rattle.snap_store.specs.Fields.{is_named, is_binary}
 use Rattle.snap_store.specs.Image.{file_of}
 use Rattle.snap_store.specs.Reading.{IsTextFile, HasHeader}
@@ -43,6 +43,12 @@ pub record HasBinaryHeader (file : Option (List ℕ)) : Type 0 where
   pub header : HasHeader whole (dict entries)
   pub binary : is_binary entries ≡ true
 
+-- the file is of the oldest format: it is a text without a header
+pub record IsLegacyFile (file : Option (List ℕ)) : Type 0 where
+  pub whole : List ℕ
+  pub there : IsTextFile file whole
+  pub unheaded : is_headed whole ≡ false
+
 -- the file was saved for a tree, under a canonical header
 pub record IsSavedFor (file : Option (List ℕ)) (tree : Plain) : Type 0 where
   pub entries : Entries
@@ -59,6 +65,8 @@ pub record May (passed : Bool) (file : Option (List ℕ)) (tree : Plain) : Type 
   pub agrees : passed ≡ true → BodyAgrees file (text_of tree)
   -- always there under a canonical header
   pub canonical : HasCanonicalHeader file → BodyAgrees file (text_of tree) → passed ≡ true
+  -- and without a header
+  pub legacy : IsLegacyFile file → BodyAgrees file (text_of tree) → passed ≡ true
   -- never where the header says binary
   pub binary : HasBinaryHeader file → passed ≡ false
   -- against a file that was saved for a tree exactly where both trees are equal

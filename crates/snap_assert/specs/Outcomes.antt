@@ -10,21 +10,21 @@ use Rattle.snap_outside.specs.Files.{Files, SameOutside}
 use Rattle.snap_store.specs.Fields.{kind_in}
 use Rattle.snap_store.specs.Reading.{IsTextFile, HasHeader, IsRefused}
 use Rattle.snap_store.specs.declared.metadata.SnapshotKind.{SnapshotKind}
-use Rattle.snap_assert.specs.Judging.{BodyMatches, May}
+use Rattle.snap_assert.specs.Judging.{BodyMatches, IsLegacyFile, May}
 use Rattle.snap_assert.specs.Steps.{Asked, step, verdict_of, is_failure, is_near}
 use Rattle.snap_assert.specs.declared.config.Config.{Config}
 use Rattle.snap_assert.specs.declared.error.AssertError.{AssertError}
 use Rattle.snap_assert.specs.declared.error.AssertError.TheVariants.{FileIo, OutOfMemory}
 use Rattle.snap_assert.specs.declared.outcome.Outcome.{Outcome}
 use Rattle.snap_assert.specs.declared.outcome.Warning.{Warning}
-use Rattle.snap_assert.specs.declared.outcome.Warning.TheVariants.{Unreadable, LegacyContents}
+use Rattle.snap_assert.specs.declared.outcome.Warning.TheVariants.{LegacyFile, Unreadable, LegacyContents}
 use Rattle.snap_assert.specs.declared.outcome.Warnings.{Warnings}
 
 abbrev pub warnings_in : Warnings → List Warning
 warnings_in warnings = warnings.items.items
 
--- the file is read as a snapshot
-pub record IsUnderstood (file : Option (List ℕ)) : Type 0 where
+-- the file has a header, which is read as that of a snapshot
+pub record IsHeadedFile (file : Option (List ℕ)) : Type 0 where
   pub whole : List ℕ
   pub there : IsTextFile file whole
   pub entries : Entries
@@ -40,17 +40,17 @@ IsNotUnderstood path file UnexpectedDataType = IsRefused path file UnexpectedDat
 IsNotUnderstood path file MissingField = IsRefused path file MissingField
 IsNotUnderstood path file _ = ⊥
 
--- a file that isn't understood, or a pass by the older form alone
-abbrev pub Warns : List ℕ → Option (List ℕ) → Bool → List ℕ → Warning → Type 0
-Warns path file passed printed (Unreadable error) = IsNotUnderstood path file error
-Warns path file passed printed LegacyContents = (passed ≡ true) × (IsUnderstood file × (BodyMatches file printed → ⊥))
-Warns path file passed printed _ = ⊥
+-- what is said of a file that is read: that it passes by the older form alone
+abbrev pub PassWarns : Option (List ℕ) → Bool → List ℕ → List Warning → Type 0
+PassWarns file passed printed [] = passed ≡ true → BodyMatches file printed
+PassWarns file passed printed (LegacyContents ∷ []) = (passed ≡ true) × (BodyMatches file printed → ⊥)
+PassWarns file passed printed _ = ⊥
 
--- one warning exactly where there is one of these
+-- that a file isn't understood is said alone, and that it is of the oldest format first
 abbrev pub AreWarnings : List ℕ → Option (List ℕ) → Bool → List ℕ → List Warning → Type 0
-AreWarnings path file passed printed [] = (file ≡ None) ⊎ (IsUnderstood file × (passed ≡ true → BodyMatches file printed))
-AreWarnings path file passed printed (warning ∷ []) = Warns path file passed printed warning
-AreWarnings path file passed printed (warning ∷ next ∷ more) = ⊥
+AreWarnings path file passed printed (Unreadable error ∷ []) = IsNotUnderstood path file error
+AreWarnings path file passed printed (LegacyFile ∷ more) = IsLegacyFile file × PassWarns file passed printed more
+AreWarnings path file passed printed warnings = ((file ≡ None) × (warnings ≡ [])) ⊎ (IsHeadedFile file × PassWarns file passed printed warnings)
 
 -- what was asked is answered: by a verdict that is allowed, and with the files of the step where they are told
 pub record IsAnswered (config : Config) (asked : Asked) (outcome : Outcome) (files files' : Option Files) : Type 0 where

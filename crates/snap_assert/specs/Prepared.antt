@@ -1,5 +1,5 @@
 -- What is ready before anything is looked at, and what was seen.
-use Rattle.std.specs.Prelude.{◌≡◌, ◌↔◌, ℕ, Bool, true, IsTrue, List, [], ◌∷◌, false, Option, Some, Result, Ok, Err}
+use Rattle.std.specs.Prelude.{◌≡◌, ◌↔◌, ℕ, Bool, true, IsTrue, List, [], ◌∷◌, ◌++◌, false, Option, Some, Result, Ok, Err}
 use Rattle.std.specs.FinMap.{get}
 use Rattle.snap_content.specs.Lines.{text_of, lines_of}
 use Rattle.snap_content.specs.Printed.{AreLines}
@@ -18,7 +18,7 @@ use Rattle.snap_content.specs.declared.error.Error.TheVariants as refusal
 use Rattle.snap_assert.specs.declared.error.AssertError.{AssertError}
 use Rattle.snap_assert.specs.declared.error.AssertError.TheVariants.{FileIo, OutOfMemory}
 use Rattle.snap_assert.specs.declared.outcome.Warning.{Warning}
-use Rattle.snap_assert.specs.declared.outcome.Warning.TheVariants.{Unreadable, LegacyContents}
+use Rattle.snap_assert.specs.declared.outcome.Warning.TheVariants.{LegacyFile, Unreadable, LegacyContents}
 use Rattle.snap_assert.specs.declared.prepare.Prepared.{Prepared}
 use Rattle.snap_assert.specs.declared.look.Judged.{Judged}
 use Rattle.snap_assert.specs.declared.look.Seen.{Seen}
@@ -67,17 +67,25 @@ abbrev pub DifferAs : Bool → Option (List ℕ) → Option (List ℕ) → Type 
 DifferAs true old new = TextsDiffer old new
 DifferAs false old new = TextsMatch old new
 
--- a pass by the older form alone is to be said
-abbrev pub OlderEnd : Bool → Option (List ℕ) → Option (List ℕ) → List Warning → Type 0
-OlderEnd passed old new [] = passed ≡ true → TextsMatch old new
-OlderEnd passed old new (LegacyContents ∷ []) = (passed ≡ true) × TextsDiffer old new
-OlderEnd passed old new _ = ⊥
+-- whether a pass is one by the older form alone
+abbrev pub OlderAs : Bool → Bool → Option (List ℕ) → Option (List ℕ) → Type 0
+OlderAs passed true old new = (passed ≡ true) × TextsDiffer old new
+OlderAs passed false old new = passed ≡ true → TextsMatch old new
+
+abbrev pub said_if : Bool → Warning → List Warning
+said_if true warning = warning ∷ []
+said_if false warning = []
+
+-- what is said of a file of the oldest format, and of a pass by the older form alone
+abbrev pub said : Bool → Bool → List Warning
+said was_legacy older = said_if was_legacy LegacyFile ++ said_if older LegacyContents
 
 -- a pass exactly where both contents agree
-abbrev pub ComparedEnd : SnapshotContents → SnapshotContents → Result Judged AssertError → Type 0
-ComparedEnd old new (Ok judged) = (IsTrue judged.passed ↔ Agree old new) × OlderEnd judged.passed (text_in old) (text_in new) (warnings_in judged.warnings)
-ComparedEnd old new (Err OutOfMemory) = Unit {0}
-ComparedEnd old new (Err _) = ⊥
+pub record IsCompared (was_legacy : Bool) (old new : SnapshotContents) (judged : Judged) : Type 0 where
+  pub tells : IsTrue judged.passed ↔ Agree old new
+  pub older : Bool
+  pub older_is : OlderAs judged.passed older (text_in old) (text_in new)
+  pub said_is : warnings_in judged.warnings ≡ said was_legacy older
 
 -- a missing file is no pass, a fault and want of memory are handed on, and any other refusal is a warning
 abbrev pub RefusedEnd : Error → Result Judged AssertError → Type 0

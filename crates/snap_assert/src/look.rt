@@ -1,9 +1,9 @@
 //! What stands in the store: whether the tree passes, and what is to go.
-ghost use Rattle.std.specs.Prelude.{◌≡◌, ℕ, [], ◌∷◌, true, false, Some, IfOk};
+ghost use Rattle.std.specs.Prelude.{◌≡◌, [], ◌∷◌, false, Some, IfOk};
 ghost use Rattle.snap_outside.specs.Files.{Files};
 ghost use Rattle.snap_assert.specs.Outcomes.{AssertCause, warnings_in};
 ghost use Rattle.snap_assert.specs.Steps.{Asked};
-ghost use Rattle.snap_assert.specs.Prepared.{IsPrepared, IsJudged, IsSeen, NoPass, RefusedEnd, DifferAs, OlderEnd, ComparedEnd};
+ghost use Rattle.snap_assert.specs.Prepared.{IsPrepared, IsJudged, IsSeen, NoPass, RefusedEnd, DifferAs, OlderAs, IsCompared, said};
 ghost use Rattle.snap_store.specs.Views.{text_in};
 
 use crate::error::AssertError;
@@ -88,41 +88,48 @@ fn texts_differ(
     }
 }
 
-/// What is to be said of contents that agree: that they do by their older forms alone.
-fn agreement_warnings(
+/// Whether the pass is one by the older forms alone.
+fn passes_by_older_form(
     alloc: Global,
+    passed: bool,
     old: &SnapshotContents,
     new: &SnapshotContents,
-) -> Result<Warnings, OutOfMemory>
-    ensures { IfOk result (λ warnings. OlderEnd true (text_in old.now) (text_in new.now) (warnings_in warnings)) }
+) -> Result<bool, OutOfMemory>
+    ensures { IfOk result (λ older. OlderAs passed older (text_in old.now) (text_in new.now)) }
+{
+    if !passed {
+        return Ok(false);
+    }
+    texts_differ(alloc, old, new)
+}
+
+/// What is to be said of a file that was read.
+fn file_warnings(alloc: Global, was_legacy: bool, older: bool) -> Result<Warnings, OutOfMemory>
+    ensures { IfOk result (λ warnings. warnings_in warnings ≡ said was_legacy older) }
 {
     let mut warnings = Warnings::new(alloc);
-    if texts_differ(alloc, old, new)? {
+    if was_legacy {
+        warnings.push(Warning::LegacyFile)?;
+    }
+    if older {
         warnings.push(Warning::LegacyContents)?;
     }
     Ok(warnings)
 }
 
 /// What a file that was read comes to: a pass exactly where its contents agree with the new ones.
-fn compared(
+fn compare(
     alloc: Global,
+    was_legacy: bool,
     old: &SnapshotContents,
     new: &SnapshotContents,
-) -> Result<Judged, AssertError>
-    ensures compared { ComparedEnd old.now new.now result }
-    ensures no_fault { (count : ℕ) → AssertCause count count result }
+) -> Result<Judged, OutOfMemory>
+    ensures { IfOk result (λ judged. IsCompared was_legacy old.now new.now judged) }
 {
-    match old.agrees(alloc, new) {
-        Ok(true) => match agreement_warnings(alloc, old, new) {
-            Ok(warnings) => Ok(Judged {
-                passed: true,
-                warnings,
-            }),
-            Err(_) => Err(AssertError::OutOfMemory),
-        },
-        Ok(false) => Ok(no_pass(alloc)),
-        Err(_) => Err(AssertError::OutOfMemory),
-    }
+    let passed = old.agrees(alloc, new)?;
+    let older = passes_by_older_form(alloc, passed, old, new)?;
+    let warnings = file_warnings(alloc, was_legacy, older)?;
+    Ok(Judged { passed, warnings })
 }
 
 /// Reads the file of the snapshot and compares.
@@ -131,9 +138,13 @@ fn judge<S: Store>(alloc: Global, store: &mut S, prepared: &Prepared) -> Result<
     ensures same { S.files store.new ≡ S.files store.old }
     ensures cause { AssertCause (S.faults store.old) (S.faults store.new) result }
 {
-    match Snapshot::from_file(alloc, store, &prepared.path) {
-        Ok(old) => compared(alloc, old.contents(), prepared.snapshot.contents()),
-        Err(error) => refused(alloc, error),
+    let old = match Snapshot::from_file(alloc, store, &prepared.path) {
+        Ok(old) => old,
+        Err(error) => return refused(alloc, error),
+    };
+    match compare(alloc, old.was_legacy(), old.contents(), prepared.snapshot.contents()) {
+        Ok(judged) => Ok(judged),
+        Err(_) => Err(AssertError::OutOfMemory),
     }
 }
 

@@ -25,6 +25,9 @@ const OTHER: &str = "---\nsource: z\n---\na: 1\n";
 /// The file with an empty line before its body.
 const OLDER: &str = "---\nsource: src/a.rs\nexpression: x\n---\n\na: 1\n";
 
+/// The same tree in a file of the oldest format.
+const LEGACY: &str = "Created: x\nSource: s\n\na: 1\n";
+
 const WAITING: &str = "---\nsource: src/a.rs\nassertion_line: 7\nexpression: x\n---\na: 1\n";
 
 const WAITING_CHANGED: &str =
@@ -65,7 +68,7 @@ fn holds(alloc: Global, store: &SteadyStore, path: &str, file: &str) -> Result<b
 }
 
 /// The words, the file and the one beside it before, the input; the status, the verdict, and both files after.
-const CASES: [(&str, &str, &str, &str, u8, &str, &str, &str); 13] = [
+const CASES: [(&str, &str, &str, &str, u8, &str, &str, &str); 16] = [
     (
         "run new w",
         SAVED,
@@ -150,6 +153,18 @@ const CASES: [(&str, &str, &str, &str, u8, &str, &str, &str); 13] = [
         "",
     ),
     ("run no w", OLDER, "", REQUEST, 0, "passed", OLDER, ""),
+    ("run no w", LEGACY, "", REQUEST, 0, "passed", LEGACY, ""),
+    ("run no w", "a: 1\n", "", REQUEST, 1, "rejected", "a: 1\n", ""),
+    (
+        "run inplace w --force",
+        LEGACY,
+        "",
+        REQUEST,
+        0,
+        "passed",
+        SAVED,
+        "",
+    ),
     (
         "run inplace w --force",
         OLDER,
@@ -265,6 +280,25 @@ fn answer(alloc: Global, file: &str) -> Result<Outcome, Fail> {
         Some(&name),
         Content::Map(pairs),
     )?)
+}
+
+#[test]
+fn warns_of_a_file_without_a_header(rt: HostRuntime) -> Result<(), Fail> {
+    let alloc = rt.alloc();
+    let legacy = answer(alloc, LEGACY)?;
+    assert!(rt; legacy.verdict == Verdict::Passed);
+    assert_eq!(rt; legacy.warnings.len(), 1);
+    assert!(rt; matches!(legacy.warnings.get(0), Some(Warning::LegacyFile)));
+    let older = answer(alloc, "Created: x\n\n\na: 1\n")?;
+    assert!(rt; older.verdict == Verdict::Passed);
+    assert_eq!(rt; older.warnings.len(), 2);
+    assert!(rt; matches!(older.warnings.get(0), Some(Warning::LegacyFile)));
+    assert!(rt; matches!(older.warnings.get(1), Some(Warning::LegacyContents)));
+    let other = answer(alloc, "a: 1\n")?;
+    assert!(rt; other.verdict == Verdict::Rejected);
+    assert_eq!(rt; other.warnings.len(), 1);
+    assert!(rt; matches!(other.warnings.get(0), Some(Warning::LegacyFile)));
+    Ok(())
 }
 
 #[test]

@@ -1,5 +1,5 @@
 -- What reading a file comes to, exit by exit.
-use Rattle.std.proofs.Common.{◌≡◌, ℕ, List, Option, Result, Ok, Err, refl, ap, sym, ◌∙◌, subst, IsErrAnd}
+use Rattle.std.proofs.Common.{◌≡◌, ℕ, Bool, false, List, Option, Result, Ok, Err, refl, ap, sym, ◌∙◌, subst, IsErrAnd}
 use Rattle.snap_content.specs.Plain.{Plain, dict, Entries, content_of}
 use Rattle.snap_content.specs.View.{tree}
 use Rattle.snap_content.specs.declared.content.Content.{Content}
@@ -7,16 +7,18 @@ use Rattle.snap_content.specs.declared.error.Error.{Error}
 use Rattle.snap_content.specs.declared.error.Error.TheVariants.{FailedParsingYaml, UnexpectedDataType, MissingField, FileIo, FloatText, JsonKey, NotText, NoFile, OutOfMemory}
 use Rattle.snap_emit.specs.Parsed.{IsReadFrom}
 use Rattle.snap_store.specs.Causes.{ErrorCause}
-use Rattle.snap_store.specs.FileSplit.{body_of}
+use Rattle.snap_store.specs.FileSplit.{headed_body, body_of}
 use Rattle.snap_store.specs.Header.{FieldsEnd, HasFields}
-use Rattle.snap_store.specs.Reading.{IsTextFile, HasHeader, HoldsBody, IsRefused, FileEnd, IsReadAs}
+use Rattle.snap_store.specs.Meta.{Meta}
+use Rattle.snap_store.specs.Reading.{IsTextFile, HasHeader, HoldsBody, IsRefused, FileEnd, IsReadAs, Tells}
 use Rattle.snap_store.specs.Split.{IsSplit}
-use Rattle.snap_store.specs.Views.{meta_of, meta_in, contents_in}
+use Rattle.snap_store.specs.Views.{meta_of, meta_in, contents_in, legacy_in}
 use Rattle.snap_store.specs.declared.contents.SnapshotContents.{SnapshotContents}
 use Rattle.snap_store.specs.declared.metadata.MetaData.{MetaData}
 use Rattle.snap_store.specs.declared.metadata.SnapshotKind.{SnapshotKind}
 use Rattle.snap_store.specs.declared.snapshot.Snapshot.{Snapshot}
 use Rattle.snap_store.specs.declared.split.Headed.{Headed}
+use Rattle.snap_store.proofs.Bodies.{body-headed}
 
 -- the header of the text is the plain form of this tree
 pub record HasTree (text : List ℕ) (made : Content) : Type 0 where
@@ -65,18 +67,24 @@ same_body kind k body b x y same_kind same_text same h =
     let R : SnapshotContents → Type 0 = λ v. HoldsBody k b v in
     subst P same_kind (subst Q same_text (subst R same h))
 
+-- what is told with a header, and without one
+as_told : (legacy was : Bool) (text : List ℕ) (meta : Meta) → legacy ≡ was → Tells legacy text meta → Tells was text meta
+as_told legacy was text meta is tells = let P : Bool → Type 0 = λ b. Tells b text meta in subst P is tells
+
 pub read_as : (text body : List ℕ) (file : Option (List ℕ)) (plain : Plain) (metadata : MetaData) (snapshot : Snapshot) (kind : SnapshotKind) (contents : SnapshotContents)
-    → IsTextFile file text → HasHeader text plain → HasFields plain metadata → kind ≡ (meta_of metadata).kind → body ≡ body_of text
-    → meta_in snapshot ≡ meta_of metadata → contents ≡ contents_in snapshot → HoldsBody kind body contents → IsReadAs file snapshot
-read_as text body file plain metadata snapshot kind contents there has read kind_is body_is metadata_is contents_are holds = record {
+    → IsTextFile file text → HasHeader text plain → HasFields plain metadata → kind ≡ (meta_of metadata).kind → body ≡ headed_body text
+    → meta_in snapshot ≡ meta_of metadata → false ≡ legacy_in snapshot → contents ≡ contents_in snapshot → HoldsBody kind body contents → IsReadAs file snapshot
+read_as text body file plain metadata snapshot kind contents there has read kind_is body_is metadata_is headed contents_are holds = record {
   text = text;
   there = there;
-  entries = read.entries;
-  header = other_header text file plain read.entries has read.header_is;
-  kind = read.kind;
-  kind_is = read.kind_is;
-  metadata = metadata_is ∙ read.fields_are;
-  contents = same_body read.kind kind (body_of text) body contents (contents_in snapshot) (kind_is ∙ ap (λ m. m.kind) read.fields_are) body_is contents_are holds;
+  metadata = as_told false (legacy_in snapshot) text (meta_in snapshot) headed (record {
+    entries = read.entries;
+    header = other_header text file plain read.entries has read.header_is;
+    kind = read.kind;
+    kind_is = read.kind_is;
+    meta_is = metadata_is ∙ read.fields_are;
+  });
+  contents = same_body (meta_in snapshot).kind kind (body_of text) body contents (contents_in snapshot) (kind_is ∙ ap (λ m. m.kind) (sym metadata_is)) (body_is ∙ sym (body-headed text has.headed)) contents_are holds;
 }
 
 pub no_memory : (path : List ℕ) (file : Option (List ℕ)) (result : Result Snapshot Error) → IsErrAnd result (λ e. e ≡ OutOfMemory) → FileEnd path file result

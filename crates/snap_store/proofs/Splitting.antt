@@ -9,9 +9,10 @@ use Rattle.snap_content.specs.Printed.{IsLine, AreLines, is_break, begins_dashes
 use Rattle.snap_content.specs.Spell.{spelling, is_flat}
 use Rattle.snap_text.specs.Lines.{is_line_end, IsUnbroken}
 use Rattle.snap_text.proofs.Trimming.{trimmed-push, trimmed-well}
-use Rattle.snap_store.specs.FileSplit.{pieces, is_fence, line_of, joined_lines, up_to_fence, past_fence, header_text, lines_text, first_is_fence, file_text, FallsInto}
+use Rattle.snap_store.specs.FileSplit.{pieces, is_fence, line_of, joined_lines, up_to_fence, past_fence, header_text, lines_text, first_is_fence, is_headed, file_text, FallsInto}
 use Rattle.snap_store.proofs.Pieces.{pieces-line}
 use Rattle.snap_store.proofs.LineEnds.{ended_by_feed}
+use Rattle.snap_store.proofs.Bodies.{body-headed}
 
 or_left : (a b : Bool) → (a || b) ≡ false → a ≡ false
 or_left true b h = h
@@ -89,12 +90,13 @@ lines-split header line lines h k =
     ap pieces (append_assoc (codes "---\n" ++ flat_map ended header) (codes "---\n") body)
     ∙ ap (λ ps. codes "---\n" ∷ ps) (pieces-lines header (codes "---\n" ++ body) h)
     ∙ ap (λ ps. codes "---\n" ∷ (map ended header ++ codes "---\n" ∷ ps)) body_pieces in
+    let headed : is_headed text ≡ true = ap first_is_fence cut in
     record {
-      headed = ap first_is_fence cut;
+      headed = headed;
       header_is = ap header_text cut ∙ ap (λ t. codes "---\n" ++ t) (ap concat (up_to header rest h) ∙ concat-ended header);
       body_is =
           ap (λ t. t ++ 10 ∷ [])
-          (ap (λ ps. lines_text (past_fence (drop 1 ps))) cut ∙ ap lines_text (past header rest h) ∙ ap joined_lines (lines-ended (line ∷ lines) k))
+          (body-headed text headed ∙ ap (λ ps. lines_text (past_fence (drop 1 ps))) cut ∙ ap lines_text (past header rest h) ∙ ap joined_lines (lines-ended (line ∷ lines) k))
           ∙ joined-ended line lines;
     }
 

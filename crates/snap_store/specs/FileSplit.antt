@@ -1,5 +1,6 @@
 -- How a snapshot file falls into its header and its body.
 use Rattle.std.specs.Prelude.{◌≡◌, ◌==◌, ◌&&◌, ℕ, List, [], ◌∷◌, ◌++◌, Bool, true, false, if◌then◌else◌, Option, None, Some, option_map, map, drop, codes}
+use Rattle.std.specs.Option.{option_or}
 use Rattle.std.specs.Char.{is_whitespace, to_ascii_lowercase}
 use Rattle.std.specs.List.{concat}
 use Rattle.std.specs.Str.{bytes_eq}
@@ -66,18 +67,8 @@ abbrev pub header_of : List ℕ → List ℕ
 header_of text = header_text (pieces text)
 
 -- of a headed text: the lines behind the header's end
-abbrev pub body_of : List ℕ → List ℕ
-body_of text = lines_text (past_fence (drop 1 (pieces text)))
-
--- the text is headed, and falls into this header and this body but for the body's last line's end
-pub record FallsInto (text header body : List ℕ) : Type 0 where
-  pub headed : is_headed text ≡ true
-  pub header_is : header_of text ≡ header
-  pub body_is : body_of text ++ 10 ∷ [] ≡ body
-
--- a file of a header and a body that are printed
-abbrev pub file_text : Plain → Plain → List ℕ
-file_text header body = document_of header ++ codes "---\n" ++ text_of body
+abbrev pub headed_body : List ℕ → List ℕ
+headed_body text = lines_text (past_fence (drop 1 (pieces text)))
 
 -- a text that is not headed: its first line is dropped
 abbrev pub legacy_lines : List ℕ → List (List ℕ)
@@ -112,17 +103,27 @@ behind_name (n ∷ name) (c ∷ cs) = if to_ascii_lowercase c == n then behind_n
 abbrev pub value_of : List ℕ → List ℕ
 value_of text = trimmed (trimmed_front text)
 
-abbrev pub later_or : Option (List ℕ) → Option (List ℕ) → Option (List ℕ)
-later_or None here = here
-later_or (Some later) here = Some later
-
 -- the value of the last of the lines that name the field, which is written in small letters
 abbrev pub legacy_field : List ℕ → List (List ℕ) → Option (List ℕ)
 legacy_field name [] = None
-legacy_field name (line ∷ lines) = later_or (legacy_field name lines) (option_map value_of (behind_name name line))
+legacy_field name (line ∷ lines) = option_or (legacy_field name lines) (option_map value_of (behind_name name line))
 
 abbrev pub legacy_expression : List ℕ → Option (List ℕ)
 legacy_expression text = legacy_field (codes "expression") (before_blank (legacy_lines text))
 
 abbrev pub legacy_source : List ℕ → Option (List ℕ)
 legacy_source text = legacy_field (codes "source") (before_blank (legacy_lines text))
+
+-- what the snapshot's text is: it stands behind the header, or behind the first blank line where there is none
+abbrev pub body_of : List ℕ → List ℕ
+body_of text = if is_headed text then headed_body text else legacy_body text
+
+-- the text is headed, and falls into this header and this body but for the body's last line's end
+pub record FallsInto (text header body : List ℕ) : Type 0 where
+  pub headed : is_headed text ≡ true
+  pub header_is : header_of text ≡ header
+  pub body_is : body_of text ++ 10 ∷ [] ≡ body
+
+-- a file of a header and a body that are printed
+abbrev pub file_text : Plain → Plain → List ℕ
+file_text header body = document_of header ++ codes "---\n" ++ text_of body

@@ -2,6 +2,7 @@
 use Rattle.std.specs.Prelude.{ℕ, pos, List, [], ◌∷◌, Option, None, Some, codes}
 use Rattle.snap_content.specs.Plain.{Plain, plain, text, int, dict, Entries, entry, no_entries}
 use Rattle.snap_content.specs.Tree.{Tree}
+use Rattle.snap_store.specs.FileSplit.{legacy_source, legacy_expression}
 use Rattle.snap_store.specs.declared.metadata.SnapshotKind.{SnapshotKind}
 use Rattle.snap_store.specs.declared.metadata.SnapshotKind.TheVariants.{Text, Binary}
 
@@ -16,6 +17,10 @@ pub record Meta : Type 0 where
 
 abbrev pub empty_meta : Meta
 empty_meta = record { source = None; assertion_line = None; description = None; expression = None; info = None; input_file = None; kind = Text }
+
+-- of a file without a header two fields are known
+abbrev pub legacy_meta : List ℕ → Meta
+legacy_meta whole = record empty_meta { source = legacy_source whole; expression = legacy_expression whole }
 
 -- an empty text is not shown
 abbrev pub shown_text : Option (List ℕ) → Option (List ℕ)

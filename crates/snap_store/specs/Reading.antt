@@ -1,5 +1,5 @@
 -- What a file is read as, and when it is refused.
-use Rattle.std.specs.Prelude.{◌≡◌, ℕ, true, List, Option, None, Some, Result, Ok, Err}
+use Rattle.std.specs.Prelude.{◌≡◌, ℕ, Bool, true, false, List, Option, None, Some, Result, Ok, Err}
 use Rattle.std.specs.Str.{IsUtf8, chars}
 use Rattle.std.specs.FinMap.{get}
 use Rattle.snap_content.specs.Plain.{Plain, dict, Entries}
@@ -12,7 +12,8 @@ use Rattle.snap_text.specs.declared.contents.TextSnapshotKind.TheVariants.{File}
 use Rattle.snap_outside.specs.Files.{Files}
 use Rattle.snap_store.specs.FileSplit.{is_headed, header_of, body_of}
 use Rattle.snap_store.specs.Fields.{kind_in, fields}
-use Rattle.snap_store.specs.Views.{meta_in, contents_in}
+use Rattle.snap_store.specs.Meta.{Meta, legacy_meta}
+use Rattle.snap_store.specs.Views.{meta_in, contents_in, legacy_in}
 use Rattle.snap_store.specs.declared.metadata.SnapshotKind.{SnapshotKind}
 use Rattle.snap_store.specs.declared.metadata.SnapshotKind.TheVariants as kind
 use Rattle.snap_store.specs.declared.contents.SnapshotContents.{SnapshotContents}
@@ -39,25 +40,40 @@ HoldsBody kind.Text body (contents.Binary payload) = ⊥
 HoldsBody (kind.Binary extension) body (contents.Text held) = ⊥
 HoldsBody (kind.Binary extension) body (contents.Binary payload) = payload ≡ None
 
--- the file was read as this snapshot
-pub record IsReadAs (file : Option (List ℕ)) (snapshot : Snapshot) : Type 0 where
-  pub text : List ℕ
-  pub there : IsTextFile file text
+-- a header that is a printed map with simple keys tells its fields
+pub record HeaderTells (text : List ℕ) (meta : Meta) : Type 0 where
   pub entries : Entries
   pub header : HasHeader text (dict entries)
   pub kind : SnapshotKind
   pub kind_is : kind_in entries ≡ Some kind
-  pub metadata : meta_in snapshot ≡ fields entries kind
-  pub contents : HoldsBody kind (body_of text) (contents_in snapshot)
+  pub meta_is : meta ≡ fields entries kind
+
+-- without a header the lines before the first blank one tell two fields
+pub record LinesTell (text : List ℕ) (meta : Meta) : Type 0 where
+  pub unheaded : is_headed text ≡ false
+  pub meta_is : meta ≡ legacy_meta text
+
+abbrev pub Tells : Bool → List ℕ → Meta → Type 0
+Tells false text meta = HeaderTells text meta
+Tells true text meta = LinesTell text meta
+
+-- the file was read as this snapshot
+pub record IsReadAs (file : Option (List ℕ)) (snapshot : Snapshot) : Type 0 where
+  pub text : List ℕ
+  pub there : IsTextFile file text
+  pub metadata : Tells (legacy_in snapshot) text (meta_in snapshot)
+  pub contents : HoldsBody (meta_in snapshot).kind (body_of text) (contents_in snapshot)
 
 pub record IsNoText (file : Option (List ℕ)) : Type 0 where
   pub bytes : List ℕ
   pub there : file ≡ Some bytes
   pub broken : IsUtf8 bytes → ⊥
 
+-- a header opens, and is no printed tree with simple keys
 pub record HasNoHeader (file : Option (List ℕ)) : Type 0 where
   pub text : List ℕ
   pub there : IsTextFile file text
+  pub headed : is_headed text ≡ true
   pub none : (tree : Plain) → HasHeader text tree → ⊥
 
 pub record HasOtherHeader (file : Option (List ℕ)) : Type 0 where

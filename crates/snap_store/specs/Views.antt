@@ -1,5 +1,5 @@
 -- What metadata and snapshots are seen as.
-use Rattle.std.specs.Prelude.{ℕ, List, Option, None, Some, option_map}
+use Rattle.std.specs.Prelude.{ℕ, Bool, List, Option, None, Some, option_map}
 use Rattle.snap_content.specs.View.{tree}
 use Rattle.snap_text.specs.Contents.{raw_of}
 use Rattle.snap_store.specs.Meta.{Meta}
@@ -30,6 +30,10 @@ meta_in snapshot = meta_of snapshot.metadata
 
 abbrev pub contents_in : Snapshot → SnapshotContents
 contents_in snapshot = snapshot.contents
+
+-- whether it was read from a file without a header
+abbrev pub legacy_in : Snapshot → Bool
+legacy_in snapshot = snapshot.was_legacy
 
 -- the raw text of text contents
 abbrev pub text_in : SnapshotContents → Option (List ℕ)

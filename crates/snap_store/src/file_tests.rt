@@ -7,7 +7,7 @@ use std::alloc::Global;
 use std::test::Fail;
 
 /// The bytes of a file, and its body, `a payload`, or the text of the error.
-const FILES: [(&[u8], &str); 11] = [
+const FILES: [(&[u8], &str); 13] = [
     (b"---\nsource: a\n---\nbody\n", "body"),
     (b"---\nsource: a\n---\nb\n\n---\nc\n", "b\n\n---\nc"),
     (b"---\nsource: a\n--- \nb\r\nc", "b\nc"),
@@ -25,8 +25,10 @@ const FILES: [(&[u8], &str); 11] = [
         "The present data type wasn't what was expected",
     ),
     (b"---\na:  1\n---\n", "Failed parsing the YAML from \"p\""),
-    (b"a: 1\n", "Failed parsing the YAML from \"p\""),
-    (b"", "Failed parsing the YAML from \"p\""),
+    (b"---\na: 1\n", ""),
+    (b"a: 1\n", ""),
+    (b"", ""),
+    (b"Created: x\nSource: s\n\na: 1\n", "a: 1"),
     (b"---\n\xff\n", "NotText"),
 ];
 

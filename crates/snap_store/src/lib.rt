@@ -1,5 +1,6 @@
 //! Snapshots and their files, in the order in which a file is read: it is split into header and body, the header's
-//! fields are read as metadata, and both make a snapshot; a snapshot is saved the other way round.
+//! fields are read as metadata, and both make a snapshot; a snapshot is saved the other way round. Files of the oldest
+//! format have no header; two fields stand in their first lines.
 #![tactic(auto)]
 
 pub mod contents;
@@ -8,6 +9,7 @@ pub mod fields;
 mod file_tests;
 mod header;
 pub mod laws;
+pub mod legacy;
 pub mod metadata;
 mod reading;
 mod saving;

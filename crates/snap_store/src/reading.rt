@@ -1,16 +1,19 @@
 //! Reading the file of a snapshot.
-ghost use Rattle.std.specs.Prelude.{◌≡◌, ℕ, List, Option, IfOk};
+ghost use Rattle.std.specs.Prelude.{◌≡◌, ℕ, false, List, Option, IfOk};
 ghost use Rattle.snap_store.specs.Named.{HasNames};
 ghost use Rattle.std.specs.Str.{chars};
 ghost use Rattle.snap_store.specs.Causes.{FileCause};
-ghost use Rattle.snap_store.specs.Reading.{IsTextFile, HoldsBody, FileEnd, IsReadFrom};
+ghost use Rattle.snap_store.specs.FileSplit.{is_headed};
+ghost use Rattle.snap_store.specs.Reading.{IsTextFile, HoldsBody, FileEnd, IsReadAs, IsReadFrom};
+ghost use Rattle.snap_store.specs.Split.{IsSplit};
 
 use crate::contents::SnapshotContents;
 use crate::fields::metadata_in;
+use crate::legacy::{legacy_metadata, legacy_text};
 use crate::metadata::{MetaData, SnapshotKind};
 use crate::snapshot::Snapshot;
 use crate::split::{Headed, split_file};
-use snap_content::{Blob, Error, Text};
+use snap_content::{Blob, Error, OutOfMemory, Text};
 use snap_emit::yaml::parse_header;
 use snap_outside::{Store, StoreError};
 use snap_path::names_of_path;
@@ -55,9 +58,19 @@ fn snapshot_of_text(alloc: Global, text: &str, path: Text) -> Result<Snapshot, E
     ensures names { IfOk result (λ snapshot. HasNames path snapshot) }
     ensures no_fault { (count : ℕ) → FileCause count count result }
 {
-    let Some(Headed { header, body }) = split_file(alloc, text)? else {
-        return Err(Error::FailedParsingYaml(path));
-    };
+    match split_file(alloc, text)? {
+        Some(headed) => headed_snapshot(alloc, headed, path),
+        None => Ok(legacy_snapshot(alloc, text, &path)?),
+    }
+}
+
+/// The snapshot of a file with a header.
+fn headed_snapshot(alloc: Global, headed: Headed, path: Text) -> Result<Snapshot, Error>
+    ensures end { (file : Option (List ℕ)) → (text : List ℕ) → IsTextFile file text → IsSplit headed text → FileEnd path file result }
+    ensures names { IfOk result (λ snapshot. HasNames path snapshot) }
+    ensures no_fault { (count : ℕ) → FileCause count count result }
+{
+    let Headed { header, body } = headed;
     let header = match parse_header(alloc, header.as_str(), &path) {
         Ok(header) => header,
         Err(error) => return Err(error),
@@ -69,6 +82,18 @@ fn snapshot_of_text(alloc: Global, text: &str, path: Text) -> Result<Snapshot, E
     let contents = contents_of(metadata.kind(), body);
     let (name, module) = names_of_path(alloc, &path)?;
     Ok(Snapshot::from_components(module, Some(name), metadata, contents))
+}
+
+/// The snapshot of a file without a header. The one error is want of memory.
+fn legacy_snapshot(alloc: Global, text: &str, path: &Text) -> Result<Snapshot, OutOfMemory>
+    ensures read { (file : Option (List ℕ)) → IsTextFile file (chars text.now) → is_headed (chars text.now) ≡ false
+        → IfOk result (λ snapshot. IsReadAs file snapshot) }
+    ensures names { IfOk result (λ snapshot. HasNames path.now snapshot) }
+{
+    let metadata = legacy_metadata(alloc, text)?;
+    let contents = contents_of(&SnapshotKind::Text, legacy_text(alloc, text)?);
+    let (name, module) = names_of_path(alloc, path)?;
+    Ok(Snapshot::from_components(module, Some(name), metadata, contents).without_header())
 }
 
 /// A text with this body, or a payload that was not read.

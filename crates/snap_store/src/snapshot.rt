@@ -1,5 +1,5 @@
 //! A snapshot.
-ghost use Rattle.std.specs.Prelude.{◌≡◌, false, IfOk, MatchOption, option_map};
+ghost use Rattle.std.specs.Prelude.{◌≡◌, false, true, IfOk, MatchOption, option_map};
 ghost use Rattle.std.specs.Str.{chars};
 
 use crate::contents::SnapshotContents;
@@ -15,10 +15,11 @@ pub struct Snapshot {
     snapshot_name: Option<Text>,
     metadata: MetaData,
     contents: SnapshotContents,
+    was_legacy: bool,
 }
 
 impl Snapshot {
-    ghost use Rattle.snap_store.specs.Views.{meta_of, module_in, name_in, meta_in, contents_in, text_in};
+    ghost use Rattle.snap_store.specs.Views.{meta_of, module_in, name_in, meta_in, contents_in, legacy_in, text_in};
 
     pub fn from_components(
         module_name: Text,
@@ -30,12 +31,28 @@ impl Snapshot {
         ensures name { name_in result ≡ snapshot_name }
         ensures metadata { meta_in result ≡ meta_of metadata }
         ensures contents { contents_in result ≡ contents }
+        ensures legacy { legacy_in result ≡ false }
     {
         Snapshot {
             module_name,
             snapshot_name,
             metadata,
             contents,
+            was_legacy: false,
+        }
+    }
+
+    /// The same snapshot, as it is read from a file without a header.
+    pub(crate) fn without_header(self) -> Snapshot
+        ensures module { module_in result ≡ module_in self }
+        ensures name { name_in result ≡ name_in self }
+        ensures metadata { meta_in result ≡ meta_in self }
+        ensures contents { contents_in result ≡ contents_in self }
+        ensures legacy { legacy_in result ≡ true }
+    {
+        Snapshot {
+            was_legacy: true,
+            ..self
         }
     }
 
@@ -71,11 +88,11 @@ impl Snapshot {
         self.contents.as_text()
     }
 
-    /// Whether the file had no header. Such files are not read yet.
+    /// Whether the snapshot was read from a file without a header.
     pub fn was_legacy(&self) -> bool
-        ensures { result ≡ false }
+        ensures { result ≡ legacy_in self.now }
     {
-        false
+        self.was_legacy
     }
 
     /// Whether a number of the header was kept as a text. Such headers are not read yet.
@@ -91,12 +108,14 @@ impl Snapshot {
         ensures name { IfOk result (λ copy. name_in copy ≡ name_in self.now) }
         ensures metadata { IfOk result (λ copy. meta_in copy ≡ meta_in self.now) }
         ensures contents { IfOk result (λ copy. contents_in copy ≡ contents_in self.now) }
+        ensures legacy { IfOk result (λ copy. legacy_in copy ≡ legacy_in self.now) }
     {
         Ok(Snapshot {
             module_name: self.module_name.try_clone(alloc)?,
             snapshot_name: clone_text(alloc, &self.snapshot_name)?,
             metadata: self.metadata.try_clone(alloc)?,
             contents: self.contents.try_clone(alloc)?,
+            was_legacy: self.was_legacy,
         })
     }
 }

@@ -30,7 +30,7 @@ fn before_rest<'a>(text: &'a str, rest: &str) -> &'a str
 }
 
 /// The first line with its end, and what follows; none where nothing is left.
-fn split_piece(text: &str) -> Option<(&str, &str)>
+pub(crate) fn split_piece(text: &str) -> Option<(&str, &str)>
     ensures piece { MatchOption result (chars text.now ≡ []) (λ p. pieces (chars text.now) ≡ chars p.0.now ∷ pieces (chars p.1.now)) }
     ensures shorter { IfSome result (λ p. length (chars p.1.now) < length (chars text.now)) }
 {
@@ -59,7 +59,7 @@ fn before_character(text: &str, character: char) -> Option<&str>
 }
 
 /// The line without its end.
-fn line_text(piece: &str) -> &str
+pub(crate) fn line_text(piece: &str) -> &str
     ensures { chars result.now ≡ line_of (chars piece.now) }
 {
     let Some(line) = before_character(piece, '\n') else {
@@ -101,7 +101,7 @@ fn behind_fence(text: &str) -> &str
 }
 
 /// The lines of the text, joined.
-fn body_text(alloc: Global, text: &str) -> Result<Text, OutOfMemory>
+pub(crate) fn body_text(alloc: Global, text: &str) -> Result<Text, OutOfMemory>
     ensures { IfOk result (λ body. body ≡ lines_text (pieces (chars text.now))) }
 {
     let mut body = Text::empty();

@@ -1,0 +1,21 @@
+use Rattle.std.proofs.Common.{sym}
+use Rattle.snap_store.proofs.Outcomes.{header_read, refused_fields, fields_no_fault, read_as}
+use Rattle.snap_store.proofs.reading.headed_snapshot.Goals as goal
+
+pub returns-in-Err-metadata_in-clause-end : goal.returns-in-Err-metadata_in-clause-end
+returns-in-Err-metadata_in-clause-end c = λ file text there split.
+    let read = header_read text _ c.args.headed c.in-Ok.header.content split c.as_str.ensures c.in-Ok.ensures.end.0 in
+    refused_fields text c.args.path file read.plain c.in-Err-metadata_in.error there read.header (c.in-Err-metadata_in.ensures read.plain read.tree_is)
+
+pub returns-in-Err-metadata_in-clause-no_fault : goal.returns-in-Err-metadata_in-clause-no_fault
+returns-in-Err-metadata_in-clause-no_fault c =
+    let read = c.in-Ok.ensures.end.0 in
+    λ count. fields_no_fault read.plain c.in-Err-metadata_in.error count (c.in-Err-metadata_in.ensures read.plain read.tree_is)
+
+pub returns-clause-end : goal.returns-clause-end
+returns-clause-end c = λ file text there split.
+    let read = header_read text _ c.args.headed c.in-Ok.header.content split c.as_str.ensures c.in-Ok.ensures.end.0 in
+    let gives = c.in-Ok-metadata_in.ensures read.plain read.tree_is in
+    read_as text c.args.headed.body file read.plain c.in-Ok-metadata_in.metadata c.from_components.result _ c.contents_of-contents.result there read.header gives
+    c.kind.ensures split.body_is c.from_components.ensures.metadata (sym c.from_components.ensures.legacy) (sym c.from_components.ensures.contents)
+    c.contents_of-contents.ensures

@@ -1,0 +1,165 @@
+//! Snapshot files without a header, the oldest format: a first line that says nothing, lines that tell fields, a blank
+//! line and the body.
+ghost use Rattle.std.specs.Prelude.{◌≡◌, [], drop, IfOk, map, option_map};
+ghost use Rattle.std.specs.Str.{chars};
+ghost use Rattle.snap_store.specs.FileSplit.{pieces, line_of, is_blank, before_blank, past_blank, trimmed_front, behind_name, value_of, legacy_lines, legacy_body, legacy_field};
+ghost use Rattle.snap_store.specs.Meta.{legacy_meta};
+ghost use Rattle.snap_store.specs.Views.{meta_of};
+
+use crate::metadata::MetaData;
+use crate::split::{body_text, line_text, split_piece};
+use snap_content::characters::{after_character, is_same, split_first};
+use snap_content::{OutOfMemory, Text};
+use snap_text::normal::trimmed_text;
+use std::alloc::Global;
+
+/// The metadata that the lines before the first blank one tell. The one error is want of memory.
+pub fn legacy_metadata(alloc: Global, text: &str) -> Result<MetaData, OutOfMemory>
+    ensures { IfOk result (λ made. meta_of made ≡ legacy_meta (chars text.now)) }
+{
+    let lines = behind_first_line(text);
+    let source = read_field(alloc, lines, "source")?;
+    let expression = read_field(alloc, lines, "expression")?;
+    let mut metadata = MetaData::empty();
+    metadata.set_source(source);
+    metadata.set_expression(expression);
+    Ok(metadata)
+}
+
+/// The lines behind the first blank one, joined. The one error is want of memory.
+pub fn legacy_text(alloc: Global, text: &str) -> Result<Text, OutOfMemory>
+    ensures { IfOk result (λ body. body ≡ legacy_body (chars text.now)) }
+{
+    body_text(alloc, behind_blank(behind_first_line(text)))
+}
+
+fn behind_first_line(text: &str) -> &str
+    ensures { pieces (chars result.now) ≡ drop 1 (pieces (chars text.now)) }
+{
+    match split_piece(text) {
+        None => text,
+        Some((_, rest)) => rest,
+    }
+}
+
+/// Whether the line is white space alone.
+fn is_blank(line: &str) -> bool
+    ensures { result ≡ is_blank (chars line.now) }
+{
+    is_same(trimmed_text(line), "")
+}
+
+/// What stands behind the first blank line.
+fn behind_blank(text: &str) -> &str
+    ensures { map line_of (pieces (chars result.now)) ≡ past_blank (map line_of (pieces (chars text.now))) }
+{
+    let mut rest = text;
+    while let Some((piece, more)) = split_piece(rest) {
+        rest = more;
+        if is_blank(line_text(piece)) {
+            return rest;
+        }
+    }
+    rest
+}
+
+fn read_field(alloc: Global, text: &str, name: &str) -> Result<Option<Text>, OutOfMemory>
+    ensures { IfOk result (λ value. value ≡ legacy_field (chars name.now) (before_blank (map line_of (pieces (chars text.now))))) }
+{
+    match last_field(text, name) {
+        None => Ok(None),
+        Some(value) => Ok(Some(Text::from_str(alloc, value)?)),
+    }
+}
+
+/// The value of the last line, of those before the first blank one, that names the field.
+fn last_field<'a>(text: &'a str, name: &str) -> Option<&'a str>
+    ensures { option_map (λ value. chars value.now) result ≡ legacy_field (chars name.now) (before_blank (map line_of (pieces (chars text.now)))) }
+{
+    let mut found = None;
+    let mut rest = text;
+    while let Some((piece, more)) = split_piece(rest) {
+        let line = line_text(piece);
+        if is_blank(line) {
+            return found;
+        }
+        found = field_value(line, name).or(found);
+        rest = more;
+    }
+    found
+}
+
+/// The value of the field, where the line names it.
+fn field_value<'a>(line: &'a str, name: &str) -> Option<&'a str>
+    ensures { option_map (λ value. chars value.now) result ≡ option_map value_of (behind_name (chars name.now) (chars line.now)) }
+{
+    match behind_name(line, name) {
+        None => None,
+        Some(value) => Some(trimmed_text(trimmed_front(value))),
+    }
+}
+
+/// What stands behind the name and a colon, where the line begins with them. The name is in small letters.
+fn behind_name<'a>(line: &'a str, name: &str) -> Option<&'a str>
+    ensures { option_map (λ rest. chars rest.now) result ≡ behind_name (chars name.now) (chars line.now) }
+{
+    let mut rest = line;
+    let mut letters = name;
+    while let Some((letter, others)) = split_first(letters) {
+        let (character, more) = split_first(rest)?;
+        if character.to_ascii_lowercase() != letter {
+            return None;
+        }
+        rest = more;
+        letters = others;
+    }
+    after_character(rest, ':')
+}
+
+/// The text without the white space in front of it.
+fn trimmed_front(text: &str) -> &str
+    ensures { chars result.now ≡ trimmed_front (chars text.now) }
+{
+    let mut rest = text;
+    while let Some((first, more)) = split_first(rest) {
+        if !first.is_whitespace() {
+            return rest;
+        }
+        rest = more;
+    }
+    rest
+}
+
+#[cfg(test)]
+mod tests {
+    use super::*;
+    use std::test::Fail;
+
+    /// The text of a file; its source, its expression and its body.
+    const FILES: [(&str, Option<&str>, Option<&str>, &str); 12] = [
+        ("", None, None, ""),
+        ("a: 1", None, None, ""),
+        ("Created: x\nSource: s\n\na: 1\n", Some("s"), None, "a: 1"),
+        ("Source: s\nExpression: e\nb\n", None, Some("e"), ""),
+        ("x\nSOURCE :s\n source: s\n\n", None, None, ""),
+        ("x\r\nsource: s \r\n \t\r\na\r\n\r\nb\r", Some("s"), None, "a\n\nb\r"),
+        ("\u{feff}---\nsource: s\n---\na\n", Some("s"), None, ""),
+        ("x\nsource: s\nSOURCE:\u{a0}t:u \n\na\n\nsource: v\n", Some("t:u"), None, "a\n\nsource: v"),
+        ("\nExPrEsSiOn:x\n\n\na\n", None, Some("x"), "\na"),
+        ("x\nexpressions: y\nexpression\n:\n\na", None, None, "a"),
+        ("x\n\n", None, None, ""),
+        ("x\nsource:\n\na\n\n", Some(""), None, "a\n"),
+    ];
+
+    #[test]
+    fn files_without_a_header(rt: HostRuntime) -> Result<(), Fail> {
+        let alloc = rt.alloc();
+        for (text, source, expression, body) in FILES {
+            let metadata = legacy_metadata(alloc, text)?;
+            assert_eq!(rt; metadata.source(), source);
+            assert_eq!(rt; metadata.expression(), expression);
+            assert_eq!(rt; legacy_text(alloc, text)?.as_str(), body);
+        }
+        Ok(())
+    }
+}
