@@ -8,6 +8,8 @@ pub mod fields;
 #[cfg(test)]
 mod file_tests;
 mod header;
+#[cfg(test)]
+mod held_tests;
 pub mod laws;
 pub mod legacy;
 pub mod metadata;
