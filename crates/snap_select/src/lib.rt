@@ -1,0 +1,10 @@
+//! Selectors of places in a tree, and what stands there in place of a value.
+#![tactic(auto)]
+
+pub mod fault;
+pub mod path_item;
+pub mod segment;
+
+pub use fault::{SelectError, SelectFault, SelectorParseError};
+pub use path_item::PathItem;
+pub use segment::Segment;
