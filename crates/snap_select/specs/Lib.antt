@@ -1,1 +1,5 @@
 pub mod Refusal
+pub mod Grammar
+pub mod Faults
+pub mod Reading
+pub mod Examples
