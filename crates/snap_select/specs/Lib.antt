@@ -3,3 +3,5 @@ pub mod Grammar
 pub mod Faults
 pub mod Reading
 pub mod Examples
+pub mod Pieces
+pub mod Stops

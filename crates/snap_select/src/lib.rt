@@ -4,7 +4,10 @@
 pub mod fault;
 pub mod laws;
 pub mod path_item;
+pub mod pieces;
+pub mod quotes;
 pub mod segment;
+pub mod stop;
 
 pub use fault::{SelectError, SelectFault, SelectorParseError};
 pub use path_item::PathItem;
