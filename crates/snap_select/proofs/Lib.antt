@@ -8,3 +8,5 @@ pub mod WorkedExamples
 pub mod BeforeRest
 pub mod PieceFacts
 pub mod QuotedText
+pub mod Readers
+pub mod Closings

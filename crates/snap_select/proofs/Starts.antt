@@ -68,7 +68,7 @@ body_on (y ∷ ys) body h =
     let k = each_on (ready []) [] (y ∷ ys) body (at_ready []) h in
     record { to = k.to; leads = by_first body k.to (each_shape y ys body h) k.leads; bracket = k.whole.bracket; end = λ n. k.whole.end }
 
-bracket_after_dot : step behind_first_dot 91 ≡ Some (behind_bracket [])
+pub bracket_after_dot : step behind_first_dot 91 ≡ Some (behind_bracket [])
 unfolding unicode_ident is_xid_start
 bracket_after_dot = refl
 

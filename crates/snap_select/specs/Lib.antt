@@ -5,3 +5,4 @@ pub mod Reading
 pub mod Examples
 pub mod Pieces
 pub mod Stops
+pub mod Selectors

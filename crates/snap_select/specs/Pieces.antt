@@ -1,7 +1,8 @@
 -- How a text falls into a piece at its front and the rest.
-use Rattle.std.specs.Prelude.{◌≡◌, ◌==◌, ◌||◌, not, ⊤, ℕ, Bool, false, List, [], ◌∷◌, ◌++◌, if◌then◌else◌}
+use Rattle.std.specs.Prelude.{◌≡◌, ◌==◌, ◌||◌, ◌&&◌, not, ⊤, ℕ, Bool, false, List, [], ◌∷◌, ◌++◌, if◌then◌else◌}
 use Rattle.std.specs.Char.{is_digit}
 use Rattle.unicode_ident.specs.Ident.{is_xid_continue}
+use Rattle.snap_content.specs.Front.{begins}
 use Rattle.snap_select.specs.Grammar.{IsName}
 
 -- what is left behind the characters that pass
@@ -31,3 +32,8 @@ pub record IsNameThen (text name rest : List ℕ) : Type 0 where
   pub is : text ≡ name ++ rest
   pub named : IsName name
   pub ends : Fails is_xid_continue rest
+
+-- the text without a dot in front of a bracket
+abbrev pub undotted : List ℕ → List ℕ
+undotted [] = []
+undotted (c ∷ cs) = if c == 46 && begins 91 cs then cs else c ∷ cs

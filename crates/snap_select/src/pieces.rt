@@ -76,7 +76,8 @@ pub(crate) fn split_digits(text: &str) -> (&str, &str)
 
 /// The number of the digits, where it is below 2^64.
 pub(crate) fn number_of(digits: &str) -> Option<u64>
-    ensures { IsNumeral 10 (chars digits.now) → MatchOption result (2 ^ 64 ≤ digits_value 10 (chars digits.now)) (λ n. n ≡ digits_value 10 (chars digits.now)) }
+    ensures number { IsNumeral 10 (chars digits.now) → MatchOption result (2 ^ 64 ≤ digits_value 10 (chars digits.now)) (λ n. n ≡ digits_value 10 (chars digits.now)) }
+    ensures small { IfSome result (λ n. n < 2 ^ 64) }
 {
     digits.parse::<u64>().ok()
 }

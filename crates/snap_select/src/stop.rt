@@ -1,6 +1,7 @@
 //! Why the reading of a selector stops.
 use crate::fault::SelectFault;
 use snap_content::OutOfMemory;
+use std::alloc::AllocFailed;
 
 /// A fault, with the text from there on, or want of memory.
 #[derive(Debug, Drop)]
@@ -16,6 +17,17 @@ impl From<OutOfMemory> for Stop<'_> {
     ghost from_gives = { λ _ e. e ≡ OutOfMemory };
 
     fn from(_error: OutOfMemory) -> Self {
+        Stop::OutOfMemory
+    }
+}
+
+impl<T: Drop> From<AllocFailed<T>> for Stop<'_> {
+    ghost use Rattle.std.specs.Prelude.{◌≡◌};
+    ghost use Rattle.snap_select.specs.declared.stop.Stop.TheVariants.{OutOfMemory};
+
+    ghost from_gives = { λ _ e. e ≡ OutOfMemory };
+
+    fn from(_error: AllocFailed<T>) -> Self {
         Stop::OutOfMemory
     }
 }
