@@ -16,3 +16,6 @@ pub use fault::{SelectError, SelectFault, SelectorParseError};
 pub use path_item::PathItem;
 pub use segment::Segment;
 pub use selector::Selector;
+
+#[cfg(test)]
+mod tests;
