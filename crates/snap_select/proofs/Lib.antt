@@ -1,0 +1,12 @@
+pub mod Places
+pub mod Walks
+pub mod Starts
+pub mod Fitting
+pub mod Outcomes
+pub mod LeastFaults
+pub mod WorkedExamples
+pub mod BeforeRest
+pub mod PieceFacts
+pub mod QuotedText
+pub mod Readers
+pub mod Closings

@@ -1,0 +1,18 @@
+use Rattle.std.proofs.Common.{◌≡◌, List, [], length, ◌≤◌}
+use denote.Text.{Utf8}
+use denote.Shadow.{shadow}
+use Rattle.std.specs.Str.{chars}
+use Rattle.snap_select.specs.Reading.{outcome, in_quotes}
+use Rattle.snap_select.specs.declared.segment.Segment.{Segment}
+use Rattle.snap_select.proofs.quotes.read_escaped.Given as goal
+
+-- the key so far, and what is left, come to what the whole comes to
+abbrev pub invariant-loop-c : goal.invariant-loop-c
+invariant-loop-c l = record {
+  utf8 : shadow (Utf8 l.rest);
+  same : (ss : List Segment) → outcome (in_quotes ss []) (chars l.fn.text) ≡ outcome (in_quotes ss l.key) (chars l.rest);
+  within : length (chars l.rest) ≤ length (chars l.fn.text);
+}
+
+abbrev pub decreases-loop-c : goal.decreases-loop-c
+decreases-loop-c l = length (chars l.rest)

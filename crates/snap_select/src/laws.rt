@@ -1,0 +1,23 @@
+//! Laws of selectors' texts.
+ghost use Rattle.std.specs.Prelude.{◌≡◌, ℕ, List};
+ghost use Rattle.snap_select.specs.Examples.{AreSelected, AreRefused};
+ghost use Rattle.snap_select.specs.Grammar.{IsSelector};
+ghost use Rattle.snap_select.specs.Reading.{outcome, at_start, selects};
+ghost use Rattle.snap_select.specs.declared.segment.Segment.{Segment};
+
+/// A text is a selector of one list of segments at most.
+pub const fn segments_are_unique()
+    ensures { (text : List ℕ) (a b : List Segment) → IsSelector text a → IsSelector text b → a ≡ b }
+{}
+
+/// Read character by character, a text gives exactly the segments of which it is a selector.
+pub const fn reading_is_the_grammar()
+    ensures selects { (text : List ℕ) (segments : List Segment) → IsSelector text segments → outcome at_start text ≡ selects segments }
+    ensures selected { (text : List ℕ) (segments : List Segment) → outcome at_start text ≡ selects segments → IsSelector text segments }
+{}
+
+/// Texts and their segments, and texts and their faults, that were worked out by hand.
+pub const fn worked_examples()
+    ensures selected { AreSelected }
+    ensures refused { AreRefused }
+{}

@@ -1,0 +1,21 @@
+//! Selectors of places in a tree, and what stands there in place of a value.
+#![tactic(auto)]
+
+pub mod copies;
+pub mod fault;
+pub mod laws;
+pub mod path_item;
+pub mod pieces;
+pub mod quotes;
+pub mod reading;
+pub mod segment;
+pub mod selector;
+pub mod stop;
+
+pub use fault::{SelectError, SelectFault, SelectorParseError};
+pub use path_item::PathItem;
+pub use segment::Segment;
+pub use selector::Selector;
+
+#[cfg(test)]
+mod tests;
