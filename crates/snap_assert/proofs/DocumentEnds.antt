@@ -5,12 +5,12 @@ use Rattle.std.specs.FinMap.{get}
 use Rattle.snap_outside.specs.Causes.{Rose}
 use Rattle.snap_outside.specs.Files.{Files}
 use Rattle.snap_outside.specs.Streams.{HoldsFront}
-use Rattle.snap_assert.specs.Settings.{SettingsView, new_settings}
+use Rattle.snap_assert.specs.Settings.{SettingsView}
 use Rattle.snap_assert.specs.Place.{PlaceView}
 use Rattle.snap_assert.specs.Judging.{May}
 use Rattle.snap_assert.specs.Steps.{Asked, asked_of, step, verdict_of}
 use Rattle.snap_assert.specs.Requests.{RequestView, ReadsAs}
-use Rattle.snap_assert.specs.Answers.{RunWords, Answer, place_by, asked_by, step_of, line_text, line_of}
+use Rattle.snap_assert.specs.Answers.{RunWords, Answer, place_by, settings_by, asked_by, step_of, line_text, line_of}
 use Rattle.snap_assert.specs.Outcomes.{OnlyNear, IsAnswered, ErrorCause}
 use Rattle.snap_assert.specs.Runner.{words_of}
 use Rattle.snap_assert.specs.Runs.{Ran, AssertionStops, StopsAt, SomewhereNear, FileFails, LineFails, IsDocumentAnswered, StoreCount}
@@ -39,9 +39,9 @@ stepped_near words answer f g stands = record {
 }
 
 -- what new settings and the place of a request ask is what the request asks
-pub asked_is : (settings : SettingsView) (place : PlaceView) (workspace : List ℕ) (r : RequestView) → settings ≡ new_settings → place ≡ place_by workspace r
+pub asked_is : (settings : SettingsView) (place : PlaceView) (workspace : List ℕ) (r : RequestView) → settings ≡ settings_by r → place ≡ place_by workspace r
     → asked_of settings place r.name r.value ≡ asked_by workspace r
-asked_is settings place workspace r new is = ap (λ s. asked_of s place r.name r.value) new ∙ ap (λ p. asked_of new_settings p r.name r.value) is
+asked_is settings place workspace r new is = ap (λ s. asked_of s place r.name r.value) new ∙ ap (λ p. asked_of (settings_by r) p r.name r.value) is
 
 pub document_answered : (runner : Runner) (document : List ℕ) (r : RequestView) (asked : Asked) (outcome : Outcome) (f g : Option Files)
     → ReadsAs document r → asked ≡ asked_by runner.workspace r → IsAnswered runner.config asked outcome f g → IsDocumentAnswered (words_of runner) document outcome f g

@@ -6,7 +6,6 @@ use Rattle.snap_content.specs.Tree as t
 use Rattle.snap_content.specs.View.{tree, pair_trees, pair_list}
 use Rattle.snap_content.specs.declared.content.Content.{Content, Map}
 use Rattle.snap_content.specs.declared.lists.Pairs.{Pairs}
-use Rattle.snap_content.proofs.PlainMade.{plain_made}
 use Rattle.snap_content.proofs.Views.{tree-Map}
 use Rattle.snap_store.specs.Fields.{last_value, text_value, line_value}
 use Rattle.snap_assert.specs.Place.{names_file}
@@ -14,7 +13,8 @@ use Rattle.std.specs.Str.{IsUtf8, chars}
 use Rattle.snap_content.specs.declared.error.Error.{Error}
 use Rattle.snap_content.specs.declared.error.Error.TheVariants.{FailedParsingYaml, UnexpectedDataType, MissingField, FileIo, FloatText, JsonKey, NotText, NoFile, OutOfMemory}
 use Rattle.snap_emit.specs.Parsed.{IsReadFrom, RefusalEnd}
-use Rattle.snap_assert.specs.Requests.{RequestView, Spells, ReadsAs, needed, pair_count, request_from, request_in, is_keyed}
+use Rattle.snap_assert.specs.Redactions.{RedactionView}
+use Rattle.snap_assert.specs.Requests.{RequestView, Spells, ReadsAs, needed, pair_count, request_keys, redactions_from, request_from, request_in, is_keyed}
 use Rattle.snap_assert.proofs.Requesting.{reads_as, no_request_read}
 
 others_same : (a b c d : t.Tree) (x y : t.TreePairs) → t.pair a b x ≡ t.pair c d y → x ≡ y
@@ -29,26 +29,29 @@ as_many (q ∷ qs) (p.entry k v es) e =
     let rest = as_many qs es (others_same _ _ _ _ _ _ e) in omega arith
 
 -- the plain value that a tree was made of
-record IsValue (made : t.Tree) (held : Option Plain) : Type 0 where
-  value : Plain
-  is : held ≡ Some value
-  plain_is : p.plain made ≡ value
+pub record IsValue (made : t.Tree) (held : Option Plain) : Type 0 where
+  pub value : Plain
+  pub is : held ≡ Some value
+  pub made_is : made ≡ p.content_of value
 
-value_of : (made : t.Tree) (held : Option Plain) → Some made ≡ option_map p.content_of held → IsValue made held
+pub value_of : (made : t.Tree) (held : Option Plain) → Some made ≡ option_map p.content_of held → IsValue made held
 value_of made None e = absurd (cc)
-value_of made (Some v) e = let same : made ≡ p.content_of v = cc in record { value = v; is = refl; plain_is = ap p.plain same ∙ plain_made v }
+value_of made (Some v) e = record { value = v; is = refl; made_is = cc }
 
-needed_by : {A B : Type 0} (held : Option A) (made : A → Option B) (value : A) → held ≡ Some value → needed held made ≡ made value
+pub needed_by : {A B : Type 0} (held : Option A) (made : A → Option B) (value : A) → held ≡ Some value → needed held made ≡ made value
 needed_by held made value e = ap (λ o. needed o made) e
 
 -- a map with these values at its keys, and no other key, is this request
-pub request_made : (es : Entries) (module_name file name expr : List ℕ) (line : ℕ) (made : t.Tree) → is_keyed es ≡ true
+pub request_made : (es : Entries) (module_name file name expr : List ℕ) (line : ℕ) (made : t.Tree) (redactions : List RedactionView) → is_keyed request_keys es ≡ true
     → text_value (last_value (codes "module") es) ≡ Some module_name → text_value (last_value (codes "file") es) ≡ Some file
     → line_value (last_value (codes "line") es) ≡ Some line → text_value (last_value (codes "name") es) ≡ Some name
-    → text_value (last_value (codes "expr") es) ≡ Some expr → Some made ≡ option_map p.content_of (last_value (codes "value") es) → names_file file ≡ true
-    → request_in (dict es) ≡ Some (record { module_name = module_name; file = file; line = line; name = name; expr = expr; value = p.plain made })
-request_made es module_name file name expr line made keyed at_module at_file at_line at_name at_expr at_value is_file =
+    → text_value (last_value (codes "expr") es) ≡ Some expr → Some made ≡ option_map p.content_of (last_value (codes "value") es)
+    → redactions_from (last_value (codes "redactions") es) ≡ Some redactions → names_file file ≡ true
+    → request_in (dict es) ≡ Some (record { module_name = module_name; file = file; line = line; name = name; expr = expr; value = made; redactions = redactions })
+request_made es module_name file name expr line made redactions keyed at_module at_file at_line at_name at_expr at_value at_redactions is_file =
     let found = value_of made (last_value (codes "value") es) at_value in
+    let request : t.Tree → Option RequestView =
+        λ v. Some (record { module_name = module_name; file = file; line = line; name = name; expr = expr; value = v; redactions = redactions }) in
     ap (λ b. cond b (request_from es) None) keyed
     ∙ needed_by (text_value (last_value (codes "module") es)) _ module_name at_module
     ∙ needed_by (text_value (last_value (codes "file") es)) _ file at_file
@@ -56,8 +59,9 @@ request_made es module_name file name expr line made keyed at_module at_file at_
     ∙ needed_by (text_value (last_value (codes "name") es)) _ name at_name
     ∙ needed_by (text_value (last_value (codes "expr") es)) _ expr at_expr
     ∙ needed_by (last_value (codes "value") es) _ found.value found.is
-    ∙ ap (λ b. cond b (Some (record { module_name = module_name; file = file; line = line; name = name; expr = expr; value = found.value })) None) is_file
-    ∙ ap (λ v. Some (record { module_name = module_name; file = file; line = line; name = name; expr = expr; value = v })) (sym found.plain_is)
+    ∙ needed_by (redactions_from (last_value (codes "redactions") es)) _ redactions at_redactions
+    ∙ ap (λ b. cond b (request (p.content_of found.value)) None) is_file
+    ∙ ap request (sym found.made_is)
 
 -- a map that was read was made of a plain map
 

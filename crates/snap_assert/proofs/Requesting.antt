@@ -9,7 +9,7 @@ use Rattle.std.specs.Str.{chars}
 use Rattle.std.proofs.Common.{drop}
 use Rattle.snap_store.specs.Fields.{last_value, text_value, line_value}
 use Rattle.snap_assert.specs.Place.{names_file}
-use Rattle.snap_assert.specs.Requests.{RequestView, Spells, ReadsAs, needed, request_from, request_in, is_keyed}
+use Rattle.snap_assert.specs.Requests.{RequestView, Spells, ReadsAs, needed, request_keys, redactions_from, request_from, request_in, is_keyed}
 
 pub record IsNeeded {A B : Type 0} (held : Option A) (made : A → Option B) (answer : B) : Type 0 where
   pub value : A
@@ -36,7 +36,8 @@ from_entries_file es r e =
     let d = needed_some (text_value (last_value (codes "name") es)) _ r c.gives in
     let f = needed_some (text_value (last_value (codes "expr") es)) _ r d.gives in
     let g = needed_some (last_value (codes "value") es) _ r f.gives in
-    file_chosen (names_file b.value) _ r refl g.gives
+    let h = needed_some (redactions_from (last_value (codes "redactions") es)) _ r g.gives in
+    file_chosen (names_file b.value) _ r refl h.gives
 
 -- the file of a request is the path of a file
 pub file_named : (tree : Plain) (r : RequestView) → request_in tree ≡ Some r → names_file r.file ≡ true
@@ -45,7 +46,7 @@ file_named (p.bool b) r e = absurd (cc)
 file_named (p.int z) r e = absurd (cc)
 file_named (p.text s) r e = absurd (cc)
 file_named (p.list items) r e = absurd (cc)
-file_named (p.dict es) r e = from_entries_file es r (chosen_some (is_keyed es) (request_from es) r e)
+file_named (p.dict es) r e = from_entries_file es r (chosen_some (is_keyed request_keys es) (request_from es) r e)
 
 same_documents : (a b : Plain) → document_of a ≡ document_of b → text_of a ≡ text_of b
 same_documents a b e = ap (drop 4) e

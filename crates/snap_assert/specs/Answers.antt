@@ -4,7 +4,7 @@ use Rattle.std.specs.Str.{bytes_eq}
 use Rattle.std.specs.FinMap.{get}
 use Rattle.snap_content.specs.Spell.{spell_text}
 use Rattle.snap_outside.specs.Files.{Files}
-use Rattle.snap_assert.specs.Settings.{new_settings}
+use Rattle.snap_assert.specs.Settings.{SettingsView, new_settings}
 use Rattle.snap_assert.specs.Place.{PlaceView}
 use Rattle.snap_assert.specs.Judging.{May}
 use Rattle.snap_assert.specs.Steps.{Asked, asked_of, step, verdict_of, is_failure}
@@ -63,7 +63,7 @@ abbrev pub words_mean : List (List ℕ) → Option RunWords
 words_mean (command ∷ mode ∷ workspace ∷ flags) = if bytes_eq command (codes "run") then said_of workspace (mode_of mode) (flags_mean flags) else None
 words_mean _ = None
 
--- a request is made in the workspace, with new settings and no function
+-- a request is made in the workspace, with no function
 abbrev pub place_by : List ℕ → RequestView → PlaceView
 place_by workspace request = record {
   workspace = workspace;
@@ -74,8 +74,12 @@ place_by workspace request = record {
   expr = request.expr;
 }
 
+-- and with new settings but for its redactions
+abbrev pub settings_by : RequestView → SettingsView
+settings_by request = record new_settings { redactions = request.redactions }
+
 abbrev pub asked_by : List ℕ → RequestView → Asked
-asked_by workspace request = asked_of new_settings (place_by workspace request) request.name request.value
+asked_by workspace request = asked_of (settings_by request) (place_by workspace request) request.name request.value
 
 -- a request, and whether it passed
 pub record Answer : Type 0 where
@@ -92,7 +96,7 @@ step_of words a files = step words.update words.force_update (asked_by words.wor
 
 -- whether a request may pass is decided by the file that stands at its path at that moment
 abbrev pub IsAllowed : RunWords → Answer → Files → Type 0
-IsAllowed words a files = May a.passed (get files (asked_by words.workspace a.request).path) a.request.value
+IsAllowed words a files = May a.passed (get files (asked_by words.workspace a.request).path) (asked_by words.workspace a.request).tree
 
 abbrev pub AreAllowed : RunWords → List Answer → Files → Type 0
 AreAllowed words [] files = Unit {0}

@@ -1,6 +1,6 @@
 -- What a request is seen as.
-use Rattle.snap_content.specs.Plain.{plain}
 use Rattle.snap_content.specs.View.{tree}
+use Rattle.snap_assert.specs.Redactions.{redactions_of}
 use Rattle.snap_assert.specs.Requests.{RequestView}
 use Rattle.snap_assert.specs.declared.request.Request.{Request}
 
@@ -11,5 +11,6 @@ request_of request = record {
   line = request.line;
   name = request.name;
   expr = request.expr;
-  value = plain (tree request.value);
+  value = tree request.value;
+  redactions = redactions_of request.redactions;
 }

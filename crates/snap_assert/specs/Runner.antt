@@ -1,6 +1,5 @@
 -- What the documents of a run share.
 use Rattle.std.specs.Prelude.{◌≡◌, false}
-use Rattle.snap_assert.specs.Settings.{settings_of, new_settings}
 use Rattle.snap_assert.specs.Answers.{RunWords}
 use Rattle.snap_assert.specs.declared.runner.Runner.{Runner}
 
@@ -12,8 +11,7 @@ words_of runner = record {
   force_pass = runner.config.force_pass;
 }
 
--- no flag that is not built, and new settings
+-- no flag that is not built
 pub record IsReady (runner : Runner) : Type 0 where
   pub loose : runner.config.require_full_match ≡ false
   pub no_blocks : runner.config.literal ≡ false
-  pub settings : settings_of runner.settings ≡ new_settings

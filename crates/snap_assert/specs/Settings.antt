@@ -1,6 +1,7 @@
 -- What the settings of an assertion say.
-use Rattle.std.specs.Prelude.{ℕ, Bool, true, false, List, Option, None, codes}
+use Rattle.std.specs.Prelude.{ℕ, Bool, true, false, List, [], Option, None, codes}
 use Rattle.snap_content.specs.Tree.{Tree}
+use Rattle.snap_assert.specs.Redactions.{RedactionView, redactions_of}
 use Rattle.snap_assert.specs.declared.settings.Settings.{Settings}
 
 pub record SettingsView : Type 0 where
@@ -12,6 +13,7 @@ pub record SettingsView : Type 0 where
   pub description : Option (List ℕ)
   pub info : Option Tree
   pub input_file : Option (List ℕ)
+  pub redactions : List RedactionView
 
 -- the settings that nobody changed
 abbrev pub new_settings : SettingsView
@@ -24,8 +26,9 @@ new_settings = record {
   description = None;
   info = None;
   input_file = None;
+  redactions = [];
 }
 
--- no call changes settings yet but for the path
+-- no call changes settings yet but for the redactions
 abbrev pub settings_of : Settings → SettingsView
-settings_of settings = record new_settings { snapshot_path = settings.snapshot_path }
+settings_of settings = record new_settings { snapshot_path = settings.snapshot_path; redactions = redactions_of settings.redactions }

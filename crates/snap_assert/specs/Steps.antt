@@ -2,11 +2,13 @@
 use Rattle.std.specs.Prelude.{◌≡◌, ◌||◌, ℕ, Bool, true, false, not, List, ◌++◌, Option, None, Some, codes, if◌then◌else◌, encode_utf8_all}
 use Rattle.std.specs.Str.{bytes_eq}
 use Rattle.std.specs.FinMap.{get, insert, remove, retain_keys}
-use Rattle.snap_content.specs.Plain.{Plain}
+use Rattle.snap_content.specs.Plain.{Plain, plain}
+use Rattle.snap_content.specs.Tree.{Tree}
 use Rattle.snap_outside.specs.Files.{Files}
 use Rattle.snap_store.specs.Meta.{Meta, header_tree, without_line}
 pub use Rattle.snap_store.specs.Image.{pending_path}
 use Rattle.snap_store.specs.Image.{file_of}
+use Rattle.snap_assert.specs.Redactions.{redacted_by}
 use Rattle.snap_assert.specs.Settings.{SettingsView}
 use Rattle.snap_path.specs.Names.{past_mark}
 use Rattle.snap_assert.specs.Place.{PlaceView, holds_slash}
@@ -17,17 +19,18 @@ use Rattle.snap_assert.specs.declared.config.Update.TheVariants.{InPlace, NewFil
 use Rattle.snap_assert.specs.declared.outcome.Verdict.{Verdict}
 use Rattle.snap_assert.specs.declared.outcome.Verdict.TheVariants.{Passed, Updated, Pending, Rejected}
 
--- what is asked of the files: a tree under metadata at a path
+-- what is asked of the files: a plain tree under metadata at a path
 pub record Asked : Type 0 where
   pub path : List ℕ
   pub meta : Meta
   pub tree : Plain
 
-abbrev pub asked_of : SettingsView → PlaceView → List ℕ → Plain → Asked
-asked_of settings place name tree = record {
+-- the tree is redacted, and its plain form is asked
+abbrev pub asked_of : SettingsView → PlaceView → List ℕ → Tree → Asked
+asked_of settings place name content = record {
   path = path_of settings place (suffixed name settings.suffix);
   meta = new_meta settings place;
-  tree = tree;
+  tree = plain (redacted_by settings.redactions content);
 }
 
 -- what is left behind by payloads that wait: the pending path, a dot, and more without a slash

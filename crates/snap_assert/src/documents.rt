@@ -16,6 +16,7 @@ use crate::place::Place;
 use crate::request::{Request, RequestError, read_request};
 use crate::runner::Runner;
 use crate::session::Session;
+use crate::settings::Settings;
 use crate::streams::write_all;
 use snap_content::{OutOfMemory, Text};
 use snap_emit::spelled_text;
@@ -122,6 +123,9 @@ fn assert_document<F: Store>(
         Ok(place) => place,
         Err(_) => return Err(DocumentError::OutOfMemory),
     };
+    let Ok(settings) = Settings::of_redactions(alloc, request.redactions) else {
+        return Err(DocumentError::OutOfMemory);
+    };
     let value = request.value;
     let name = request.name;
     match assert_content(
@@ -129,7 +133,7 @@ fn assert_document<F: Store>(
         session,
         store,
         &runner.config,
-        &runner.settings,
+        &settings,
         &place,
         Some(&name),
         value,

@@ -1,6 +1,5 @@
 //! One assertion over a store.
 ghost use Rattle.std.specs.Prelude.{◌≡◌, ◌&&◌, List, ℕ, false, not, Some, IsSome, IfOk, OnErr, option_copied};
-ghost use Rattle.snap_content.specs.Plain.{plain};
 ghost use Rattle.snap_content.specs.View.{tree};
 ghost use Rattle.snap_assert.specs.Outcomes.{IsAnswered, OnlyNear, AssertCause};
 ghost use Rattle.snap_assert.specs.Session.{session_of, suffixed, name_step};
@@ -85,10 +84,10 @@ fn assert_named<S: Store>(
     settings: &Settings,
     place: &Place,
     name: &Text,
-    content: &Content,
+    content: Content,
 ) -> Result<Outcome, AssertError>
-    ensures answered { IfOk result (λ outcome. IsAnswered config.now (asked_of (settings_of settings.now) (place_of place.now) name.now (plain (tree content.now))) outcome (S.files store.old) (S.files store.new)) }
-    ensures others { OnErr result (OnlyNear (asked_of (settings_of settings.now) (place_of place.now) name.now (plain (tree content.now))).path (S.files store.old) (S.files store.new)) }
+    ensures answered { IfOk result (λ outcome. IsAnswered config.now (asked_of (settings_of settings.now) (place_of place.now) name.now (tree content)) outcome (S.files store.old) (S.files store.new)) }
+    ensures others { OnErr result (OnlyNear (asked_of (settings_of settings.now) (place_of place.now) name.now (tree content)).path (S.files store.old) (S.files store.new)) }
     ensures cause { AssertCause (S.faults store.old) (S.faults store.new) result }
 {
     let Ok(prepared) = prepare(alloc, settings, place, name, content) else {
@@ -108,7 +107,7 @@ fn assert_named<S: Store>(
     }
 }
 
-/// Asserts that the tree is that of the snapshot of this name, by what its file holds.
+/// Asserts that the tree, redacted, is that of the snapshot of this name, by what its file holds.
 ///
 /// Until full matches, literal blocks and automatic names are built these two flags are off, and a name is given.
 /// After an error only the snapshot's own path, its pending path and what payloads left behind may have changed.
@@ -126,14 +125,14 @@ pub fn assert_content<S: Store>(
     requires no_blocks { config.now.literal ≡ false }
     requires named { IsSome name }
     ensures answered { IfOk result (λ outcome. (given : List ℕ) → option_copied name.entry ≡ Some given
-        → IsAnswered config.now (asked_of (settings_of settings.now) (place_of place.now) given (plain (tree content))) outcome (S.files store.old) (S.files store.new)) }
+        → IsAnswered config.now (asked_of (settings_of settings.now) (place_of place.now) given (tree content)) outcome (S.files store.old) (S.files store.new)) }
     ensures others { OnErr result ((given : List ℕ) → option_copied name.entry ≡ Some given
-        → OnlyNear (asked_of (settings_of settings.now) (place_of place.now) given (plain (tree content))).path (S.files store.old) (S.files store.new)) }
+        → OnlyNear (asked_of (settings_of settings.now) (place_of place.now) given (tree content)).path (S.files store.old) (S.files store.new)) }
     ensures session { session_of session.new ≡ session_of session.old }
     ensures cause { AssertCause (S.faults store.old) (S.faults store.new) result }
 {
     match name {
-        Some(name) => assert_named(alloc, store, config, settings, place, name, &content),
+        Some(name) => assert_named(alloc, store, config, settings, place, name, content),
         None => Err(AssertError::DoctestNeedsName),
     }
 }

@@ -83,20 +83,21 @@ fn new_snapshot(
     ))
 }
 
-/// All that an assertion needs, printed before anything is looked at.
+/// All that an assertion needs: the tree is redacted and printed before anything is looked at.
 pub fn prepare(
     alloc: Global,
     settings: &Settings,
     place: &Place,
     name: &Text,
-    content: &Content,
+    content: Content,
 ) -> Result<Prepared, OutOfMemory>
-    ensures { IfOk result (λ prepared. IsPrepared (asked_of (settings_of settings.now) (place_of place.now) name.now (plain (tree content.now))) prepared) }
+    ensures { IfOk result (λ prepared. IsPrepared (asked_of (settings_of settings.now) (place_of place.now) name.now (tree content)) prepared) }
 {
+    let content = settings.redactions().apply(alloc, content)?;
     let path = snapshot_path(alloc, settings, place, name)?;
     let mut pending = path.try_clone(alloc)?;
     pending.push_ascii(alloc, ".new")?;
-    let snapshot = new_snapshot(alloc, settings, place, name, content)?;
+    let snapshot = new_snapshot(alloc, settings, place, name, &content)?;
     Ok(Prepared {
         path,
         pending,

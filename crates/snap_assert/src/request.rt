@@ -9,6 +9,8 @@ ghost use Rattle.snap_assert.specs.Requests.{RequestView, Spells, ReadsAs, is_ke
 ghost use Rattle.snap_assert.specs.RequestOf.{request_of};
 
 use crate::file_path::is_file_path;
+use crate::redaction_items::redactions_of_pairs;
+use crate::redactions::Redactions;
 use snap_content::{Content, Error, OutOfMemory, Text};
 use snap_emit::yaml;
 use snap_store::fields::{line_named, text_named, value_named};
@@ -23,6 +25,7 @@ pub struct Request {
     pub name: Text,
     pub expr: Text,
     pub value: Content,
+    pub redactions: Redactions,
 }
 
 /// Why a document is not read.
@@ -74,6 +77,9 @@ fn request_of_pairs(
     if !is_file_path(file) {
         return Ok(None);
     }
+    let Some(redactions) = redactions_of_pairs(alloc, pairs)? else {
+        return Ok(None);
+    };
     Ok(Some(Request {
         module_name: Text::from_str(alloc, module_name)?,
         file: Text::from_str(alloc, file)?,
@@ -81,11 +87,12 @@ fn request_of_pairs(
         name: Text::from_str(alloc, name)?,
         expr: Text::from_str(alloc, expr)?,
         value: value.try_clone(alloc)?,
+        redactions,
     }))
 }
 
 /// One where the key is among the pairs, else none.
-fn count_of_key(pairs: &[(Content, Content)], name: &str) -> usize
+pub(crate) fn count_of_key(pairs: &[(Content, Content)], name: &str) -> usize
     requires { IsTrue (list_all is_ascii name.now) }
     ensures count { (entries : Entries) → pair_trees pairs.now ≡ pairs_made entries → result ≡ (if holds_key entries name.now then 1 else 0) }
     ensures small { result ≤ 1 }
@@ -103,12 +110,13 @@ fn held_keys(pairs: &[(Content, Content)]) -> usize
     let place = count_of_key(pairs, "module")
         + count_of_key(pairs, "file")
         + count_of_key(pairs, "line");
-    place + count_of_key(pairs, "name") + count_of_key(pairs, "expr") + count_of_key(pairs, "value")
+    let tree = count_of_key(pairs, "name") + count_of_key(pairs, "expr") + count_of_key(pairs, "value");
+    place + tree + count_of_key(pairs, "redactions")
 }
 
 /// Whether there are as many pairs as keys of a request among them.
 fn are_keyed(pairs: &[(Content, Content)]) -> bool
-    ensures { (entries : Entries) → pair_trees pairs.now ≡ pairs_made entries → result ≡ is_keyed entries }
+    ensures { (entries : Entries) → pair_trees pairs.now ≡ pairs_made entries → result ≡ is_keyed request_keys entries }
 {
     pairs.len() == held_keys(pairs)
 }

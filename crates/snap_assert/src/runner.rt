@@ -2,16 +2,14 @@
 ghost use Rattle.std.specs.Prelude.{◌≡◌, IfOk};
 
 use crate::config::{Config, Flags, Update};
-use crate::settings::Settings;
 use snap_content::{OutOfMemory, Text};
 use std::alloc::Global;
 
-/// The workspace, the mode and the settings of a run.
+/// The workspace and the mode of a run.
 #[derive(Debug, Drop)]
 pub struct Runner {
     pub workspace: Text,
     pub config: Config,
-    pub settings: Settings,
 }
 
 impl Runner {
@@ -37,11 +35,6 @@ impl Runner {
             run_id: Text::empty(),
         };
         let workspace = workspace.try_clone(alloc)?;
-        let settings = Settings::new(alloc)?;
-        Ok(Runner {
-            workspace,
-            config,
-            settings,
-        })
+        Ok(Runner { workspace, config })
     }
 }
