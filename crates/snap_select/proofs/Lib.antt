@@ -10,3 +10,4 @@ pub mod PieceFacts
 pub mod QuotedText
 pub mod Readers
 pub mod Closings
+pub mod Lasts

@@ -6,3 +6,4 @@ pub mod Examples
 pub mod Pieces
 pub mod Stops
 pub mod Selectors
+pub mod Matching

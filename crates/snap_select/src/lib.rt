@@ -4,6 +4,7 @@
 pub mod copies;
 pub mod fault;
 pub mod laws;
+pub mod matching;
 pub mod path_item;
 pub mod pieces;
 pub mod quotes;
