@@ -11,3 +11,5 @@ pub mod QuotedText
 pub mod Readers
 pub mod Closings
 pub mod Lasts
+pub mod RedactedParts
+pub mod QuietTrees

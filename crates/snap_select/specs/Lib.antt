@@ -7,3 +7,7 @@ pub mod Pieces
 pub mod Stops
 pub mod Selectors
 pub mod Matching
+pub mod Positions
+pub mod Redacts
+pub mod Redacted
+pub mod Put
