@@ -10,3 +10,6 @@ pub mod PieceFacts
 pub mod QuotedText
 pub mod Readers
 pub mod Closings
+pub mod Lasts
+pub mod RedactedParts
+pub mod QuietTrees

@@ -6,3 +6,8 @@ pub mod Examples
 pub mod Pieces
 pub mod Stops
 pub mod Selectors
+pub mod Matching
+pub mod Positions
+pub mod Redacts
+pub mod Redacted
+pub mod Put

@@ -1,0 +1,6 @@
+use Rattle.std.proofs.Common.{◌∙◌}
+use Rattle.snap_content.proofs.Ends.{same_texts}
+use Rattle.snap_select.proofs.path_item.is_same_text.Goals as goal
+
+pub returns : goal.returns
+returns c = c.eq.ensures ∙ same_texts c.args.left.now c.args.right.now c.utf8.left c.utf8.right

@@ -1,0 +1,97 @@
+//! Which paths a selector matches.
+ghost use Rattle.std.specs.Prelude.{◌≡◌, ◌≤◌, length, map, position};
+ghost use Rattle.snap_select.specs.Matching.{step_of, fits_step, fit_each, last_of, matches_whole, matches_ends, is_deep, path_match};
+
+use crate::path_item::PathItem;
+use crate::segment::Segment;
+use crate::selector::Selector;
+
+/// Whether the segment fits the step.
+fn fits_step(segment: &Segment<'_>, step: &PathItem) -> bool
+    ensures { result ≡ fits_step segment.now (step_of step.now) }
+{
+    match segment {
+        Segment::DeepWildcard => true,
+        Segment::Wildcard => true,
+        Segment::Key(name) => step.is_named(name.as_str()),
+        Segment::Index(number) => step.is_numbered(*number),
+        Segment::Range(from, to) => step.is_between(*from, *to),
+    }
+}
+
+/// Whether each segment fits its step, as far as both lists go.
+fn fit_each(segments: &[Segment<'_>], path: &[PathItem]) -> bool
+    ensures { result ≡ fit_each segments.now (map step_of path.now) }
+{
+    let mut rest = path;
+    for segment in segments {
+        match rest {
+            [] => return true,
+            [step, later @ ..] => {
+                if !fits_step(segment, step) {
+                    return false;
+                }
+                rest = later;
+            }
+        }
+    }
+    true
+}
+
+/// Whether there are as many segments as steps, and each fits its step.
+fn matches_whole(segments: &[Segment<'_>], path: &[PathItem]) -> bool
+    ensures { result ≡ matches_whole segments.now (map step_of path.now) }
+{
+    segments.len() == path.len() && fit_each(segments, path)
+}
+
+/// Whether the last segments fit the last steps, as far as both lists go.
+fn fit_ends(segments: &[Segment<'_>], path: &[PathItem], count: usize) -> bool
+    requires segments { count ≤ length segments.now }
+    requires path { count ≤ length path.now }
+    ensures { result ≡ fit_each (last_of count segments.now) (last_of count (map step_of path.now)) }
+{
+    let last_segments = &segments[segments.len() - count..];
+    let last_steps = &path[path.len() - count..];
+    fit_each(last_segments, last_steps)
+}
+
+/// Whether there are more steps than segments in the first list, which fit the first steps, and the segments in the
+/// second list fit the last steps, as far as both go.
+fn matches_ends(before: &[Segment<'_>], after: &[Segment<'_>], path: &[PathItem]) -> bool
+    ensures { result ≡ matches_ends before.now after.now (map step_of path.now) }
+{
+    before.len() < path.len()
+        && fit_each(before, path)
+        && fit_ends(after, path, after.len().min(path.len()))
+}
+
+/// Whether the segment is the wildcard for any number of steps.
+fn is_deep(segment: &Segment<'_>) -> bool
+    ensures { result ≡ is_deep segment.now }
+{
+    matches!(segment, Segment::DeepWildcard)
+}
+
+/// The place of the first wildcard for any number of steps.
+fn deep_at(segments: &[Segment<'_>]) -> Option<usize>
+    ensures { result ≡ position is_deep segments.now }
+{
+    segments.iter().position(|segment| is_deep(segment))
+}
+
+impl Selector<'_> {
+    ghost use Rattle.snap_select.specs.Selectors.{segments_of};
+
+    /// Whether the selector matches the path: as many segments as steps, of which each fits its own.
+    /// A key fits a text key and a field of that name, an index the item at that position and a key that is that number.
+    pub fn is_match(&self, path: &[PathItem]) -> bool
+        ensures { result ≡ path_match (segments_of self.now) (map step_of path.now) }
+    {
+        let segments = self.segments.as_slice();
+        match deep_at(segments) {
+            None => matches_whole(segments, path),
+            Some(deep) => matches_ends(&segments[..deep], &segments[deep + 1..], path),
+        }
+    }
+}
