@@ -19,3 +19,6 @@ mod Answering
 mod RequestMade
 mod RunEnds
 mod Wholes
+mod Selected
+mod RedactionLists
+mod RedactionsRead

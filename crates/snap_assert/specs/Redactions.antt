@@ -2,7 +2,8 @@
 use Rattle.std.specs.Prelude.{◌≡◌, ◌⊎◌, ℕ, List, [], ◌∷◌, map}
 use Rattle.snap_content.specs.Tree.{Tree}
 use Rattle.snap_select.specs.Grammar.{IsSelector}
-use Rattle.snap_select.specs.Redacted.{replacement_of, redacted}
+use Rattle.snap_select.specs.Redacted.{redacted}
+use Rattle.snap_select.specs.Put.{put_of}
 use Rattle.snap_select.specs.Refusal.{IsRefused}
 use Rattle.snap_select.specs.Selectors.{segments_of}
 use Rattle.snap_select.specs.declared.fault.SelectError.{SelectError}
@@ -18,7 +19,7 @@ pub record RedactionView : Type 0 where
   pub put : Tree
 
 abbrev pub redaction_of : Selector × Redaction → RedactionView
-redaction_of pair = record { segments = segments_of pair.0; put = replacement_of pair.1 }
+redaction_of pair = record { segments = segments_of pair.0; put = put_of pair.1 }
 
 abbrev pub redactions_of : Redactions → List RedactionView
 redactions_of redactions = map redaction_of redactions.items.items
@@ -26,7 +27,7 @@ redactions_of redactions = map redaction_of redactions.items.items
 -- each redaction in turn
 abbrev pub redacted_by : List RedactionView → Tree → Tree
 redacted_by [] t = t
-redacted_by (r ∷ rs) t = redacted_by rs (redacted r.segments r.put t)
+redacted_by (r ∷ rs) t = redacted_by rs (redacted r.segments r.put [] t)
 
 -- the redaction of a text that is a selector
 pub record IsRedaction (text : List ℕ) (put : Tree) (redaction : RedactionView) : Type 0 where
@@ -38,7 +39,7 @@ abbrev pub AreRedactions : List (List ℕ × Redaction) → List RedactionView �
 AreRedactions [] [] = Unit {0}
 AreRedactions [] (r ∷ rs) = ⊥
 AreRedactions (p ∷ ps) [] = ⊥
-AreRedactions (p ∷ ps) (r ∷ rs) = IsRedaction p.0 (replacement_of p.1) r × AreRedactions ps rs
+AreRedactions (p ∷ ps) (r ∷ rs) = IsRedaction p.0 (put_of p.1) r × AreRedactions ps rs
 
 -- the first text that is no selector is refused as such; or memory was wanting
 abbrev pub AreRefused : List (List ℕ × Redaction) → SelectError → Type 0

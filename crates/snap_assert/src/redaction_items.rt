@@ -1,5 +1,5 @@
 //! The redactions of a request.
-ghost use Rattle.std.specs.Prelude.{◌≡◌, IfOk, codes, option_map};
+ghost use Rattle.std.specs.Prelude.{◌≡◌, IfOk, codes, count_by, option_map};
 ghost use Rattle.std.specs.Str.{chars};
 ghost use Rattle.snap_content.specs.Plain.{Plain, dict, Plains, Entries, content_of, trees_made, pairs_made};
 ghost use Rattle.snap_content.specs.View.{tree, item_trees, pair_trees};
@@ -7,7 +7,7 @@ ghost use Rattle.snap_select.specs.Selected.{selected};
 ghost use Rattle.snap_select.specs.Selectors.{segments_of};
 ghost use Rattle.snap_store.specs.Fields.{last_value};
 ghost use Rattle.snap_assert.specs.Redactions.{redaction_of, redactions_of};
-ghost use Rattle.snap_assert.specs.Requests.{is_keyed, redaction_keys, redaction_from, redaction_in, redactions_in, redactions_from};
+ghost use Rattle.snap_assert.specs.Requests.{is_keyed, holds_key, redaction_keys, redaction_from, redaction_in, redactions_in, redactions_from};
 
 use crate::redactions::Redactions;
 use crate::request::count_of_key;
@@ -86,7 +86,14 @@ fn redaction_of_pairs(
 fn are_keyed(pairs: &[(Content, Content)]) -> bool
     ensures { (entries : Entries) → pair_trees pairs.now ≡ pairs_made entries → result ≡ is_keyed redaction_keys entries }
 {
-    pairs.len() == count_of_key(pairs, "at") + count_of_key(pairs, "put")
+    pairs.len() == held_keys(pairs)
+}
+
+/// How many keys of a redaction are among the pairs.
+fn held_keys(pairs: &[(Content, Content)]) -> usize
+    ensures { (entries : Entries) → pair_trees pairs.now ≡ pairs_made entries → result ≡ count_by (holds_key entries) redaction_keys }
+{
+    count_of_key(pairs, "at") + count_of_key(pairs, "put")
 }
 
 /// The selector that a text is, if it is one.

@@ -2,7 +2,7 @@
 ghost use Rattle.std.specs.Prelude.{◌≡◌, [], ◌∷◌, ◌++◌, IfOk, IfErr, OnOk, OnErr};
 ghost use Rattle.std.specs.Str.{chars};
 ghost use Rattle.snap_content.specs.View.{tree};
-ghost use Rattle.snap_select.specs.Redacted.{replacement_of};
+ghost use Rattle.snap_select.specs.Put.{put_of};
 ghost use Rattle.snap_select.specs.Refusal.{IsRefused};
 ghost use Rattle.snap_assert.specs.Redactions.{RedactionView, IsRedaction, AreRedactions, AreRefused, redaction_of, redacted_by};
 
@@ -50,7 +50,7 @@ impl Redactions {
         selector: &str,
         redaction: Redaction,
     ) -> Result<(), SelectError>
-        ensures ok { OnOk result ((made : RedactionView) × IsRedaction (chars selector.now) (replacement_of redaction) made
+        ensures ok { OnOk result ((made : RedactionView) × IsRedaction (chars selector.now) (put_of redaction) made
             × (redactions_of self.new ≡ redactions_of self.old ++ made ∷ [])) }
         ensures refused { IfErr result (λ e. IsRefused (chars selector.now) e) }
         ensures err { OnErr result (redactions_of self.new ≡ redactions_of self.old) }

@@ -16,7 +16,7 @@ pub struct Settings {
 }
 
 impl Settings {
-    ghost use Rattle.snap_select.specs.Redacted.{replacement_of};
+    ghost use Rattle.snap_select.specs.Put.{put_of};
     ghost use Rattle.snap_select.specs.Refusal.{IsRefused};
     ghost use Rattle.snap_assert.specs.Redactions.{RedactionView, IsRedaction, AreRedactions, AreRefused, redactions_of};
     ghost use Rattle.snap_assert.specs.Settings.{settings_of, new_settings};
@@ -95,7 +95,7 @@ impl Settings {
         selector: &str,
         replacement: Redaction,
     ) -> Result<(), SelectError>
-        ensures ok { OnOk result ((made : RedactionView) × IsRedaction (chars selector.now) (replacement_of replacement) made
+        ensures ok { OnOk result ((made : RedactionView) × IsRedaction (chars selector.now) (put_of replacement) made
             × (settings_of self.new ≡ record (settings_of self.old) { redactions = (settings_of self.old).redactions ++ made ∷ [] })) }
         ensures refused { IfErr result (λ e. IsRefused (chars selector.now) e) }
         ensures err { OnErr result (settings_of self.new ≡ settings_of self.old) }
