@@ -13,3 +13,4 @@ pub mod Closings
 pub mod Lasts
 pub mod RedactedParts
 pub mod QuietTrees
+pub mod RedactedLists

@@ -53,7 +53,7 @@ impl<'a> Selector<'a> {
     pub fn try_clone(&self, alloc: Global) -> Result<Selector<'a>, OutOfMemory>
         ensures { IfOk result (λ copy. segments_of copy ≡ segments_of self.now) }
     {
-        let segments = owned_segments(alloc, self.segments.as_slice())?;
-        Ok(Selector { segments })
+        let copies = owned_segments(alloc, self.segments.as_slice())?;
+        Ok(Selector { segments: copies })
     }
 }

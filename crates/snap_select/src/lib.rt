@@ -9,6 +9,7 @@ pub mod path_item;
 pub mod pieces;
 pub mod quotes;
 pub mod reading;
+pub mod redact;
 pub mod redaction;
 pub mod segment;
 pub mod selector;

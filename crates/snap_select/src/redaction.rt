@@ -19,4 +19,13 @@ impl Redaction {
     {
         Redaction::Static(value)
     }
+
+    /// The tree that is put.
+    pub(crate) fn content(&self) -> &Content
+        ensures { tree result.now ≡ put_of self.now }
+    {
+        match self {
+            Redaction::Static(content) => content,
+        }
+    }
 }
