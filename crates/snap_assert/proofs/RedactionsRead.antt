@@ -11,8 +11,8 @@ use Rattle.snap_select.specs.Selected.{selected}
 use Rattle.snap_select.specs.declared.segment.Segment.{Segment}
 use Rattle.snap_store.specs.Fields.{last_value, text_value}
 use Rattle.snap_assert.specs.Redactions.{RedactionView}
-use Rattle.snap_assert.specs.Requests.{needed, is_keyed, redaction_keys, redaction_from, redaction_in, redactions_in, redactions_from}
-use Rattle.snap_assert.proofs.RequestMade.{IsValue, value_of, needed_by}
+use Rattle.snap_assert.specs.Requests.{needed, is_keyed, redaction_keys, redaction_from, redaction_in, redactions_in}
+use Rattle.snap_assert.proofs.RequestMade.{value_of, needed_by}
 
 -- a map of these two is this redaction
 pub redaction_made : (es : Entries) (at : List ℕ) (segments : List Segment) (made : t.Tree) → is_keyed redaction_keys es ≡ true

@@ -51,7 +51,7 @@ pub request_made : (es : Entries) (module_name file name expr : List ℕ) (line 
 request_made es module_name file name expr line made redactions keyed at_module at_file at_line at_name at_expr at_value at_redactions is_file =
     let found = value_of made (last_value (codes "value") es) at_value in
     let request : t.Tree → Option RequestView =
-        λ v. Some (record { module_name = module_name; file = file; line = line; name = name; expr = expr; value = v; redactions = redactions }) in
+    λ v. Some (record { module_name = module_name; file = file; line = line; name = name; expr = expr; value = v; redactions = redactions }) in
     ap (λ b. cond b (request_from es) None) keyed
     ∙ needed_by (text_value (last_value (codes "module") es)) _ module_name at_module
     ∙ needed_by (text_value (last_value (codes "file") es)) _ file at_file

@@ -1,6 +1,5 @@
 -- The segments of a text that a reader was given.
 use Rattle.std.proofs.Common.{◌≡◌, ℕ, List, None, Some, ap, refl}
-use Rattle.snap_select.specs.Faults.{IsFault}
 use Rattle.snap_select.specs.Grammar.{IsSelector}
 use Rattle.snap_select.specs.Reading.{Outcome, selects, refuses, outcome, at_start}
 use Rattle.snap_select.specs.Selected.{segments_in, selected}

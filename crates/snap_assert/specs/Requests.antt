@@ -74,8 +74,8 @@ request_from entries =
     needed (last_value (codes "value") entries) (λ value.
     needed (redactions_from (last_value (codes "redactions") entries)) (λ redactions.
     if names_file file
-        then Some (record { module_name = name_of_module; file = file; line = line; name = name; expr = expr; value = content_of value; redactions = redactions })
-        else None)))))))
+    then Some (record { module_name = name_of_module; file = file; line = line; name = name; expr = expr; value = content_of value; redactions = redactions })
+    else None)))))))
 
 -- the request that a tree is, if it is one
 abbrev pub request_in : Plain → Option RequestView

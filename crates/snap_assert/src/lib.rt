@@ -18,9 +18,9 @@ mod paths;
 pub mod place;
 mod prepare;
 pub mod program;
-mod removal;
 mod redaction_items;
 pub mod redactions;
+mod removal;
 pub mod request;
 mod runner;
 pub mod session;
@@ -45,6 +45,8 @@ pub use status::{RefusalKind, Status};
 
 #[cfg(test)]
 mod mode_tests;
+#[cfg(test)]
+mod redaction_tests;
 #[cfg(test)]
 mod row_tests;
 #[cfg(test)]

@@ -142,7 +142,12 @@ fn judge<S: Store>(alloc: Global, store: &mut S, prepared: &Prepared) -> Result<
         Ok(old) => old,
         Err(error) => return refused(alloc, error),
     };
-    match compare(alloc, old.was_legacy(), old.contents(), prepared.snapshot.contents()) {
+    match compare(
+        alloc,
+        old.was_legacy(),
+        old.contents(),
+        prepared.snapshot.contents(),
+    ) {
         Ok(judged) => Ok(judged),
         Err(_) => Err(AssertError::OutOfMemory),
     }

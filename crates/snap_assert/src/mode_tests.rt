@@ -154,7 +154,9 @@ const CASES: [(&str, &str, &str, &str, u8, &str, &str, &str); 16] = [
     ),
     ("run no w", OLDER, "", REQUEST, 0, "passed", OLDER, ""),
     ("run no w", LEGACY, "", REQUEST, 0, "passed", LEGACY, ""),
-    ("run no w", "a: 1\n", "", REQUEST, 1, "rejected", "a: 1\n", ""),
+    (
+        "run no w", "a: 1\n", "", REQUEST, 1, "rejected", "a: 1\n", "",
+    ),
     (
         "run inplace w --force",
         LEGACY,

@@ -31,10 +31,7 @@ pub fn redactions_of_pairs(
     }
 }
 
-fn read_redactions(
-    alloc: Global,
-    items: &[Content],
-) -> Result<Option<Redactions>, OutOfMemory>
+fn read_redactions(alloc: Global, items: &[Content]) -> Result<Option<Redactions>, OutOfMemory>
     ensures { (plains : Plains) → item_trees items.now ≡ trees_made plains → IfOk result (λ found. option_map redactions_of found ≡ redactions_in plains) }
 {
     let mut redactions = Redactions::new(alloc);

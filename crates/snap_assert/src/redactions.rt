@@ -29,10 +29,7 @@ impl Redactions {
     }
 
     /// The redactions of these texts, in their order. The first text that is no selector is refused.
-    pub fn from_list(
-        alloc: Global,
-        list: Vec<(Text, Redaction)>,
-    ) -> Result<Redactions, SelectError>
+    pub fn from_list(alloc: Global, list: Vec<(Text, Redaction)>) -> Result<Redactions, SelectError>
         ensures ok { IfOk result (λ made. AreRedactions list.items (redactions_of made)) }
         ensures refused { IfErr result (λ e. AreRefused list.items e) }
     {

@@ -110,7 +110,9 @@ fn held_keys(pairs: &[(Content, Content)]) -> usize
     let place = count_of_key(pairs, "module")
         + count_of_key(pairs, "file")
         + count_of_key(pairs, "line");
-    let tree = count_of_key(pairs, "name") + count_of_key(pairs, "expr") + count_of_key(pairs, "value");
+    let tree = count_of_key(pairs, "name")
+        + count_of_key(pairs, "expr")
+        + count_of_key(pairs, "value");
     place + tree + count_of_key(pairs, "redactions")
 }
 

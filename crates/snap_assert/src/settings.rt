@@ -106,10 +106,7 @@ impl Settings {
 
     /// Takes these redactions in place of all. The first text that is no selector is refused.
     /// After a refusal and after want of memory the settings are as they were.
-    pub fn set_redactions(
-        &mut self,
-        redactions: Vec<(Text, Redaction)>,
-    ) -> Result<(), SelectError>
+    pub fn set_redactions(&mut self, redactions: Vec<(Text, Redaction)>) -> Result<(), SelectError>
         ensures ok { OnOk result ((made : List RedactionView) × AreRedactions redactions.items made
             × (settings_of self.new ≡ record (settings_of self.old) { redactions = made })) }
         ensures refused { IfErr result (λ e. AreRefused redactions.items e) }
@@ -135,7 +132,10 @@ impl Settings {
     }
 
     /// New settings but for the redactions.
-    pub(crate) fn of_redactions(alloc: Global, redactions: Redactions) -> Result<Settings, OutOfMemory>
+    pub(crate) fn of_redactions(
+        alloc: Global,
+        redactions: Redactions,
+    ) -> Result<Settings, OutOfMemory>
         ensures { IfOk result (λ settings. settings_of settings ≡ record new_settings { redactions = redactions_of redactions }) }
     {
         let snapshot_path = Text::from_ascii(alloc, "snapshots")?;

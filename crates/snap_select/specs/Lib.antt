@@ -11,3 +11,4 @@ pub mod Positions
 pub mod Redacts
 pub mod Redacted
 pub mod Put
+pub mod Selected

@@ -226,6 +226,8 @@ impl Selector<'_> {
     ) -> Result<Content, OutOfMemory>
         ensures redacted { IfOk result (λ out. Redacts (segments_of self.now) (put_of redaction.now) (tree value) (tree out)) }
         ensures untouched { IfOk result (λ out. ((position : List ℕ) → ¬ IsHit (segments_of self.now) [] (tree value) position) → tree out ≡ tree value) }
+        // Part by part, for who has to name the tree. That both say the same is a law.
+        ensures parts { IfOk result (λ out. tree out ≡ redacted (segments_of self.now) (put_of redaction.now) [] (tree value)) }
     {
         redact_tree(&value, self, redaction.content(), alloc)
     }

@@ -1,7 +1,6 @@
 use Rattle.std.proofs.Common.{◌≡◌, ◌∙◌, List, ℕ, Some, sym, ap, subst}
 use Rattle.std.specs.Option.{option_copied}
 use Rattle.std.proofs.lemmas.Result.{on_err_weaker}
-use Rattle.snap_content.specs.Plain.{plain}
 use Rattle.snap_content.specs.View.{tree}
 use Rattle.snap_assert.specs.Outcomes.{OnlyNear}
 use Rattle.snap_assert.specs.Settings.{settings_of}

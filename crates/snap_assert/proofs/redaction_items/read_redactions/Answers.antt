@@ -1,4 +1,4 @@
-use Rattle.std.proofs.Common.{◌≡◌, ◌+◌, ◌∷◌, ap, sym, ◌∙◌, drop, option_map}
+use Rattle.std.proofs.Common.{◌+◌, ◌∷◌, ap, sym, ◌∙◌, drop, option_map}
 use Rattle.std.proofs.lemmas.List.{drop_more, drop_all}
 use Rattle.snap_assert.specs.Redactions.{redaction_of, redactions_of}
 use Rattle.snap_assert.proofs.RedactionsRead.{reads_on, reads_none, reads_all}

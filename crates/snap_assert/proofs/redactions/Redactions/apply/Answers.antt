@@ -9,5 +9,5 @@ use Rattle.snap_assert.proofs.redactions.Redactions.apply.Goals as goal
 pub loop-selector-preserved : goal.loop-selector-preserved
 loop-selector-preserved c =
     let item = c.loop-selector-item.result in
-    c.in_ok-made.ensures ∙ ap (redacted (segments_of item.0) (put_of item.1) []) c.loop-selector.invariant
+    c.in_ok-made.ensures.parts ∙ ap (redacted (segments_of item.0) (put_of item.1) []) c.loop-selector.invariant
     ∙ sym (one_more c.as_slice-selector-items.result.now c.loop-selector.selector-index item (tree c.args.content) c.loop-selector-test.true c.loop-selector-item.is)

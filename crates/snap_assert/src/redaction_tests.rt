@@ -1,0 +1,125 @@
+//! Redactions in requests and in settings.
+use crate::{Redactions, Settings, run};
+use snap_content::{Blob, Content, Pairs, Text};
+use snap_emit::yaml;
+use snap_outside::{SteadySink, SteadySource, SteadyStore};
+use snap_select::{Redaction, SelectError, SelectFault};
+use std::alloc::Global;
+use std::test::Fail;
+
+const FRONT: &str = "---\nmodule: m\nfile: src/a.rs\nline: 7\nname: one\nexpr: x\n";
+
+/// What follows in a request, the exit status, and the body of the file; an empty one where no file is written.
+const CASES: [(&str, u8, &str); 8] = [
+    (
+        "redactions:\n  - at: \".id\"\n    put: \"[id]\"\nvalue:\n  id: 42\n  user: joe\n",
+        0,
+        "id: \"[id]\"\nuser: joe\n",
+    ),
+    (
+        "redactions:\n  - at: \".a\"\n    put:\n      b: 2\n  - at: \".a.b\"\n    put: 3\nvalue:\n  a: 1\n",
+        0,
+        "a:\n  b: 3\n",
+    ),
+    ("value:\n  a: 1\nredactions: []\n", 0, "a: 1\n"),
+    (
+        "redactions:\n  - at: \".*\"\n    put: 1\nvalue:\n  a: 1\n",
+        3,
+        "",
+    ),
+    (
+        "redactions:\n  - at: \".a\"\n    sort: true\nvalue:\n  a: 1\n",
+        3,
+        "",
+    ),
+    ("redactions:\n  - at: \".a\"\nvalue:\n  a: 1\n", 3, ""),
+    (
+        "redactions:\n  - at: \".a\"\n    at: \".b\"\n    put: 1\nvalue:\n  a: 1\n",
+        3,
+        "",
+    ),
+    ("redactions: ~\nvalue:\n  a: 1\n", 3, ""),
+];
+
+/// The exit status of a run over these documents, and the body of the file of that name.
+fn body_after(alloc: Global, input: &str, path: &str) -> Result<(u8, Text), Fail> {
+    let mut words = Vec::new(alloc);
+    for word in ["run", "inplace", "w"] {
+        words.push(Text::from_str(alloc, word)?)?;
+    }
+    let mut store = SteadyStore::new(alloc);
+    let mut source = SteadySource::new(Blob::from_slice(alloc, input.as_bytes())?, 100);
+    let mut sink = SteadySink::new(alloc);
+    let status = run(alloc, &words, &mut source, &mut sink, &mut store);
+    let body = match store.get(&Text::from_str(alloc, path)?) {
+        None => Text::empty(),
+        Some(bytes) => {
+            let file = str::from_utf8(bytes).ok().ok_or("text")?;
+            let (_, body) = file
+                .split_once("---\nsource: src/a.rs\nexpression: x\n---\n")
+                .ok_or("a header")?;
+            Text::from_str(alloc, body)?
+        }
+    };
+    Ok((status.code(), body))
+}
+
+#[test]
+fn requests_with_redactions(rt: HostRuntime) -> Result<(), Fail> {
+    let alloc = rt.alloc();
+    for (rest, code, body) in CASES {
+        let input = format!(in alloc; "{FRONT}{rest}")?;
+        let found = body_after(alloc, input.as_str(), "w/src/snapshots/m__one.snap")?;
+        assert_eq!(rt; found.0, code, "{rest}");
+        assert_eq!(rt; found.1.as_str(), body, "{rest}");
+    }
+    Ok(())
+}
+
+#[test]
+fn redactions_end_with_their_request(rt: HostRuntime) -> Result<(), Fail> {
+    let alloc = rt.alloc();
+    let (rest, _, _) = CASES[0];
+    let next = "---\nmodule: m\nfile: src/a.rs\nline: 7\nname: two\nexpr: x\nvalue:\n  id: 42\n";
+    let input = format!(in alloc; "{FRONT}{rest}{next}")?;
+    let (code, body) = body_after(alloc, input.as_str(), "w/src/snapshots/m__two.snap")?;
+    assert_eq!(rt; code, 0);
+    assert_eq!(rt; body.as_str(), "id: 42\n");
+    Ok(())
+}
+
+/// The map of `id` to 42, redacted by these settings, as it is printed.
+fn printed(alloc: Global, settings: &Settings) -> Result<Text, Fail> {
+    let mut pairs = Pairs::new(alloc);
+    pairs.push((Content::from_str(alloc, "id")?, Content::U8(42)))?;
+    let made = settings.redactions().apply(alloc, Content::Map(pairs))?;
+    Ok(yaml::to_string(alloc, &made, false)?)
+}
+
+fn put(alloc: Global, text: &str) -> Result<Redaction, Fail> {
+    Ok(Redaction::from_content(Content::from_str(alloc, text)?))
+}
+
+#[test]
+fn settings_with_redactions(rt: HostRuntime) -> Result<(), Fail> {
+    let alloc = rt.alloc();
+    let mut settings = Settings::new(alloc)?;
+    settings.add_redaction(".id", put(alloc, "x")?)?;
+    let Err(SelectError::Parse(refusal)) = settings.add_redaction(".a[", put(alloc, "y")?) else {
+        return Err(Fail::from("a refusal"));
+    };
+    assert_eq!(rt; refusal.column(), 4);
+    assert!(rt; refusal.kind() == SelectFault::BadToken);
+    assert_eq!(rt; printed(alloc, &settings)?.as_str(), "---\nid: x\n");
+    let mut list = Vec::new(alloc);
+    list.push((Text::from_str(alloc, ".id")?, put(alloc, "z")?))?;
+    settings.set_redactions(list)?;
+    assert_eq!(rt; printed(alloc, &settings)?.as_str(), "---\nid: z\n");
+    let mut list = Vec::new(alloc);
+    list.push((Text::from_str(alloc, ".id")?, put(alloc, "u")?))?;
+    list.push((Text::from_str(alloc, ".")?, put(alloc, "v")?))?;
+    assert_eq!(rt; Redactions::from_list(alloc, list).is_ok(), true);
+    settings.clear_redactions();
+    assert_eq!(rt; printed(alloc, &settings)?.as_str(), "---\nid: 42\n");
+    Ok(())
+}
