@@ -22,4 +22,6 @@ pub use segment::Segment;
 pub use selector::Selector;
 
 #[cfg(test)]
+mod redact_tests;
+#[cfg(test)]
 mod tests;
