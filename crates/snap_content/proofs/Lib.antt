@@ -4,3 +4,4 @@ pub mod Ends
 pub mod PlainMade
 pub mod Ordered
 pub mod SameTrees
+pub mod Rewrapped

@@ -9,6 +9,20 @@ resolved (newtype_struct name inner) = resolved inner
 resolved (newtype_variant name index variant inner) = resolved inner
 resolved other = other
 
+-- whether a tree is a wrapper
+abbrev pub wraps : Tree → Bool
+wraps (some inner) = true
+wraps (newtype_struct name inner) = true
+wraps (newtype_variant name index variant inner) = true
+wraps other = false
+
+-- the same wrappers around another tree
+abbrev pub rewrapped : Tree → Tree → Tree
+rewrapped (some inner) new = some (rewrapped inner new)
+rewrapped (newtype_struct name inner) new = newtype_struct name (rewrapped inner new)
+rewrapped (newtype_variant name index variant inner) new = newtype_variant name index variant (rewrapped inner new)
+rewrapped other new = new
+
 abbrev pub text_in : Tree → Option (List ℕ)
 text_in (string s) = Some s
 text_in _ = None

@@ -4,6 +4,7 @@ pub mod Lent
 pub mod Tree
 pub mod View
 pub mod Access
+pub mod Lending
 pub mod Plain
 pub mod Front
 pub mod Numbers

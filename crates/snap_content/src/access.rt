@@ -2,11 +2,17 @@
 ghost use Rattle.std.specs.Prelude.{◌≡◌, option_map, option_copied};
 ghost use Rattle.std.specs.Str.{chars};
 ghost use Rattle.snap_content.specs.View.{tree, item_trees};
-ghost use Rattle.snap_content.specs.Access.{resolved, text_in, bytes_in, bool_in, items_in, whole_number_in, is_nil_tree, fitting_u64, fitting_u128, fitting_i64, fitting_i128};
+ghost use Rattle.snap_content.specs.Access.{resolved, wraps, rewrapped, text_in, bytes_in, bool_in, items_in, whole_number_in, is_nil_tree, fitting_u64, fitting_u128, fitting_i64, fitting_i128};
 
 use crate::content::Content;
 
 impl Content {
+    ghost use Rattle.std.specs.Prelude.{true};
+    ghost use Rattle.std.specs.Borrow.{Lends, sem};
+    ghost use Rattle.std.specs.Box.{with_value};
+    ghost use Rattle.snap_content.specs.contracts.content.Content.{the_row};
+    ghost use Rattle.snap_content.specs.Lending.{LendsTree, box_row, with_wrapped};
+
     /// The tree behind wrappers: `Some`, newtype structs and newtype variants.
     pub fn resolve_inner(&self) -> &Content
         ensures { tree result.now ≡ resolved (tree self.now) }
@@ -20,17 +26,47 @@ impl Content {
     }
 
     /// The tree behind wrappers, to be changed. What is written there stands inside the same wrappers.
-    // The clause says what stands there at the call. What the whole tree becomes is tested alone: a reference
-    // that comes out of one of several variants gets no proof of that.
     pub fn resolve_inner_mut(&mut self) -> &mut Content
-        ensures { tree result.now ≡ resolved (tree self.old) }
+        ensures* writes_back { sem 𝓛 (LendsTree self.entry result (rewrapped (tree self.old))) }
+        ensures value { tree result.now ≡ resolved (tree self.old) }
+    {
+        let mut inner = self;
+        while inner.is_wrapper() {
+            inner = Content::unboxed_mut(inner.wrapped_mut());
+        }
+        inner
+    }
+
+    /// Whether the tree is a wrapper: `Some`, a newtype struct or a newtype variant.
+    fn is_wrapper(&self) -> bool
+        ensures { result ≡ wraps (tree self.now) }
+    {
+        matches!(
+            self,
+            Content::Some(_) | Content::NewtypeStruct(..) | Content::NewtypeVariant(..)
+        )
+    }
+
+    /// What a wrapper holds, to be changed.
+    fn wrapped_mut(&mut self) -> &mut Box<Content>
+        requires { wraps (tree self.old) ≡ true }
+        ensures* writes_back { sem 𝓛 (Lends the_row box_row self.entry result (with_wrapped self.old)) }
+        ensures value { with_wrapped self.old result.now ≡ self.old }
     {
         match self {
-            Content::Some(inner) => inner.resolve_inner_mut(),
-            Content::NewtypeStruct(_, inner) => inner.resolve_inner_mut(),
-            Content::NewtypeVariant(_, _, _, inner) => inner.resolve_inner_mut(),
-            other => other,
+            Content::Some(inner) => inner,
+            Content::NewtypeStruct(_, inner) => inner,
+            Content::NewtypeVariant(_, _, _, inner) => inner,
+            _ => unreachable!(),
         }
+    }
+
+    /// What a box holds, to be changed: `Box::as_mut` without its type parameters, for the proof of the loop.
+    fn unboxed_mut(boxed: &mut Box<Content>) -> &mut Content
+        ensures* writes_back { sem 𝓛 (Lends box_row the_row boxed.entry result (with_value boxed.old)) }
+        ensures value { result.now ≡ boxed.old.value }
+    {
+        boxed
     }
 
     /// The text of a `String`, behind wrappers.
