@@ -41,26 +41,35 @@ const CASES: [(&str, u8, &str); 8] = [
     ("redactions: ~\nvalue:\n  a: 1\n", 3, ""),
 ];
 
-/// The exit status of a run over these documents, and the body of the file of that name.
-fn body_after(alloc: Global, input: &str, path: &str) -> Result<(u8, Text), Fail> {
+/// What follows the header; nothing where no file is there.
+fn body_of(alloc: Global, file: Option<&[u8]>) -> Result<Text, Fail> {
+    let Some(bytes) = file else {
+        return Ok(Text::empty());
+    };
+    let file = str::from_utf8(bytes).ok().ok_or("text")?;
+    let (_, body) = file
+        .split_once("---\nsource: src/a.rs\nexpression: x\n---\n")
+        .ok_or("a header")?;
+    Ok(Text::from_str(alloc, body)?)
+}
+
+/// The words of a run in place.
+fn words_in_place(alloc: Global) -> Result<Vec<Text>, Fail> {
     let mut words = Vec::new(alloc);
     for word in ["run", "inplace", "w"] {
         words.push(Text::from_str(alloc, word)?)?;
     }
+    Ok(words)
+}
+
+/// The exit status of a run over these documents, and the body of the file of that name.
+fn body_after(alloc: Global, input: &str, path: &str) -> Result<(u8, Text), Fail> {
+    let words = words_in_place(alloc)?;
     let mut store = SteadyStore::new(alloc);
     let mut source = SteadySource::new(Blob::from_slice(alloc, input.as_bytes())?, 100);
     let mut sink = SteadySink::new(alloc);
     let status = run(alloc, &words, &mut source, &mut sink, &mut store);
-    let body = match store.get(&Text::from_str(alloc, path)?) {
-        None => Text::empty(),
-        Some(bytes) => {
-            let file = str::from_utf8(bytes).ok().ok_or("text")?;
-            let (_, body) = file
-                .split_once("---\nsource: src/a.rs\nexpression: x\n---\n")
-                .ok_or("a header")?;
-            Text::from_str(alloc, body)?
-        }
-    };
+    let body = body_of(alloc, store.get(&Text::from_str(alloc, path)?))?;
     Ok((status.code(), body))
 }
 
@@ -100,26 +109,44 @@ fn put(alloc: Global, text: &str) -> Result<Redaction, Fail> {
     Ok(Redaction::from_content(Content::from_str(alloc, text)?))
 }
 
+/// One redaction as a list.
+fn list_of(alloc: Global, selector: &str, text: &str) -> Result<Vec<(Text, Redaction)>, Fail> {
+    let mut list = Vec::new(alloc);
+    list.push((Text::from_str(alloc, selector)?, put(alloc, text)?))?;
+    Ok(list)
+}
+
 #[test]
-fn settings_with_redactions(rt: HostRuntime) -> Result<(), Fail> {
+fn settings_take_redactions(rt: HostRuntime) -> Result<(), Fail> {
     let alloc = rt.alloc();
     let mut settings = Settings::new(alloc)?;
     settings.add_redaction(".id", put(alloc, "x")?)?;
+    assert_eq!(rt; printed(alloc, &settings)?.as_str(), "---\nid: x\n");
+    settings.set_redactions(list_of(alloc, ".id", "z")?)?;
+    assert_eq!(rt; printed(alloc, &settings)?.as_str(), "---\nid: z\n");
+    settings.clear_redactions();
+    assert_eq!(rt; printed(alloc, &settings)?.as_str(), "---\nid: 42\n");
+    Ok(())
+}
+
+#[test]
+fn a_refused_redaction_changes_nothing(rt: HostRuntime) -> Result<(), Fail> {
+    let alloc = rt.alloc();
+    let mut settings = Settings::new(alloc)?;
     let Err(SelectError::Parse(refusal)) = settings.add_redaction(".a[", put(alloc, "y")?) else {
         return Err(Fail::from("a refusal"));
     };
     assert_eq!(rt; refusal.column(), 4);
     assert!(rt; refusal.kind() == SelectFault::BadToken);
-    assert_eq!(rt; printed(alloc, &settings)?.as_str(), "---\nid: x\n");
-    let mut list = Vec::new(alloc);
-    list.push((Text::from_str(alloc, ".id")?, put(alloc, "z")?))?;
-    settings.set_redactions(list)?;
-    assert_eq!(rt; printed(alloc, &settings)?.as_str(), "---\nid: z\n");
-    let mut list = Vec::new(alloc);
-    list.push((Text::from_str(alloc, ".id")?, put(alloc, "u")?))?;
-    list.push((Text::from_str(alloc, ".")?, put(alloc, "v")?))?;
-    assert_eq!(rt; Redactions::from_list(alloc, list).is_ok(), true);
-    settings.clear_redactions();
     assert_eq!(rt; printed(alloc, &settings)?.as_str(), "---\nid: 42\n");
+    Ok(())
+}
+
+#[test]
+fn redactions_of_a_list(rt: HostRuntime) -> Result<(), Fail> {
+    let alloc = rt.alloc();
+    let redactions = Redactions::from_list(alloc, list_of(alloc, ".", "v")?)?;
+    let made = redactions.apply(alloc, Content::U8(42))?;
+    assert_eq!(rt; yaml::to_string(alloc, &made, false)?.as_str(), "---\nv\n");
     Ok(())
 }
