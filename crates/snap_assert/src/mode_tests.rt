@@ -68,7 +68,18 @@ fn holds(alloc: Global, store: &SteadyStore, path: &str, file: &str) -> Result<b
 }
 
 /// The words, the file and the one beside it before, the input; the status, the verdict, and both files after.
-const CASES: [(&str, &str, &str, &str, u8, &str, &str, &str); 16] = [
+type Case<'a> = (
+    &'a str,
+    &'a str,
+    &'a str,
+    &'a str,
+    u8,
+    &'a str,
+    &'a str,
+    &'a str,
+);
+
+const CASES: [Case<'static>; 16] = [
     (
         "run new w",
         SAVED,
@@ -179,19 +190,24 @@ const CASES: [(&str, &str, &str, &str, u8, &str, &str, &str); 16] = [
     ),
 ];
 
+/// Whether a run over the files before leaves the status, the line and the files after.
+fn leaves(alloc: Global, case: Case<'_>) -> Result<bool, Fail> {
+    let (words, before, waited, input, code, verdict, after, waits) = case;
+    let mut store = SteadyStore::new(alloc);
+    put(alloc, &mut store, PATH, before)?;
+    put(alloc, &mut store, PENDING_PATH, waited)?;
+    let (found, sink) = run_over(alloc, words, input, &mut store)?;
+    let line = format!(in alloc; "{verdict} {PATH}\n")?;
+    let said = found == code && sink.written() == line.as_str().as_bytes();
+    let stands = holds(alloc, &store, PATH, after)?;
+    Ok(said && stands && holds(alloc, &store, PENDING_PATH, waits)?)
+}
+
 #[test]
 fn each_mode_leaves_its_files(rt: HostRuntime) -> Result<(), Fail> {
     let alloc = rt.alloc();
-    for (words, before, waited, input, code, verdict, after, waits) in CASES {
-        let mut store = SteadyStore::new(alloc);
-        put(alloc, &mut store, PATH, before)?;
-        put(alloc, &mut store, PENDING_PATH, waited)?;
-        let (found, sink) = run_over(alloc, words, input, &mut store)?;
-        assert_eq!(rt; found, code, "{words}");
-        let line = format!(in alloc; "{verdict} {PATH}\n")?;
-        assert_eq!(rt; sink.written(), line.as_str().as_bytes());
-        assert!(rt; holds(alloc, &store, PATH, after)?, "{words}");
-        assert!(rt; holds(alloc, &store, PENDING_PATH, waits)?, "{words}");
+    for case in CASES {
+        assert!(rt; leaves(alloc, case)?, "{} over {}", case.0, case.1);
     }
     Ok(())
 }
