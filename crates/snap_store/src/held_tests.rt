@@ -8,10 +8,13 @@
 use crate::Snapshot;
 use snap_content::Text;
 use snap_outside::SteadyStore;
+use std::alloc::Global;
 use std::test::Fail;
 
 /// A file, whether it has no header, its source, its expression and its body.
-const HELD: [(&str, bool, Option<&str>, Option<&str>, &str); 40] = [
+type Row<'a> = (&'a str, bool, Option<&'a str>, Option<&'a str>, &'a str);
+
+const HELD: [Row<'static>; 40] = [
     (
         " ---\r\nExpression: e\n\t\nd\re\n---\n\n",
         true,
@@ -240,34 +243,26 @@ const HELD: [(&str, bool, Option<&str>, Option<&str>, &str); 40] = [
     ),
 ];
 
-/// Whether the snapshot is what the original found.
-fn is_found(
-    read: &Snapshot,
-    legacy: bool,
-    source: Option<&str>,
-    expression: Option<&str>,
-    body: &str,
-) -> bool {
-    match read.as_text() {
-        None => false,
-        Some(text) => {
-            text.as_raw() == body
-                && read.was_legacy() == legacy
-                && read.metadata().source() == source
-                && read.metadata().expression() == expression
-        }
-    }
+/// Whether the file is read as the original reads it.
+fn is_read_alike(alloc: Global, row: Row<'_>) -> Result<bool, Fail> {
+    let (file, legacy, source, expression, body) = row;
+    let path = Text::from_str(alloc, "m__one.snap")?;
+    let mut store = SteadyStore::new(alloc);
+    store.put(&path, file.as_bytes())?;
+    let read = Snapshot::from_file(alloc, &mut store, &path)?;
+    let Some(text) = read.as_text() else {
+        return Ok(false);
+    };
+    let metadata = read.metadata();
+    let same = metadata.source() == source && metadata.expression() == expression;
+    Ok(same && read.was_legacy() == legacy && text.as_raw() == body)
 }
 
 #[test]
 fn files_are_read_as_the_original_reads_them(rt: HostRuntime) -> Result<(), Fail> {
     let alloc = rt.alloc();
-    let path = Text::from_str(alloc, "m__one.snap")?;
-    let mut store = SteadyStore::new(alloc);
-    for (file, legacy, source, expression, body) in HELD {
-        store.put(&path, file.as_bytes())?;
-        let read = Snapshot::from_file(alloc, &mut store, &path)?;
-        assert!(rt; is_found(&read, legacy, source, expression, body), "{file}");
+    for row in HELD {
+        assert!(rt; is_read_alike(alloc, row)?);
     }
     Ok(())
 }
