@@ -19,8 +19,10 @@ use Rattle.snap_store.specs.declared.metadata.SnapshotKind.{SnapshotKind}
 use Rattle.snap_store.specs.declared.metadata.SnapshotKind.TheVariants as kind
 use Rattle.snap_store.specs.declared.snapshot.Snapshot.{Snapshot}
 use Rattle.snap_assert.specs.Judging.{BodyAgrees, HasCanonicalHeader, HasBinaryHeader, IsLegacyFile, says_binary, May}
-use Rattle.snap_assert.proofs.Readings.{one_text, no_text_file, text_or_none, one_reading, headed_or_not}
+use Rattle.snap_assert.proofs.Readings.{one_text, no_text_file, text_or_none, one_reading, headed_or_not, entries_same}
 use Rattle.snap_assert.proofs.Saved.{against_saved}
+use Rattle.snap_content.proofs.Booleans.{some_same}
+use Rattle.std.proofs.lemmas.Bool.{false_from_ne_true}
 
 -- a pass that is decided by three facts and two refusals
 pub judged : (passed : Bool) (file : Option (List ℕ)) (tree : Plain) → (file ≡ None → passed ≡ false)
@@ -83,9 +85,6 @@ kind_of_text b extension h = ap (λ c. cond c (binary_kind extension) (Some kind
 pub canonical_kind : (entries : Entries) → says_binary entries ≡ false → kind_in entries ≡ Some kind.Text
 canonical_kind entries h = kind_of_text (is_binary entries) (text_value (last_value (codes "extension") entries)) (canonical_text entries h)
 
-dict_same : (a b : Entries) → dict a ≡ dict b → a ≡ b
-dict_same a b e = cc
-
 -- a refusal of the file is no pass
 pub refused_no_pass : (path : List ℕ) (file : Option (List ℕ)) (tree : Plain) (error : Error) → IsRefused path file error
     → ((named : List ℕ) → error ≡ FileIo named → ⊥) → (error ≡ OutOfMemory → ⊥) → May false file tree
@@ -99,7 +98,7 @@ refused_no_pass path file tree UnexpectedDataType h io memory =
     (has_header file h.text h.there h.header.headed)
 refused_no_pass path file tree MissingField h io memory =
     no_pass file tree (λ k.
-    let same : h.entries ≡ k.entries = dict_same h.entries k.entries (one_reading file h.text k.whole (dict h.entries) (dict k.entries) h.there h.header k.there k.header).tree in
+    let same : h.entries ≡ k.entries = entries_same h.entries k.entries (one_reading file h.text k.whole (dict h.entries) (dict k.entries) h.there h.header k.there k.header).tree in
     let text = canonical_kind k.entries k.not_binary in
     let lacking = h.lacking in
     clash h.entries k.entries same lacking text)
@@ -117,11 +116,8 @@ pub record Compares (passed : Bool) (old new : SnapshotContents) (printed : List
   pub tells : IsTrue passed ↔ Agree old new
   pub printed_is : text_in new ≡ Some printed
 
-some_raw : (a b : List ℕ) → Some a ≡ Some b → a ≡ b
-some_raw a b e = cc
-
 held_agrees : (k : SnapshotKind) (body printed : List ℕ) (old new : SnapshotContents) → HoldsBody k body old → text_in new ≡ Some printed → Agree old new → legacy body ≡ legacy printed
-held_agrees kind.Text body printed (Text held) (Text fresh) h e a = ap legacy (sym h.0) ∙ a ∙ ap legacy (some_raw (raw_of fresh) printed e)
+held_agrees kind.Text body printed (Text held) (Text fresh) h e a = ap legacy (sym h.0) ∙ a ∙ ap legacy (some_same (raw_of fresh) printed e)
 held_agrees kind.Text body printed (Text held) (Binary payload) h e a = absurd a
 held_agrees kind.Text body printed (Binary payload) new h e a = absurd h
 held_agrees (kind.Binary extension) body printed (Text held) new h e a = absurd h
@@ -129,7 +125,7 @@ held_agrees (kind.Binary extension) body printed (Binary payload) (Text fresh) h
 held_agrees (kind.Binary extension) body printed (Binary payload) (Binary other) h e a = absurd (cc)
 
 agrees_held : (body printed : List ℕ) (old new : SnapshotContents) → HoldsBody kind.Text body old → text_in new ≡ Some printed → legacy body ≡ legacy printed → Agree old new
-agrees_held body printed (Text held) (Text fresh) h e n = ap legacy h.0 ∙ n ∙ ap legacy (sym (some_raw (raw_of fresh) printed e))
+agrees_held body printed (Text held) (Text fresh) h e n = ap legacy h.0 ∙ n ∙ ap legacy (sym (some_same (raw_of fresh) printed e))
 agrees_held body printed (Text held) (Binary payload) h e n = absurd (cc)
 agrees_held body printed (Binary payload) new h e n = absurd h
 
@@ -138,10 +134,6 @@ no_agreement kind.Text body printed old new extension e h t a = cc
 no_agreement (kind.Binary x) body printed (Text held) new extension e h t a = h
 no_agreement (kind.Binary x) body printed (Binary payload) (Text fresh) extension e h t a = a
 no_agreement (kind.Binary x) body printed (Binary payload) (Binary other) extension e h t a = cc t
-
-not_true : (b : Bool) → (b ≡ true → ⊥) → b ≡ false
-not_true true h = absurd (h refl)
-not_true false h = refl
 
 -- the kind of a header that says binary
 binary_is : (b : Bool) (extension : Option (List ℕ)) (k : SnapshotKind) → b ≡ true → cond b (binary_kind extension) (Some kind.Text) ≡ Some k
@@ -156,7 +148,7 @@ same_kind a b e = cc
 kind_canonical : (file : Option (List ℕ)) (was : Bool) (text : List ℕ) (meta : Meta) → IsTextFile file text → Tells was text meta → HasCanonicalHeader file → meta.kind ≡ kind.Text
 kind_canonical file false text meta there t h =
     let one = one_reading file text h.whole (dict t.entries) (dict h.entries) there t.header h.there h.header in
-    let entries : t.entries ≡ h.entries = dict_same t.entries h.entries one.tree in
+    let entries : t.entries ≡ h.entries = entries_same t.entries h.entries one.tree in
     ap (λ m. m.kind) t.meta_is ∙ same_kind t.kind kind.Text (sym t.kind_is ∙ ap kind_in entries ∙ canonical_kind h.entries h.not_binary)
 kind_canonical file true text meta there t h = absurd (headed_or_not file h.whole text h.there there h.header.headed t.unheaded)
 
@@ -167,7 +159,7 @@ kind_legacy file true text meta there t h = ap (λ m. m.kind) t.meta_is
 kind_binary : (file : Option (List ℕ)) (was : Bool) (text : List ℕ) (meta : Meta) → IsTextFile file text → Tells was text meta → HasBinaryHeader file → (x : List ℕ) × (meta.kind ≡ kind.Binary x)
 kind_binary file false text meta there t h =
     let one = one_reading file text h.whole (dict t.entries) (dict h.entries) there t.header h.there h.header in
-    let entries : t.entries ≡ h.entries = dict_same t.entries h.entries one.tree in
+    let entries : t.entries ≡ h.entries = entries_same t.entries h.entries one.tree in
     let binary : is_binary t.entries ≡ true = ap is_binary entries ∙ h.binary in
     let found = binary_is (is_binary t.entries) (text_value (last_value (codes "extension") t.entries)) t.kind binary t.kind_is in
     (found.0, ap (λ m. m.kind) t.meta_is ∙ found.1)
@@ -197,4 +189,4 @@ read_judged file tree snapshot new passed r c =
     (λ h b. agreement_passes file tree snapshot new passed r c (kind_legacy file was r.text meta r.there r.metadata h) b)
     (λ h.
     let found = kind_binary file was r.text meta r.there r.metadata h in
-    not_true passed (λ yes. no_agreement meta.kind (body_of r.text) (text_of tree) (contents_in snapshot) new found.0 found.1 r.contents c.printed_is (c.tells.0 yes)))
+    false_from_ne_true passed (λ yes. no_agreement meta.kind (body_of r.text) (text_of tree) (contents_in snapshot) new found.0 found.1 r.contents c.printed_is (c.tells.0 yes)))

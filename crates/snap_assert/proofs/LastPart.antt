@@ -1,20 +1,13 @@
 -- A text without a slash is its own last part.
 use Rattle.std.proofs.Common.{◌≡◌, ◌==◌, ◌||◌, ℕ, Bool, true, false, cond, List, [], ◌∷◌, refl, ap, ◌∙◌}
 use Rattle.snap_assert.specs.Place.{holds_slash, last_part}
-
-first_false : (a b : Bool) → (a || b) ≡ false → a ≡ false
-first_false true b e = e
-first_false false b e = refl
-
-later_false : (a b : Bool) → (a || b) ≡ false → b ≡ false
-later_false true b e = cc
-later_false false b e = e
+use Rattle.snap_content.proofs.Booleans.{or_left, or_right}
 
 pub whole : (t : List ℕ) → holds_slash t ≡ false → last_part t ≡ t
 whole [] h = refl
 whole (c ∷ cs) h =
-    ap (λ b. cond b (last_part cs) (cond (c == 47) cs (c ∷ cs))) (later_false (c == 47) (holds_slash cs) h)
-    ∙ ap (λ b. cond b cs (c ∷ cs)) (first_false (c == 47) (holds_slash cs) h)
+    ap (λ b. cond b (last_part cs) (cond (c == 47) cs (c ∷ cs))) (or_right (c == 47) (holds_slash cs) h)
+    ∙ ap (λ b. cond b cs (c ∷ cs)) (or_left (c == 47) (holds_slash cs) h)
 
 either : (b : Bool) (t : List ℕ) → holds_slash t ≡ b → last_part t ≡ cond b (last_part t) t
 either true t h = refl

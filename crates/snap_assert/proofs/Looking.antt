@@ -29,6 +29,7 @@ use Rattle.snap_assert.specs.declared.outcome.Warning.TheVariants.{Unreadable, L
 use Rattle.snap_assert.specs.declared.prepare.Prepared.{Prepared}
 use Rattle.snap_assert.proofs.Judgements.{read_judged, refused_no_pass}
 use Rattle.snap_assert.proofs.Readings.{one_text}
+use Rattle.snap_content.proofs.Booleans.{some_same}
 
 no_warning : (path : List ℕ) (file : Option (List ℕ)) (passed : Bool) (printed : List ℕ) (ws : List Warning) → ws ≡ [] → AreWarnings path file passed printed [] → AreWarnings path file passed printed ws
 no_warning path file passed printed ws none h = let P : List Warning → Type 0 = λ w. AreWarnings path file passed printed w in subst P (sym none) h
@@ -37,12 +38,9 @@ one_warning : (path : List ℕ) (file : Option (List ℕ)) (passed : Bool) (prin
     → AreWarnings path file passed printed ws
 one_warning path file passed printed ws error one h = let P : List Warning → Type 0 = λ w. AreWarnings path file passed printed w in subst P (sym one) h
 
-some_raw : (a b : List ℕ) → Some a ≡ Some b → a ≡ b
-some_raw a b e = cc
-
 matches_held : (k : SnapshotKind) (body printed : List ℕ) (old new : SnapshotContents) → HoldsBody k body old → text_in new ≡ Some printed → Agree old new → TextsMatch (text_in old) (text_in new)
     → normal body ≡ normal printed
-matches_held kind.Text body printed (Text held) (Text fresh) h e a t = ap normal (sym h.0) ∙ t ∙ ap normal (some_raw (raw_of fresh) printed e)
+matches_held kind.Text body printed (Text held) (Text fresh) h e a t = ap normal (sym h.0) ∙ t ∙ ap normal (some_same (raw_of fresh) printed e)
 matches_held kind.Text body printed (Text held) (Binary payload) h e a t = absurd a
 matches_held kind.Text body printed (Binary payload) new h e a t = absurd h
 matches_held (kind.Binary extension) body printed (Text held) new h e a t = absurd h
@@ -51,7 +49,7 @@ matches_held (kind.Binary extension) body printed (Binary payload) (Binary other
 
 differs_held : (k : SnapshotKind) (body printed : List ℕ) (old new : SnapshotContents) → HoldsBody k body old → text_in new ≡ Some printed → TextsDiffer (text_in old) (text_in new)
     → normal body ≡ normal printed → ⊥
-differs_held kind.Text body printed (Text held) (Text fresh) h e d n = d (ap normal h.0 ∙ n ∙ ap normal (sym (some_raw (raw_of fresh) printed e)))
+differs_held kind.Text body printed (Text held) (Text fresh) h e d n = d (ap normal h.0 ∙ n ∙ ap normal (sym (some_same (raw_of fresh) printed e)))
 differs_held kind.Text body printed (Text held) (Binary payload) h e d n = d
 differs_held kind.Text body printed (Binary payload) new h e d n = absurd h
 differs_held (kind.Binary extension) body printed (Text held) new h e d n = absurd h

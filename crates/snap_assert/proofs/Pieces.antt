@@ -32,9 +32,6 @@ pub record IsAll (xs bytes : List ℕ) (now : Option (List ℕ)) : Type 0 where
   pub same : bytes ≡ xs
   pub nothing_left : now ≡ Some []
 
-same_some : (a b : List ℕ) → Some a ≡ Some b → a ≡ b
-same_some a b e = cc
-
 pub all_read : (count : ℕ) (bytes next : List ℕ) (first now later : Option (List ℕ)) (xs : List ℕ) → count ≡ 0 → TakesPiece count bytes next now later
     → ((ys : List ℕ) → now ≡ Some ys → ys ≡ []) → IsRead bytes first now → first ≡ Some xs → IsAll xs next later
 all_read count bytes next first now later xs none t ended r e =

@@ -6,28 +6,26 @@ use Rattle.snap_content.specs.Lines.{document_of, text_of}
 use Rattle.snap_plain.proofs.Injective.{texts_same}
 use Rattle.snap_store.specs.FileSplit.{is_headed}
 use Rattle.snap_store.specs.Reading.{IsTextFile, HasHeader, IsNoText}
-
-same_some : (a b : List ℕ) → Some a ≡ Some b → a ≡ b
-same_some a b e = cc
+use Rattle.snap_content.proofs.Booleans.{some_same}
 
 pub one_text : (file : Option (List ℕ)) (a b : List ℕ) → IsTextFile file a → IsTextFile file b → a ≡ b
 one_text file a b p q =
-    let bytes : p.bytes ≡ q.bytes = same_some p.bytes q.bytes (sym p.there ∙ q.there) in
+    let bytes : p.bytes ≡ q.bytes = some_same p.bytes q.bytes (sym p.there ∙ q.there) in
     p.characters ∙ ap chars bytes ∙ sym q.characters
 
 pub no_text_file : (file : Option (List ℕ)) (a : List ℕ) → file ≡ None → IsTextFile file a → ⊥
 no_text_file file a none p = let e = sym none ∙ p.there in cc e
 
 pub text_or_none : (file : Option (List ℕ)) (a : List ℕ) → IsNoText file → IsTextFile file a → ⊥
-text_or_none file a n p = n.broken (subst IsUtf8 (same_some p.bytes n.bytes (sym p.there ∙ n.there)) p.utf8)
+text_or_none file a n p = n.broken (subst IsUtf8 (some_same p.bytes n.bytes (sym p.there ∙ n.there)) p.utf8)
 
-same_documents : (a b : Plain) → document_of a ≡ document_of b → text_of a ≡ text_of b
+pub same_documents : (a b : Plain) → document_of a ≡ document_of b → text_of a ≡ text_of b
 same_documents a b e = ap (drop 4) e
 
 pub one_header : (text : List ℕ) (a b : Plain) → HasHeader text a → HasHeader text b → a ≡ b
 one_header text a b p q = texts_same a b p.readable q.readable (same_documents a b (sym p.header ∙ q.header))
 
-entries_same : (a b : Entries) → dict a ≡ dict b → a ≡ b
+pub entries_same : (a b : Entries) → dict a ≡ dict b → a ≡ b
 entries_same a b e = cc
 
 pub one_dict : (text : List ℕ) (a b : Entries) → HasHeader text (dict a) → HasHeader text (dict b) → a ≡ b

@@ -15,6 +15,7 @@ use Rattle.snap_assert.specs.Steps.{Asked, is_stray, is_near, KeepsFar, cleared,
 use Rattle.snap_assert.specs.declared.config.Update.{Update}
 use Rattle.snap_assert.specs.declared.config.Update.TheVariants.{InPlace, NewFile, NoUpdate}
 use Rattle.snap_assert.specs.Strays.{AreStrays}
+use Rattle.snap_content.proofs.Booleans.{or_left, or_right}
 
 remove_each-push : (ps : List (List ℕ)) (p : List ℕ) (m : Files) → remove_each (ps ++ p ∷ []) m ≡ remove (remove_each ps m) p
 remove_each-push [] p m = refl
@@ -25,14 +26,6 @@ one_more ps i p m h is = ap (λ t. remove_each t m) (take_more ps i p h ∙ ap (
 
 pub all_gone : (ps : List (List ℕ)) (i : ℕ) (m : Files) → length ps ≤ i → remove_each (take i ps) m ≡ remove_each ps m
 all_gone ps i m h = ap (λ t. remove_each t m) (take_all i ps h)
-
-first_false : (a b : Bool) → (a || b) ≡ false → a ≡ false
-first_false true b e = e
-first_false false b e = refl
-
-later_false : (a b : Bool) → (a || b) ≡ false → b ≡ false
-later_false true b e = cc
-later_false false b e = e
 
 differs : (q p : List ℕ) → bytes_eq q p ≡ false → q ≢ p
 differs q p e same = let t = (bytes_eq-Decides q p).1 same in cc (t, e)
@@ -55,10 +48,10 @@ some_gone ps i p m now h is s = record {
   files = s.files;
   told = s.told;
   others = λ q none.
-      let up_to : list_any (bytes_eq q) (take (i + 1) ps) ≡ false = first_false _ _ (sym (list_any-append (bytes_eq q) (take (i + 1) ps) (drop (i + 1) ps)) ∙ ap (list_any (bytes_eq q)) (take-append-drop (i + 1) ps) ∙ none) in
+      let up_to : list_any (bytes_eq q) (take (i + 1) ps) ≡ false = or_left _ _ (sym (list_any-append (bytes_eq q) (take (i + 1) ps) (drop (i + 1) ps)) ∙ ap (list_any (bytes_eq q)) (take-append-drop (i + 1) ps) ∙ none) in
       let split : (list_any (bytes_eq q) (take i ps) || list_any (bytes_eq q) (p ∷ [])) ≡ false = sym (list_any-append (bytes_eq q) (take i ps) (p ∷ [])) ∙ ap (list_any (bytes_eq q)) (sym (take_more ps i p h ∙ ap (λ x. take i ps ++ x ∷ []) (sym is))) ∙ up_to in
-      let before : list_any (bytes_eq q) (take i ps) ≡ false = first_false _ _ split in
-      let other : bytes_eq q p ≡ false = first_false _ _ (later_false _ _ split) in
+      let before : list_any (bytes_eq q) (take i ps) ≡ false = or_left _ _ split in
+      let other : bytes_eq q p ≡ false = or_left _ _ (or_right _ _ split) in
       s.others q (differs q p other) ∙ get-remove_each (take i ps) m q ∙ ap (λ b. cond b None (get m q)) before;
 }
 
@@ -67,7 +60,7 @@ none_gone ps i m now told = record {
   files = remove_each (take i ps) m;
   told = told;
   others = λ q none.
-      let before : list_any (bytes_eq q) (take i ps) ≡ false = first_false _ _ (sym (list_any-append (bytes_eq q) (take i ps) (drop i ps)) ∙ ap (list_any (bytes_eq q)) (take-append-drop i ps) ∙ none) in
+      let before : list_any (bytes_eq q) (take i ps) ≡ false = or_left _ _ (sym (list_any-append (bytes_eq q) (take i ps) (drop i ps)) ∙ ap (list_any (bytes_eq q)) (take-append-drop i ps) ∙ none) in
       get-remove_each (take i ps) m q ∙ ap (λ b. cond b None (get m q)) before;
 }
 
@@ -99,13 +92,13 @@ pub record IsFar (path q : List ℕ) : Type 0 where
 
 pub far : (path q : List ℕ) → is_near path q ≡ false → IsFar path q
 far path q h =
-    let left = first_false (bytes_eq q path || bytes_eq q (pending_path path)) (is_stray path q) h in
+    let left = or_left (bytes_eq q path || bytes_eq q (pending_path path)) (is_stray path q) h in
     record {
-      off_path = first_false (bytes_eq q path) (bytes_eq q (pending_path path)) left;
-      off_pending = later_false (bytes_eq q path) (bytes_eq q (pending_path path)) left;
-      not_path = differs q path (first_false (bytes_eq q path) (bytes_eq q (pending_path path)) left);
-      not_pending = differs q (pending_path path) (later_false (bytes_eq q path) (bytes_eq q (pending_path path)) left);
-      not_stray = later_false (bytes_eq q path || bytes_eq q (pending_path path)) (is_stray path q) h;
+      off_path = or_left (bytes_eq q path) (bytes_eq q (pending_path path)) left;
+      off_pending = or_right (bytes_eq q path) (bytes_eq q (pending_path path)) left;
+      not_path = differs q path (or_left (bytes_eq q path) (bytes_eq q (pending_path path)) left);
+      not_pending = differs q (pending_path path) (or_right (bytes_eq q path) (bytes_eq q (pending_path path)) left);
+      not_stray = or_right (bytes_eq q path || bytes_eq q (pending_path path)) (is_stray path q) h;
     }
 
 kept_far : (path : List ℕ) (m : Files) (q : List ℕ) → is_stray path q ≡ false → get (cleared path m) q ≡ get m q

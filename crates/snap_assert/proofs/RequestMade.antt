@@ -63,37 +63,6 @@ request_made es module_name file name expr line made redactions keyed at_module 
     ∙ ap (λ b. cond b (request (p.content_of found.value)) None) is_file
     ∙ ap request (sym found.made_is)
 
--- a map that was read was made of a plain map
-
-pub record IsDict (plain : Plain) (pairs : List (Content × Content)) : Type 0 where
-  pub held : Entries
-  pub is : plain ≡ dict held
-  pub made : pair_trees pairs ≡ p.pairs_made held
-
-no_natural : (small middle : Bool) (n : ℕ) (ps : t.TreePairs) → t.map ps ≡ cond small (t.i64 (pos n)) (cond middle (t.u64 n) (t.u128 n)) → ⊥
-no_natural true middle n ps e = cc
-no_natural false true n ps e = cc
-no_natural false false n ps e = cc
-
-no_negative : (small : Bool) (n : ℕ) (ps : t.TreePairs) → t.map ps ≡ cond small (t.i64 (negsuc n)) (t.i128 (negsuc n)) → ⊥
-no_negative true n ps e = cc
-no_negative false n ps e = cc
-
-no_number : (z : ℤ) (ps : t.TreePairs) → t.map ps ≡ p.number_tree z → ⊥
-no_number (pos n) ps e = no_natural (nat_lt n (2 ^ 63)) (nat_lt n (2 ^ 64)) n ps e
-no_number (negsuc n) ps e = no_negative (nat_lt n (2 ^ 63)) n ps e
-
-dict_made : (plain : Plain) (pairs : List (Content × Content)) → t.map (pair_trees pairs) ≡ p.content_of plain → IsDict plain pairs
-dict_made p.null pairs e = absurd (cc)
-dict_made (p.bool b) pairs e = absurd (cc)
-dict_made (p.int z) pairs e = absurd (no_number z (pair_trees pairs) e)
-dict_made (p.text s) pairs e = absurd (cc)
-dict_made (p.list items) pairs e = absurd (cc)
-dict_made (dict held) pairs e = record { held = held; is = refl; made = cc }
-
-pub dict_of : (content : Content) (pairs : Pairs) (plain : Plain) → content ≡ Map pairs → tree content ≡ p.content_of plain → IsDict plain (pair_list pairs)
-dict_of content pairs plain is made = dict_made plain (pair_list pairs) (sym (tree-Map pairs) ∙ sym (ap tree is) ∙ made)
-
 -- the request in the tree that was read is the one that the document spells
 pub spelled : (document text : List ℕ) (content : Content) (request : RequestView) → text ≡ document → IsUtf8 document → (read : IsReadFrom content (chars text))
     → Some request ≡ request_in read.plain → ReadsAs document request

@@ -10,6 +10,7 @@ use Rattle.std.proofs.Common.{drop}
 use Rattle.snap_store.specs.Fields.{last_value, text_value, line_value}
 use Rattle.snap_assert.specs.Place.{names_file}
 use Rattle.snap_assert.specs.Requests.{RequestView, Spells, ReadsAs, needed, request_keys, redactions_from, request_from, request_in, is_keyed}
+use Rattle.snap_assert.proofs.Readings.{same_documents}
 
 pub record IsNeeded {A B : Type 0} (held : Option A) (made : A → Option B) (answer : B) : Type 0 where
   pub value : A
@@ -47,9 +48,6 @@ file_named (p.int z) r e = absurd (cc)
 file_named (p.text s) r e = absurd (cc)
 file_named (p.list items) r e = absurd (cc)
 file_named (p.dict es) r e = from_entries_file es r (chosen_some (is_keyed request_keys es) (request_from es) r e)
-
-same_documents : (a b : Plain) → document_of a ≡ document_of b → text_of a ≡ text_of b
-same_documents a b e = ap (drop 4) e
 
 same_request : (a b : RequestView) → Some a ≡ Some b → a ≡ b
 same_request a b e = cc

@@ -16,6 +16,7 @@ use Rattle.snap_outside.specs.Listed.{AreNames}
 use Rattle.snap_assert.specs.Place.{holds_slash}
 use Rattle.snap_assert.specs.Steps.{stray_front, is_slashless, is_stray}
 use Rattle.snap_assert.specs.Strays.{IsFilePath, AreStrays}
+use Rattle.snap_content.proofs.Booleans.{not_true}
 
 -- what follows one mark and then another
 abbrev pub then_past : List ℕ → Option (List ℕ) → Option (List ℕ)
@@ -48,13 +49,9 @@ pub record IsBehind (front q : List ℕ) : Type 0 where
   pub is : q ≡ front ++ rest
   pub slashless : holds_slash rest ≡ false
 
-not_false : (b : Bool) → not b ≡ true → b ≡ false
-not_false true h = absurd (cc)
-not_false false h = refl
-
 behind_found : (front q : List ℕ) (found : Option (List ℕ)) → past_mark front q ≡ found → is_slashless found ≡ true → IsBehind front q
 behind_found front q None is h = absurd (cc)
-behind_found front q (Some rest) is h = record { rest = rest; is = past_mark-is front q rest is; slashless = not_false (holds_slash rest) h }
+behind_found front q (Some rest) is h = record { rest = rest; is = past_mark-is front q rest is; slashless = not_true (holds_slash rest) h }
 
 stray_behind : (path q : List ℕ) → is_stray path q ≡ true → IsBehind (stray_front path) q
 stray_behind path q h = behind_found (stray_front path) q (past_mark (stray_front path) q) refl h

@@ -1,7 +1,12 @@
 //! One assertion over a store, and a run over a stream of requests.
-//! The modules in the order in which data flows: words, input, documents, requests; then the settings,
-//! the session and the place of an assertion, its path and metadata, what it finds and what it leaves;
-//! then its line, and the status of the whole run.
+//! Until the first refusal, what a run leaves and says is that of one stated step for each request in turn:
+//! the clauses of `run` and `assert_content` say so.
+//!
+//! In the order in which data flows: `words`, `streams` and `cut` (the command line, the input, its documents), `request` and
+//! `redaction_items` (what a document asks for); `config`, `settings`, `redactions` and `session` (with what), `place`,
+//! `file_path`, `front` and `paths` (where); `prepare`, `strays` and `look` (what is there), `settle` and `removal` (what is
+//! left); `engine` (one assertion), `outcome` and `error` (its answer); `runner`, `documents`, `program` and `status` (the
+//! whole run), `laws`.
 #![tactic(auto)]
 
 pub mod config;

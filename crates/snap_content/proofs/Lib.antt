@@ -5,3 +5,6 @@ pub mod PlainMade
 pub mod Ordered
 pub mod SameTrees
 pub mod Rewrapped
+pub mod Booleans
+pub mod BeforeRest
+pub mod DictMade

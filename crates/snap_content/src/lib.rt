@@ -1,6 +1,10 @@
 //! Texts, bytes and trees of values: what every other crate speaks of.
 //! Its `specs/` hold the plain definitions that the crates above cite: what a tree means, its plain form,
 //! how a scalar is spelled and typed, and the lines and the text that a plain tree is printed as.
+//!
+//! In the order in which data flows: `memory` and `error` (what goes wrong), `text`, `characters`, `blob` and `lent`
+//! (what a tree holds), `content` and `lists` (trees), `make` (trees of one value), `access` (looking into them),
+//! `clone`, `order` and `comparisons` (copies and comparisons), `laws`.
 #![tactic(auto)]
 
 pub mod access;

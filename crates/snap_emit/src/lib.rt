@@ -1,5 +1,8 @@
 //! YAML texts of trees: printing, and reading of what was printed.
-//! `yaml` has the public calls, `laws` what holds of every printed text.
+//! It hands on what the crates below print and read, with paths in its refusals,
+//! and says in laws what holds of every printed text.
+//!
+//! In the order in which data flows: `yaml` (the public calls), `laws`.
 #![tactic(auto)]
 
 pub mod laws;

@@ -20,7 +20,8 @@ use Rattle.std.specs.FinMap.{get, from_entries}
 use Rattle.snap_path.specs.Paths.{is_component, IsName, front_of}
 use Rattle.snap_outside.specs.Listed.{AreNames}
 use Rattle.snap_outside.proofs.Entries.{get-entries}
-use Rattle.snap_outside.proofs.Joined.{has_slash, name_from_tests, tests_from_name, joined-name}
+use Rattle.snap_outside.proofs.Joined.{has_slash, name_from_tests, tests_from_name}
+use Rattle.snap_path.proofs.Joining.{joined-name}
 
 -- the text, where it's a name
 abbrev named : List ℕ → Option (List ℕ)

@@ -1,6 +1,9 @@
 //! The outside as the product sees it: a source of bytes, a sink of bytes and a store of files,
 //! each with a count of its faults and, where it can tell, with what it holds.
 //! Beside the traits stand the forms in memory, and the adapters over real streams and folders.
+//!
+//! In the order in which data flows: `outside` (the traits), `names`, `files`, `pieces` and `schedule` (what the forms are made
+//! of), `steady` and `memory` (forms that tell all, without and with faults), `listing`, `folder` and `stream` (the real ones).
 #![tactic(auto)]
 
 pub mod files;

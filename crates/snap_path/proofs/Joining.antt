@@ -4,6 +4,7 @@ use Rattle.std.specs.List.{filter, list_any, All}
 use Rattle.std.proofs.lemmas.List.Elements.{All-nil, All-cons, All-head, All-tail, All-append, All-filter, filter_passes, All-same}
 use Rattle.snap_content.specs.Front.{begins}
 use Rattle.snap_path.specs.Paths.{attached, between_slashes, is_component, components, is_absolute, slashed, path_of_parts, joined, all_but_last, last_of, parent_of, name_of, IsName, front_behind, front_of}
+use Rattle.snap_content.proofs.Booleans.{or_left, or_right}
 
 abbrev pub is_slash : ℕ → Bool
 is_slash c = c == 47
@@ -15,14 +16,6 @@ Unbroken text = list_any is_slash text ≡ false
 pub record NameParts (name : List ℕ) : Type 0 where
   pub component : is_component name ≡ true
   pub unbroken : list_any is_slash name ≡ false
-
-or_left : (a b : Bool) → (a || b) ≡ false → a ≡ false
-or_left true b h = h
-or_left false b h = refl
-
-or_right : (a b : Bool) → (a || b) ≡ false → b ≡ false
-or_right true b h = absurd (cc)
-or_right false b h = h
 
 -- a text without a slash is one part, and in front of a slash it is the first
 first_part : (part rest : List ℕ) → list_any is_slash part ≡ false → between_slashes (part ++ 47 ∷ rest) ≡ part ∷ between_slashes rest

@@ -10,13 +10,14 @@ use Rattle.snap_content.specs.Spell.{spelling, is_flat, quoted, escaped}
 use Rattle.snap_print.specs.PlainTree.{view, entry_view, plains_of, entries_of}
 use Rattle.snap_print.specs.declared.plain.PlainTree.{PlainTree, List as list_tree, Dict as dict_tree}
 use Rattle.snap_print.proofs.Spellings.{Piece, word_piece, quoted_piece, list_piece, dict_piece, piece}
-use Rattle.snap_print.proofs.Tests.{absurd_tests, apart, or_left, numbers_differ}
+use Rattle.snap_print.proofs.Tests.{absurd_tests, apart, numbers_differ}
 use Rattle.snap_print.proofs.Trees.{view-list, view-dict}
 use Rattle.snap_print.proofs.Words.{IsPlainWord}
 use Rattle.snap_plain.specs.Blocks.{begins_item}
 use Rattle.snap_plain.specs.Pieces.{front_word, past_word, past_piece}
 use Rattle.snap_plain.proofs.Escapes.{past_quoted-escaped, heads}
 use Rattle.snap_plain.proofs.ReadWords.{front_word-clear, past_word-clear}
+use Rattle.snap_content.proofs.Booleans.{or_left}
 
 -- what a line is known by that a piece begins
 pub record BeginsLine (line r : List ℕ) : Type 0 where

@@ -26,6 +26,7 @@ use Rattle.snap_plain.proofs.Unprinting.{lines_of-first, splits_first, SplitsFir
 use Rattle.snap_plain.proofs.ReadWords.{word_integer, word_null, word_true, word_false, word_text, negative_number}
 use Rattle.snap_print.proofs.Digits.{wide, wide_negative}
 use Rattle.snap_print.proofs.Tests.{and_right}
+use Rattle.std.proofs.lemmas.Bool.{false_from_ne_true}
 
 -- numbers
 decimal_same : (m n : ℕ) → m < 10 ^ 64 → n < 10 ^ 64 → decimal m ≡ decimal n → m ≡ n
@@ -85,15 +86,11 @@ quoted_same (c ∷ cs) (d ∷ ds) r q same =
     ap (λ e. e ∷ cs) pair.0 ∙ ap (λ l. d ∷ l) (quoted_same cs ds r q pair.1)
 
 -- pieces
-not_holds : (b : Bool) → (b ≡ true → ⊥) → b ≡ false
-not_holds true h = absurd (h refl)
-not_holds false h = refl
-
 piece_same : (a b : p.Plain) (cs : List ℕ) → Piece a cs → cs ≡ spelling a → cs ≡ spelling b → IsWithin a → IsWithin b → is_flat b ≡ true → a ≡ b
 piece_same a b cs (word_piece h w) wa wb ka kb flat =
     let whole : cs ++ [] ≡ spelling b ++ [] = ap (λ x. x ++ []) wb in
     let found = word_of_piece b (spelling b) [] (piece b flat kb) refl (λ rest is. word_first cs [] rest 34 w (whole ∙ is) refl)
-    (not_holds _ (λ test. word_begins cs [] 91 w (ap (begins 91) whole ∙ test) refl)) (not_holds _ (λ test. word_begins cs [] 123 w (ap (begins 123) whole ∙ test) refl)) in
+    (false_from_ne_true _ (λ test. word_begins cs [] 91 w (ap (begins 91) whole ∙ test) refl)) (false_from_ne_true _ (λ test. word_begins cs [] 123 w (ap (begins 123) whole ∙ test) refl)) in
     word_same a b cs h found.0 ka kb wa wb (is_integer_text cs) (bytes_eq cs (codes "~")) (bytes_eq cs (codes "true")) (bytes_eq cs (codes "false")) refl refl refl refl
 piece_same a b _ (quoted_piece s h) wa wb ka kb flat =
     let other = quoted_of b (spelling b) [] (flat_map escaped s ++ 34 ∷ []) (piece b flat kb) (append-nil (spelling b) ∙ sym wb) in

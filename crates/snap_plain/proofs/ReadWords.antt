@@ -12,9 +12,10 @@ use Rattle.snap_content.specs.Spell.{spelling, quoted}
 use Rattle.snap_print.specs.PlainTree.{view}
 use Rattle.snap_print.specs.declared.plain.PlainTree as tree
 use Rattle.snap_print.proofs.Digits.{decimal_digits, wide}
-use Rattle.snap_print.proofs.Tests.{absurd_tests, apart, not_true, or_left, or_right}
+use Rattle.snap_print.proofs.Tests.{absurd_tests, apart}
 use Rattle.snap_print.proofs.Words.{bare, integer, same_word}
 use Rattle.snap_plain.specs.Pieces.{front_word, past_word}
+use Rattle.snap_content.proofs.Booleans.{or_left, or_right, not_true}
 
 -- what the trees of scalars are seen as
 pub null_view : view tree.Null ≡ p.null

@@ -13,9 +13,6 @@ abbrev held : {A : Type 0} → A → Option A → A
 held other None = other
 held other (Some a) = a
 
-pub some_same : {A : Type 0} (a b : A) → Some a ≡ Some b → a ≡ b
-some_same a b same = ap (held a) same
-
 pub none_some : {A : Type 0} (a : A) → None ≡ Some a → ⊥
 none_some a same = cc
 

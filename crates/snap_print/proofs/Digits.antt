@@ -7,7 +7,8 @@ use Rattle.std.specs.Fmt.{decimal}
 use Rattle.std.specs.List.{list_any, list_all}
 use Rattle.snap_content.specs.Numbers.{is_digits, is_integer_text, is_decimal_text, past_digits}
 use Rattle.snap_content.specs.Quotes.{is_special, ends_badly}
-use Rattle.snap_print.proofs.Tests.{or_false, and_left, and_right, and_true}
+use Rattle.snap_print.proofs.Tests.{and_left, and_right, and_true}
+use Rattle.snap_content.proofs.Booleans.{or_false}
 
 -- digits
 plain_digit : (k : ℕ) → k < 10 → is_special (48 + k) ≡ false

@@ -6,7 +6,7 @@ use Rattle.std.specs.List.{flat_map, list_any}
 use Rattle.std.specs.Prelude.{codes}
 use Rattle.snap_content.specs.Printed.{is_break}
 use Rattle.snap_content.specs.Spell.{escaped, escaped_code}
-use Rattle.snap_print.proofs.Tests.{or_left}
+use Rattle.snap_content.proofs.Booleans.{or_left}
 
 -- by a letter behind a backslash, by a code, or as it is
 pub data Kind (c : ℕ) : List ℕ → Type 0 where

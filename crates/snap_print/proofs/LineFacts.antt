@@ -8,8 +8,9 @@ use Rattle.snap_content.specs.Quotes.{ends_badly}
 use Rattle.snap_content.specs.Readable.{IsWithin, AreWithin, AreEntriesWithin}
 use Rattle.snap_content.specs.Spell.{spelling, is_flat}
 use Rattle.snap_print.proofs.Spellings.{spelling_line}
-use Rattle.snap_print.proofs.Tests.{or_left, or_right, and_no}
+use Rattle.snap_print.proofs.Tests.{and_no}
 use Rattle.snap_print.proofs.Trees.{simple_flat}
+use Rattle.snap_content.proofs.Booleans.{or_left, or_right}
 
 lines-append : (xs ys : List (List ℕ)) → AreLines xs → AreLines ys → AreLines (xs ++ ys)
 lines-append [] ys h k = k

@@ -8,8 +8,9 @@ use Rattle.snap_content.specs.Readable.{is_word, IsWithin}
 use Rattle.snap_content.specs.Spell.{spelling, is_flat, quoted, escaped}
 use Rattle.snap_content.proofs.Ends.{ends_badly-push}
 use Rattle.snap_print.proofs.Escapes.{unbroken-escaped}
-use Rattle.snap_print.proofs.Tests.{apart, or_left, or_right}
+use Rattle.snap_print.proofs.Tests.{apart}
 use Rattle.snap_print.proofs.Words.{IsPlainWord, word}
+use Rattle.snap_content.proofs.Booleans.{or_left, or_right}
 
 -- the four kinds of pieces
 pub data Piece (t : p.Plain) : List ℕ → Type 0 where

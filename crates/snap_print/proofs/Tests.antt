@@ -1,6 +1,7 @@
 -- Facts on tests.
 use Rattle.std.proofs.Common.{◌≡◌, ℕ, Bool, true, false, ◌==◌, ◌||◌, ◌&&◌, not, refl, ap, ◌∙◌, arith}
 use Rattle.std.proofs.lemmas.Bool.Decides.{nat_tests}
+use Rattle.std.proofs.lemmas.Bool.{false_from_ne_true}
 
 pub absurd_tests : (b : Bool) → b ≡ true → b ≡ false → ⊥
 absurd_tests true holds fails = absurd (cc)
@@ -8,26 +9,10 @@ absurd_tests false holds fails = absurd (cc)
 
 -- a test of characters that tells two apart
 pub apart : (test : ℕ → Bool) (c d : ℕ) → test c ≡ false → test d ≡ true → (c == d) ≡ false
-apart test c d fails holds = differ (c == d) (λ same. absurd_tests (test c) (ap test (equal c d same) ∙ holds) fails)
+apart test c d fails holds = false_from_ne_true (c == d) (λ same. absurd_tests (test c) (ap test (equal c d same) ∙ holds) fails)
   where
-    differ : (b : Bool) → (b ≡ true → ⊥) → b ≡ false
-    differ true h = absurd (h refl)
-    differ false h = refl
-
     equal : (c d : ℕ) → (c == d) ≡ true → c ≡ d
     equal c d h = grind (arith, nat_tests)
-
-pub or_left : (a b : Bool) → (a || b) ≡ false → a ≡ false
-or_left true b h = h
-or_left false b h = refl
-
-pub or_right : (a b : Bool) → (a || b) ≡ false → b ≡ false
-or_right true b h = absurd (cc)
-or_right false b h = h
-
-pub or_false : (a b : Bool) → a ≡ false → b ≡ false → (a || b) ≡ false
-or_false true b h k = h
-or_false false b h k = k
 
 pub and_left : (a b : Bool) → (a && b) ≡ true → a ≡ true
 and_left true b h = refl
@@ -48,10 +33,6 @@ no_and false b h = refl
 pub and_no : (a b : Bool) → b ≡ false → (a && b) ≡ false
 and_no true b h = h
 and_no false b h = refl
-
-pub not_true : (b : Bool) → not b ≡ true → b ≡ false
-not_true true h = absurd (cc)
-not_true false h = refl
 
 pub by_contrary : (a b : Bool) → (a ≡ true → b ≡ true) → b ≡ false → a ≡ false
 by_contrary true b there fails = absurd (absurd_tests b (there refl) fails)

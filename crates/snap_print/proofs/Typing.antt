@@ -15,8 +15,10 @@ use Rattle.snap_content.specs.Readable.{is_word, IsWithin, IsNumber}
 use Rattle.snap_content.specs.Spell.{spelling}
 use Rattle.snap_content.specs.Typed.{Typed, value, typed, number_in, below_zero, has_128_bits, is_hexadecimal_text, is_hexadecimal_integer, is_null_word, is_inf_word, is_named_number}
 use Rattle.snap_print.proofs.Digits.{decimal_digits, low_end, wide, wide_negative}
-use Rattle.snap_print.proofs.Tests.{absurd_tests, apart, or_false, and_left, and_right, and_true, no_and, and_no, not_true}
+use Rattle.snap_print.proofs.Tests.{absurd_tests, apart, and_left, and_right, and_true, no_and, and_no}
 use Rattle.snap_print.proofs.Words.{same_word, integer, no_number_no_integer}
+use Rattle.snap_content.proofs.Booleans.{or_false, not_true}
+use Rattle.std.proofs.lemmas.Bool.{false_from_ne_true}
 
 -- the tests of `typed`, one after the other
 layers : (x o q n t f i r : Bool) (hx ho hp hn ht hf hi hr rest : Typed) → x ≡ false → o ≡ false → q ≡ false → n ≡ false → t ≡ false → f ≡ false → i ≡ false → r ≡ false
@@ -28,12 +30,8 @@ up_to_integer : (x o q n t f i : Bool) (hx ho hp hn ht hf hi rest : Typed) → x
 up_to_integer x o q n t f i hx ho hp hn ht hf hi rest ex eo eq en et ef ei = rw (ex, eo, eq, en, et, ef, ei) refl
 
 differs : (w v : List ℕ) (test : List ℕ → Bool) (b c : Bool) → test w ≡ b → test v ≡ c → b ≡ not c → bytes_eq w v ≡ false
-differs w v test b c here there opposite = turn (bytes_eq w v) (λ same. clash b c (sym here ∙ ap test (same_word w v same) ∙ there) opposite)
+differs w v test b c here there opposite = false_from_ne_true (bytes_eq w v) (λ same. clash b c (sym here ∙ ap test (same_word w v same) ∙ there) opposite)
   where
-    turn : (b : Bool) → (b ≡ true → ⊥) → b ≡ false
-    turn true h = absurd (h refl)
-    turn false h = refl
-
     clash : (b c : Bool) → b ≡ c → b ≡ not c → ⊥
     clash true true h k = absurd (cc)
     clash true false h k = absurd (cc)
@@ -134,12 +132,8 @@ in_range (negsuc n) h = negative_bits n h
 
 -- digits begin neither `0x` nor `0o`, nor with a plus
 second_digit : (cs : List ℕ) (test : ℕ → Bool) (c d : ℕ) → is_ascii_digit c ≡ true → is_ascii_digit d ≡ false → (c == d) ≡ false
-second_digit cs test c d h k = turn (c == d) (λ same. absurd_tests (is_ascii_digit c) h (ap is_ascii_digit (equal c d same) ∙ k))
+second_digit cs test c d h k = false_from_ne_true (c == d) (λ same. absurd_tests (is_ascii_digit c) h (ap is_ascii_digit (equal c d same) ∙ k))
   where
-    turn : (b : Bool) → (b ≡ true → ⊥) → b ≡ false
-    turn true h = absurd (h refl)
-    turn false h = refl
-
     equal : (c d : ℕ) → (c == d) ≡ true → c ≡ d
     equal c d h = grind (arith, nat_tests)
 

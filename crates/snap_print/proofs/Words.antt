@@ -14,7 +14,8 @@ use Rattle.snap_content.specs.Quotes.{needs_quotes, is_special, is_leading, is_r
 use Rattle.snap_content.specs.Readable.{is_word, IsWithin, IsNumber}
 use Rattle.snap_content.specs.Spell.{spelling}
 use Rattle.snap_print.proofs.Digits.{low_end, digits_clear, digits_trimmed, digits_decimal, digits_integer, decimal_digits, minus_digit, wide, wide_negative}
-use Rattle.snap_print.proofs.Tests.{apart, and_left, no_and, by_contrary, not_true}
+use Rattle.snap_print.proofs.Tests.{apart, and_left, no_and, by_contrary}
+use Rattle.snap_content.proofs.Booleans.{not_true}
 
 -- a text without special characters, which begins as no other piece does
 pub record IsPlainWord (w : List ℕ) : Type 0 where

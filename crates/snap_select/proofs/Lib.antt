@@ -5,7 +5,6 @@ pub mod Fitting
 pub mod Outcomes
 pub mod LeastFaults
 pub mod WorkedExamples
-pub mod BeforeRest
 pub mod PieceFacts
 pub mod QuotedText
 pub mod Readers

@@ -6,16 +6,8 @@ ghost use Rattle.unicode_ident.specs.Ident.{is_xid_continue};
 ghost use Rattle.snap_select.specs.Grammar.{begins_name};
 ghost use Rattle.snap_select.specs.Pieces.{past, front, is_decimal, Fails, IsNameThen};
 
-use snap_content::characters::split_first;
+use snap_content::characters::{before_rest, split_first};
 use unicode_ident::{is_xid_continue, is_xid_start};
-
-/// What stands before the rest of a text.
-pub(crate) fn before_rest<'a>(text: &'a str, rest: &str) -> &'a str
-    requires { (cs : List ℕ) × (chars text.now ≡ cs ++ chars rest.now) }
-    ensures { (cs : List ℕ) → chars text.now ≡ cs ++ chars rest.now → chars result.now ≡ cs }
-{
-    &text[..text.len() - rest.len()]
-}
 
 /// Whether a name may begin with the character.
 fn begins_name(character: char) -> bool

@@ -6,8 +6,7 @@ ghost use Rattle.snap_select.specs.Reading.{outcome, in_quotes, behind_quotes, r
 ghost use Rattle.snap_select.specs.declared.fault.SelectFault.TheVariants.{BadToken};
 ghost use Rattle.snap_select.specs.declared.segment.Segment.{Segment};
 
-use crate::pieces::before_rest;
-use snap_content::characters::{after_character, split_first};
+use snap_content::characters::{after_character, before_rest, split_first};
 use snap_content::{Lent, OutOfMemory, Text};
 use std::alloc::Global;
 

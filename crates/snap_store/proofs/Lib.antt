@@ -1,4 +1,3 @@
-mod BeforeRest
 mod Pieces
 mod LineEnds
 pub mod Bodies
@@ -9,6 +8,5 @@ pub mod Agreeing
 mod Headers
 mod LegacyFields
 mod Lookups
-mod Mapped
 mod Outcomes
 mod Written

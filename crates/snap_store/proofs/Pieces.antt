@@ -4,14 +4,7 @@ use Rattle.std.specs.List.{list_any, flat_map}
 use Rattle.snap_text.specs.Lines.{is_line_end, IsUnbroken, IsLineThen}
 use Rattle.snap_path.specs.Paths.{attached}
 use Rattle.snap_store.specs.FileSplit.{pieces, line_of, joined_lines, lines_text}
-
-or_left : (a b : Bool) → (a || b) ≡ false → a ≡ false
-or_left true b h = h
-or_left false b h = refl
-
-or_right : (a b : Bool) → (a || b) ≡ false → b ≡ false
-or_right true b h = absurd (cc)
-or_right false b h = h
+use Rattle.snap_content.proofs.Booleans.{or_left, or_right}
 
 inside : (c : ℕ) (cs : List ℕ) → IsUnbroken (c ∷ cs) → (rest : List ℕ) → pieces (c ∷ rest) ≡ attached c (pieces rest)
 inside c cs h rest = ap (λ b. cond b ((c ∷ []) ∷ pieces rest) (attached c (pieces rest))) (or_left (is_line_end c) (list_any is_line_end cs) h)

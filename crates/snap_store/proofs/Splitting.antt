@@ -13,14 +13,7 @@ use Rattle.snap_store.specs.FileSplit.{pieces, is_fence, line_of, joined_lines, 
 use Rattle.snap_store.proofs.Pieces.{pieces-line}
 use Rattle.snap_store.proofs.LineEnds.{ended_by_feed}
 use Rattle.snap_store.proofs.Bodies.{body-headed}
-
-or_left : (a b : Bool) → (a || b) ≡ false → a ≡ false
-or_left true b h = h
-or_left false b h = refl
-
-or_right : (a b : Bool) → (a || b) ≡ false → b ≡ false
-or_right true b h = absurd (cc)
-or_right false b h = h
+use Rattle.snap_content.proofs.Booleans.{or_left, or_right}
 
 -- a line holds no LF, and ends in no CR
 unbroken_line : (line : List ℕ) → list_any is_break line ≡ false → IsUnbroken line

@@ -1,6 +1,10 @@
-//! Snapshots and their files, in the order in which a file is read: it is split into header and body, the header's
-//! fields are read as metadata, and both make a snapshot; a snapshot is saved the other way round. Files of the oldest
-//! format have no header; two fields stand in their first lines.
+//! Snapshots and their files: a file falls into header and body, the header's fields are read as metadata,
+//! and both make a snapshot; a snapshot is saved the other way round.
+//! Files of the oldest format have no header; two fields stand in their first lines.
+//!
+//! In the order in which data flows: `split` (header and body), `fields` and `metadata` (what the header tells), `legacy` (what
+//! a file without a header tells), `contents` (the body), `snapshot` and `reading` (all of it), `header` and `saving` (the way
+//! back), `laws`.
 #![tactic(auto)]
 
 pub mod contents;

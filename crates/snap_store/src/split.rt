@@ -8,7 +8,7 @@ ghost use Rattle.snap_content.specs.Lines.{lines_of, text_of, document_of};
 ghost use Rattle.snap_content.specs.Plain.{Plain};
 ghost use Rattle.snap_content.specs.Printed.{AreLines};
 
-use snap_content::characters::{is_same, split_first, split_last};
+use snap_content::characters::{before_rest, is_same, split_first, split_last};
 use snap_content::{OutOfMemory, Text};
 use snap_text::lines::split_line;
 use snap_text::normal::trimmed_text;
@@ -19,14 +19,6 @@ use std::alloc::Global;
 pub struct Headed {
     pub header: Text,
     pub body: Text,
-}
-
-/// What stands before the rest of a text.
-fn before_rest<'a>(text: &'a str, rest: &str) -> &'a str
-    requires { (cs : List ℕ) × (chars text.now ≡ cs ++ chars rest.now) }
-    ensures { (cs : List ℕ) → chars text.now ≡ cs ++ chars rest.now → chars result.now ≡ cs }
-{
-    &text[..text.len() - rest.len()]
 }
 
 /// The first line with its end, and what follows; none where nothing is left.

@@ -6,6 +6,7 @@ use Rattle.snap_content.specs.Printed.{IsLine, AreLines, is_break}
 use Rattle.snap_text.specs.Normal.{trimmed, normal}
 use Rattle.snap_text.proofs.Returns.{unreturned-free}
 use Rattle.snap_text.proofs.Trimming.{trimmed-well, trimmed-push, trimmed-behind}
+use Rattle.snap_content.proofs.Booleans.{or_left, or_right}
 
 -- a printed text, trimmed: it is not empty, and only its last line's end is gone
 pub record IsTrimmedLess (text : List ℕ) : Type 0 where
@@ -36,14 +37,6 @@ trimmed-lines line (next ∷ lines) h = further_line line (flat_map ended (next 
 -- no return stands in a printed text
 abbrev is_return : ℕ → Bool
 is_return c = c == 13
-
-or_left : (a b : Bool) → (a || b) ≡ false → a ≡ false
-or_left true b h = h
-or_left false b h = refl
-
-or_right : (a b : Bool) → (a || b) ≡ false → b ≡ false
-or_right true b h = absurd (cc)
-or_right false b h = h
 
 free-append : (xs ys : List ℕ) → list_any is_return xs ≡ false → list_any is_return ys ≡ false → list_any is_return (xs ++ ys) ≡ false
 free-append [] ys h k = k

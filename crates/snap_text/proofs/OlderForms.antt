@@ -6,10 +6,7 @@ use Rattle.snap_content.specs.Lines.{ended}
 use Rattle.snap_content.specs.Printed.{IsLine, begins_dashes, is_break}
 use Rattle.snap_text.specs.Normal.{normal}
 use Rattle.snap_text.specs.Legacy.{without_breaks, without_fence, legacy}
-
-or_left : (a b : Bool) → (a || b) ≡ false → a ≡ false
-or_left true b h = h
-or_left false b h = refl
+use Rattle.snap_content.proofs.Booleans.{or_left}
 
 or_swap : (a b : Bool) → (a || b) ≡ false → (b || a) ≡ false
 or_swap true b h = absurd (cc)

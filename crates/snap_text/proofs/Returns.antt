@@ -6,14 +6,7 @@ use Rattle.snap_content.specs.Quotes.{ends_badly}
 use Rattle.snap_text.specs.Normal.{unreturned, trimmed, normal}
 use Rattle.snap_text.specs.Lines.{is_line_end, IsUnbroken, IsLineThen, before_return, without_returns}
 use Rattle.snap_text.proofs.Trimming.{trimmed-well, well-trimmed}
-
-or_left : (a b : Bool) → (a || b) ≡ false → a ≡ false
-or_left true b h = h
-or_left false b h = refl
-
-or_right : (a b : Bool) → (a || b) ≡ false → b ≡ false
-or_right true b h = absurd (cc)
-or_right false b h = h
+use Rattle.snap_content.proofs.Booleans.{or_left, or_right}
 
 -- one step of `unreturned`
 abbrev stepped : ℕ → List ℕ → List ℕ

@@ -3,8 +3,8 @@ use Rattle.snap_content.specs.Plain.{Plain}
 use Rattle.snap_content.specs.View.{pair_trees}
 use Rattle.snap_assert.specs.Redactions.{redaction_of}
 use Rattle.snap_assert.specs.Requests.{redaction_in}
-use Rattle.snap_assert.proofs.RequestMade.{dict_of}
 use Rattle.snap_assert.proofs.redaction_items.read_redaction.Goals as goal
+use Rattle.snap_content.proofs.DictMade.{dict_of}
 
 pub returns-in-Map : goal.returns-in-Map
 returns-in-Map c = λ plain made.

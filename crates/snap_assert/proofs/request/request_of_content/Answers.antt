@@ -3,8 +3,8 @@ use Rattle.snap_content.specs.Plain.{Plain}
 use Rattle.snap_content.specs.View.{pair_trees}
 use Rattle.snap_assert.specs.RequestOf.{request_of}
 use Rattle.snap_assert.specs.Requests.{request_in}
-use Rattle.snap_assert.proofs.RequestMade.{dict_of}
 use Rattle.snap_assert.proofs.request.request_of_content.Goals as goal
+use Rattle.snap_content.proofs.DictMade.{dict_of}
 
 pub returns : goal.returns
 returns c = λ plain made.

@@ -1,6 +1,7 @@
 use Rattle.std.proofs.Common.{◌<◌, ◌^◌, suc, ◌∙◌, sym, arith}
-use Rattle.snap_plain.proofs.Signs.{signed_tree, some_same, none_some}
+use Rattle.snap_plain.proofs.Signs.{signed_tree, none_some}
 use Rattle.snap_plain.proofs.scalars.negative.Goals as goal
+use Rattle.snap_content.proofs.Booleans.{some_same}
 
 pub returns-in-None-below_zero : goal.returns-in-None-below_zero
 returns-in-None-below_zero c = λ n below is.

@@ -1,6 +1,6 @@
 use Rattle.std.proofs.Common.{ap, sym, ◌∙◌}
 use Rattle.snap_content.specs.View.{pair_trees}
-use Rattle.snap_store.proofs.Mapped.{dict_of}
+use Rattle.snap_content.proofs.DictMade.{dict_of}
 use Rattle.snap_store.proofs.fields.metadata_in.Goals as goal
 
 pub returns-in-None : goal.returns-in-None

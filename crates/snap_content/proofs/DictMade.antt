@@ -33,5 +33,5 @@ dict_made (p.text s) pairs e = absurd (cc)
 dict_made (p.list items) pairs e = absurd (cc)
 dict_made (p.dict held) pairs e = record { held = held; is = refl; made = cc }
 
-pub dict_of : (header : Content) (pairs : Pairs) (plain : p.Plain) → header ≡ Map pairs → tree header ≡ p.content_of plain → IsDict plain (pair_list pairs)
-dict_of header pairs plain is made = dict_made plain (pair_list pairs) (sym (tree-Map pairs) ∙ sym (ap tree is) ∙ made)
+pub dict_of : (content : Content) (pairs : Pairs) (plain : p.Plain) → content ≡ Map pairs → tree content ≡ p.content_of plain → IsDict plain (pair_list pairs)
+dict_of content pairs plain is made = dict_made plain (pair_list pairs) (sym (tree-Map pairs) ∙ sym (ap tree is) ∙ made)
