@@ -9,6 +9,7 @@ use Rattle.snap_assert.specs.Place.{PlaceView}
 use Rattle.snap_assert.specs.Judging.{May}
 use Rattle.snap_assert.specs.Steps.{Asked, asked_of, step, verdict_of, is_failure}
 use Rattle.snap_assert.specs.Requests.{RequestView}
+use Rattle.snap_assert.specs.declared.TheConstants.{USAGE, VERSION}
 use Rattle.snap_assert.specs.declared.config.Flags.{Flags}
 use Rattle.snap_assert.specs.declared.config.Update.{Update}
 use Rattle.snap_assert.specs.declared.config.Update.TheVariants.{InPlace, NewFile, NoUpdate}
@@ -62,6 +63,11 @@ said_of workspace None flags = None
 abbrev pub words_mean : List (List ℕ) → Option RunWords
 words_mean (command ∷ mode ∷ workspace ∷ flags) = if bytes_eq command (codes "run") then said_of workspace (mode_of mode) (flags_mean flags) else None
 words_mean _ = None
+
+-- the text that a word asks for, where it stands alone
+abbrev pub text_asked : List (List ℕ) → Option (List ℕ)
+text_asked (word ∷ []) = if bytes_eq word (codes "--help") then Some USAGE.now else if bytes_eq word (codes "--version") then Some VERSION.now else None
+text_asked _ = None
 
 -- a request is made in the workspace, with no function
 abbrev pub place_by : List ℕ → RequestView → PlaceView

@@ -1,10 +1,11 @@
 -- What a status says of a whole run.
-use Rattle.std.specs.Prelude.{◌≡◌, ◌⊎◌, ◌≤◌, ◌<◌, ◌-◌, ◌∷◌, ◌^◌, ℕ, Bool, true, false, List, [], length, Option, None, Some}
+use Rattle.std.specs.Prelude.{◌≡◌, ◌⊎◌, ◌≤◌, ◌<◌, ◌-◌, ◌∷◌, ◌++◌, ◌^◌, ℕ, Bool, true, false, List, [], length, Option, None, Some}
 use Rattle.snap_outside.specs.Causes.{Rose}
 use Rattle.snap_outside.specs.Files.{Files}
+use Rattle.snap_outside.specs.Streams.{HoldsFront}
 use Rattle.snap_assert.specs.Cut.{documents}
 use Rattle.snap_assert.specs.Requests.{RequestView, Spells}
-use Rattle.snap_assert.specs.Answers.{Answer, RunWords, words_mean, some_fails}
+use Rattle.snap_assert.specs.Answers.{Answer, RunWords, words_mean, text_asked, some_fails}
 use Rattle.snap_assert.specs.Runs.{Ran, Stops}
 use Rattle.snap_assert.specs.StatusOf.{status_of}
 use Rattle.snap_assert.specs.declared.documents.Stop.{Stop}
@@ -12,9 +13,20 @@ use Rattle.snap_assert.specs.declared.status.Status.{Status}
 use Rattle.snap_assert.specs.declared.status.Status.TheVariants.{AllPassed, SomeFailed, BadWords, BadRequest, Refused, FileIo, ReadFault, WriteFault, OutOfMemory, InputTooLong}
 
 -- `BadWords` exactly where the words say no run
+abbrev pub RunCause : List (List ℕ) → Status → Type 0
+RunCause words BadWords = words_mean words ≡ None
+RunCause words _ = (said : RunWords) × (words_mean words ≡ Some said)
+
+-- `BadWords` exactly where the words say no run and ask for no text
 abbrev pub WordsCause : List (List ℕ) → Status → Type 0
-WordsCause words BadWords = words_mean words ≡ None
-WordsCause words _ = (said : RunWords) × (words_mean words ≡ Some said)
+WordsCause words BadWords = (words_mean words ≡ None) × (text_asked words ≡ None)
+WordsCause words _ = ((said : RunWords) × (words_mean words ≡ Some said)) ⊎ ((text : List ℕ) × (text_asked words ≡ Some text))
+
+-- a text that was asked for was written, or a part of its front where the sink failed
+abbrev pub IsTold : List ℕ → Status → Option (List ℕ) → Option (List ℕ) → Type 0
+IsTold text AllPassed written written' = (w : List ℕ) → written ≡ Some w → written' ≡ Some (w ++ text)
+IsTold text WriteFault written written' = (w : List ℕ) → written ≡ Some w → HoldsFront text w written'
+IsTold text _ written written' = ⊥
 
 abbrev pub IsUnchanged : Option Files → Option Files → Option (List ℕ) → Option (List ℕ) → Type 0
 IsUnchanged files files' written written' = (files' ≡ files) × (written' ≡ written)

@@ -6,7 +6,7 @@
 //! `redaction_items` (what a document asks for); `config`, `settings`, `redactions` and `session` (with what), `place`,
 //! `file_path`, `front` and `paths` (where); `prepare`, `strays` and `look` (what is there), `settle` and `removal` (what is
 //! left); `engine` (one assertion), `outcome` and `error` (its answer); `runner`, `documents`, `program` and `status` (the
-//! whole run), `laws`.
+//! whole run), `usage` (what the program says of itself), `laws`.
 #![tactic(auto)]
 
 pub mod config;
@@ -34,6 +34,7 @@ mod settle;
 pub mod status;
 mod strays;
 mod streams;
+pub mod usage;
 mod words;
 
 pub use config::{Config, Flags, Update};
@@ -56,3 +57,5 @@ mod redaction_tests;
 mod row_tests;
 #[cfg(test)]
 mod tests;
+#[cfg(test)]
+mod usage_tests;

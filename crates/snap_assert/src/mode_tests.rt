@@ -254,6 +254,9 @@ fn other_words_are_wrong(rt: HostRuntime) -> Result<(), Fail> {
         "run new w --force --force-pass --force",
         "run --force new w",
         "demo",
+        "--help run",
+        "--version --version",
+        "run --help",
     ] {
         let mut store = SteadyStore::new(alloc);
         let (code, sink) = run_over(alloc, words, REQUEST, &mut store)?;

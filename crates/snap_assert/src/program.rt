@@ -1,8 +1,8 @@
 //! All that the program does.
 ghost use Rattle.std.specs.Prelude.{◌≡◌, ◌≤◌, ◌+◌, List, ℕ, None, Some, MatchOption, length, false};
 ghost use Rattle.snap_assert.specs.Cut.{documents};
-ghost use Rattle.snap_assert.specs.Answers.{RunWords, words_mean};
-ghost use Rattle.snap_assert.specs.Status.{WordsCause, RunsFrom, LengthCause, SourceCause, SinkCause, StoreCause, AreSpelled, IsSteady, EndsWell};
+ghost use Rattle.snap_assert.specs.Answers.{RunWords, words_mean, text_asked};
+ghost use Rattle.snap_assert.specs.Status.{RunCause, WordsCause, IsTold, RunsFrom, LengthCause, SourceCause, SinkCause, StoreCause, AreSpelled, IsSteady, EndsWell};
 ghost use Rattle.snap_assert.specs.StatusOf.{status_of};
 ghost use Rattle.snap_assert.specs.Streams.{TakesAtMost};
 
@@ -11,6 +11,7 @@ use crate::runner::Runner;
 use crate::session::Session;
 use crate::status::Status;
 use crate::streams::{MAX_INPUT, ReadError, read_all};
+use crate::usage::{tell, text_in};
 use crate::words::said_in;
 use snap_content::Text;
 use snap_outside::{Sink, Source, Store};
@@ -28,7 +29,7 @@ fn status_of(stop: Stop) -> Status
     }
 }
 
-/// What `run` does; its clauses are those of `run` but the last.
+/// What `run` does with words that ask for no text.
 fn run_words<S: Source, K: Sink, F: Store>(
     alloc: Global,
     words: &[Text],
@@ -36,7 +37,7 @@ fn run_words<S: Source, K: Sink, F: Store>(
     sink: &mut K,
     store: &mut F,
 ) -> Status
-    ensures words { WordsCause words.now result }
+    ensures words { RunCause words.now result }
     ensures runs { RunsFrom result (words_mean words.now) (S.left source.old)
         (F.files store.old) (F.files store.new) (K.written sink.old) (K.written sink.new) }
     ensures length { LengthCause MAX_INPUT (S.left source.old) (S.left source.new) result }
@@ -71,6 +72,8 @@ fn run_words<S: Source, K: Sink, F: Store>(
 /// approved snapshot, and `no` writes nothing; `--force` writes what passes too, and `--force-pass` lets no answer fail.
 /// The words are those of the command line, without the program's name. The line of a request is written before
 /// the next document runs, and the first refusal ends the run; what was done before stays.
+///
+/// `--help` and `--version`, each alone, write a text; then nothing is read and no file is touched.
 pub fn run<S: Source, K: Sink, F: Store>(
     alloc: Global,
     words: &[Text],
@@ -79,9 +82,11 @@ pub fn run<S: Source, K: Sink, F: Store>(
     store: &mut F,
 ) -> Status
     ensures words { WordsCause words.now result }
-    ensures runs { RunsFrom result (words_mean words.now) (S.left source.old)
+    ensures told { (text : List ℕ) → text_asked words.now ≡ Some text → IsTold text result (K.written sink.old) (K.written sink.new) }
+    ensures untouched { (text : List ℕ) → text_asked words.now ≡ Some text → (S.left source.new ≡ S.left source.old) × (F.files store.new ≡ F.files store.old) }
+    ensures runs { text_asked words.now ≡ None → RunsFrom result (words_mean words.now) (S.left source.old)
         (F.files store.old) (F.files store.new) (K.written sink.old) (K.written sink.new) }
-    ensures length { LengthCause MAX_INPUT (S.left source.old) (S.left source.new) result }
+    ensures length { text_asked words.now ≡ None → LengthCause MAX_INPUT (S.left source.old) (S.left source.new) result }
     ensures taken { TakesAtMost (MAX_INPUT + 1) (S.left source.old) (S.left source.new) }
     ensures read { SourceCause (S.faults source.old) (S.faults source.new) result }
     ensures write { SinkCause (K.faults sink.old) (K.faults sink.new) result }
@@ -91,5 +96,8 @@ pub fn run<S: Source, K: Sink, F: Store>(
         → IsSteady (S.faults source.old) (S.faults source.new) → IsSteady (K.faults sink.old) (K.faults sink.new) → IsSteady (F.faults store.old) (F.faults store.new)
         → EndsWell result }
 {
-    run_words(alloc, words, source, sink, store)
+    match text_in(words) {
+        Some(text) => tell(text, sink),
+        None => run_words(alloc, words, source, sink, store),
+    }
 }
