@@ -1,5 +1,5 @@
 -- A text without a slash is its own last part.
-use Rattle.std.proofs.Common.{◌≡◌, ◌==◌, ◌||◌, ℕ, Bool, true, false, cond, List, [], ◌∷◌, refl, ap, ◌∙◌}
+use Rattle.std.proofs.Common.{◌≡◌, ◌==◌, ℕ, Bool, true, false, cond, List, [], ◌∷◌, refl, ap, ◌∙◌}
 use Rattle.snap_assert.specs.Place.{holds_slash, last_part}
 use Rattle.snap_content.proofs.Booleans.{or_left, or_right}
 

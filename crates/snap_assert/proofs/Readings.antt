@@ -1,5 +1,5 @@
 -- One file is read in one way.
-use Rattle.std.proofs.Common.{◌≡◌, ℕ, true, false, List, Option, None, Some, drop, sym, ap, ◌∙◌, subst}
+use Rattle.std.proofs.Common.{◌≡◌, ℕ, true, false, List, Option, None, drop, sym, ap, ◌∙◌, subst}
 use Rattle.std.specs.Str.{chars, IsUtf8}
 use Rattle.snap_content.specs.Plain.{Plain, dict, Entries}
 use Rattle.snap_content.specs.Lines.{document_of, text_of}

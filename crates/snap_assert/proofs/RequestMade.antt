@@ -1,12 +1,10 @@
 -- The request that the pairs of a map are.
-use Rattle.std.proofs.Common.{◌≡◌, ℕ, ◌^◌, ℤ, pos, negsuc, Bool, true, false, cond, nat_lt, List, [], ◌∷◌, length, Option, None, Some, option_map, refl, ap, sym, ◌∙◌, codes, arith}
+use Rattle.std.proofs.Common.{◌≡◌, ℕ, true, cond, List, [], ◌∷◌, length, Option, None, Some, option_map, refl, ap, sym, ◌∙◌, codes, arith}
 use Rattle.snap_content.specs.Plain as p
 use Rattle.snap_content.specs.Plain.{Plain, Entries, dict}
 use Rattle.snap_content.specs.Tree as t
-use Rattle.snap_content.specs.View.{tree, pair_trees, pair_list}
-use Rattle.snap_content.specs.declared.content.Content.{Content, Map}
-use Rattle.snap_content.specs.declared.lists.Pairs.{Pairs}
-use Rattle.snap_content.proofs.Views.{tree-Map}
+use Rattle.snap_content.specs.View.{pair_trees}
+use Rattle.snap_content.specs.declared.content.Content.{Content}
 use Rattle.snap_store.specs.Fields.{last_value, text_value, line_value}
 use Rattle.snap_assert.specs.Place.{names_file}
 use Rattle.std.specs.Str.{IsUtf8, chars}

@@ -2,11 +2,10 @@
 use Rattle.std.proofs.Common.{◌≡◌, ℕ, List, Bool, true, false, cond, Option, None, Some, refl, sym, ap, ◌∙◌, codes}
 use Rattle.snap_content.specs.Plain as p
 use Rattle.snap_content.specs.Plain.{Plain, dict, Entries}
-use Rattle.snap_content.specs.Lines.{document_of, text_of}
+use Rattle.snap_content.specs.Lines.{document_of}
 use Rattle.snap_content.specs.Readable.{IsReadable}
 use Rattle.snap_plain.proofs.Injective.{texts_same}
 use Rattle.std.specs.Str.{chars}
-use Rattle.std.proofs.Common.{drop}
 use Rattle.snap_store.specs.Fields.{last_value, text_value, line_value}
 use Rattle.snap_assert.specs.Place.{names_file}
 use Rattle.snap_assert.specs.Requests.{RequestView, Spells, ReadsAs, needed, request_keys, redactions_from, request_from, request_in, is_keyed}

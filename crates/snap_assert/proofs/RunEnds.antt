@@ -1,18 +1,18 @@
 -- What the program's run comes to.
 use Rattle.std.proofs.Common.{◌≡◌, ◌<◌, ◌≤◌, ℕ, Bool, true, false, List, Option, None, Some, refl, sym, ap, ◌∙◌, subst, inl, inr, length, arith}
 use Rattle.snap_outside.specs.Files.{Files}
-use Rattle.snap_assert.specs.Answers.{RunWords, words_mean, text_asked}
+use Rattle.snap_assert.specs.Answers.{RunWords, words_mean}
 use Rattle.snap_assert.specs.Cut.{documents}
 use Rattle.snap_assert.specs.Runner.{words_of}
 use Rattle.snap_assert.specs.Runs.{Stops}
-use Rattle.snap_assert.specs.Status.{RunCause, WordsCause, IsTold, Ended, RunsTo, RunsBy, RunsFrom, LengthCause, SourceCause, SinkCause, StoreCause, AreSpelled, IsSteady, EndsWell}
+use Rattle.snap_assert.specs.Status.{RunCause, Ended, RunsTo, RunsBy, RunsFrom, LengthCause, SourceCause, SinkCause, StoreCause, AreSpelled, IsSteady, EndsWell}
 use Rattle.snap_assert.specs.StatusOf.{status_at, status_of}
 use Rattle.snap_assert.specs.declared.documents.DocumentError.{DocumentError}
 use Rattle.snap_assert.specs.declared.documents.DocumentError.TheVariants as error
 use Rattle.snap_assert.specs.declared.documents.Stop.{Stop}
 use Rattle.snap_assert.specs.declared.runner.Runner.{Runner}
 use Rattle.snap_assert.specs.declared.status.Status.{Status}
-use Rattle.snap_assert.specs.declared.status.Status.TheVariants.{AllPassed, SomeFailed, BadWords, BadRequest, Refused, FileIo, ReadFault, WriteFault, OutOfMemory, InputTooLong}
+use Rattle.snap_assert.specs.declared.status.Status.TheVariants.{AllPassed, SomeFailed, BadWords, ReadFault, OutOfMemory, InputTooLong}
 use Rattle.snap_assert.proofs.Statuses.{before_all}
 use Rattle.snap_assert.proofs.Completeness.{ends_well, not_rose}
 
@@ -93,60 +93,3 @@ complete status words limit left left' sb sn kb kn fb fn f g w v by_words run by
     (λ e. not_rose sb sn source (subst (SourceCause sb sn) e by_source))
     (λ e. not_rose kb kn sink (subst (SinkCause kb kn) e by_sink))
     (λ e. let long : (xs : List ℕ) → left ≡ Some xs → limit < length xs = subst (LengthCause limit left left') e by_length in absurd (omega (arith, long input told, within)))
-
--- words that say a run ask for no text
-pub one_or_other : (words : List (List ℕ)) (said : RunWords) (text : List ℕ) → words_mean words ≡ Some said → text_asked words ≡ Some text → ⊥
-one_or_other [] said text h k = cc
-one_or_other (word ∷ []) said text h k = cc
-one_or_other (word ∷ next ∷ more) said text h k = cc
-
--- a text that was asked for is no cause of wrong words
-pub told_cause : (words : List (List ℕ)) (text : List ℕ) (status : Status) (w v : Option (List ℕ)) → text_asked words ≡ Some text → IsTold text status w v → WordsCause words status
-told_cause words text AllPassed w v is told = inr (text, is)
-told_cause words text WriteFault w v is told = inr (text, is)
-told_cause words text SomeFailed w v is told = absurd told
-told_cause words text BadWords w v is told = absurd told
-told_cause words text (BadRequest n) w v is told = absurd told
-told_cause words text (Refused n kind) w v is told = absurd told
-told_cause words text (FileIo n path) w v is told = absurd told
-told_cause words text ReadFault w v is told = absurd told
-told_cause words text OutOfMemory w v is told = absurd told
-told_cause words text InputTooLong w v is told = absurd told
-
--- where no text was asked for the words are those of a run, or wrong
-pub run_cause : (words : List (List ℕ)) (status : Status) → text_asked words ≡ None → RunCause words status → WordsCause words status
-run_cause words BadWords none h = (h, none)
-run_cause words AllPassed none h = inl h
-run_cause words WriteFault none h = inl h
-run_cause words SomeFailed none h = inl h
-run_cause words (BadRequest n) none h = inl h
-run_cause words (Refused n kind) none h = inl h
-run_cause words (FileIo n path) none h = inl h
-run_cause words ReadFault none h = inl h
-run_cause words OutOfMemory none h = inl h
-run_cause words InputTooLong none h = inl h
-
--- a text that was told leaves the counts of the source and the store
-pub told_source : (n : ℕ) (text : List ℕ) (status : Status) (w v : Option (List ℕ)) → IsTold text status w v → SourceCause n n status
-told_source n text AllPassed w v told = refl
-told_source n text WriteFault w v told = refl
-told_source n text SomeFailed w v told = absurd told
-told_source n text BadWords w v told = absurd told
-told_source n text (BadRequest k) w v told = absurd told
-told_source n text (Refused k kind) w v told = absurd told
-told_source n text (FileIo k path) w v told = absurd told
-told_source n text ReadFault w v told = absurd told
-told_source n text OutOfMemory w v told = absurd told
-told_source n text InputTooLong w v told = absurd told
-
-pub told_store : (n : ℕ) (text : List ℕ) (status : Status) (w v : Option (List ℕ)) → IsTold text status w v → StoreCause n n status
-told_store n text AllPassed w v told = refl
-told_store n text WriteFault w v told = refl
-told_store n text SomeFailed w v told = absurd told
-told_store n text BadWords w v told = absurd told
-told_store n text (BadRequest k) w v told = absurd told
-told_store n text (Refused k kind) w v told = absurd told
-told_store n text (FileIo k path) w v told = absurd told
-told_store n text ReadFault w v told = absurd told
-told_store n text OutOfMemory w v told = absurd told
-told_store n text InputTooLong w v told = absurd told

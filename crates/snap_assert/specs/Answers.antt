@@ -9,7 +9,7 @@ use Rattle.snap_assert.specs.Place.{PlaceView}
 use Rattle.snap_assert.specs.Judging.{May}
 use Rattle.snap_assert.specs.Steps.{Asked, asked_of, step, verdict_of, is_failure}
 use Rattle.snap_assert.specs.Requests.{RequestView}
-use Rattle.snap_assert.specs.declared.TheConstants.{USAGE, VERSION}
+use Rattle.snap_assert.specs.declared.usage.TheConstants.{USAGE, VERSION}
 use Rattle.snap_assert.specs.declared.config.Flags.{Flags}
 use Rattle.snap_assert.specs.declared.config.Update.{Update}
 use Rattle.snap_assert.specs.declared.config.Update.TheVariants.{InPlace, NewFile, NoUpdate}

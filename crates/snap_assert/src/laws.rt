@@ -3,7 +3,7 @@ ghost use Rattle.std.specs.Prelude.{◌≡◌, ◌++◌, ◌∷◌, ℕ, List, [
 ghost use Rattle.std.specs.List.{concat};
 ghost use Rattle.snap_content.specs.Plain.{Entries};
 ghost use Rattle.snap_store.specs.Fields.{is_binary};
-ghost use Rattle.snap_assert.specs.Answers.{Answer, RunWords, some_fails};
+ghost use Rattle.snap_assert.specs.Answers.{Answer, RunWords, some_fails, text_asked};
 ghost use Rattle.snap_assert.specs.Cut.{documents};
 ghost use Rattle.snap_assert.specs.Judging.{says_binary};
 ghost use Rattle.snap_assert.specs.Place.{PlaceView, holds_slash, last_part};
@@ -40,5 +40,6 @@ pub const fn worked_examples()
     ensures stays { (settings : SettingsView) (session : SessionView) (name : List ℕ) → (name_step settings session name).session ≡ session }
     ensures path { (place : PlaceView) → path_of new_settings (record place { workspace = codes "w"; function = []; module_name = codes "m"; file = codes "src/a.rs" }) (codes "one")
         ≡ codes "w/src/snapshots/m__one.snap" }
+    ensures version { text_asked (codes "--version" ∷ []) ≡ Some (codes "snap 0.1.0\n") }
     ensures cut { documents (codes "a: 1\n---\nb\n ---\n---\r\nc") ≡ codes "a: 1\n" ∷ codes "---\nb\n ---\n" ∷ codes "---\r\nc" ∷ [] }
 {}

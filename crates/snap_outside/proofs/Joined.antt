@@ -1,11 +1,11 @@
 -- A name of one component, and its path in a folder.
-use Rattle.std.proofs.Common.{◌≡◌, ◌≢◌, ◌==◌, ℕ, Bool, true, false, not, cond, ◌&&◌, ◌||◌, List, [], ◌∷◌, ◌++◌, length, drop, refl, sym, ◌∙◌, ap, subst, append_assoc}
+use Rattle.std.proofs.Common.{◌≡◌, ◌≢◌, ◌==◌, ℕ, Bool, true, false, not, ◌&&◌, List, [], ◌∷◌, ◌++◌, length, drop, refl, sym, ◌∙◌, ap, subst}
 use Rattle.std.proofs.Math.Seq.{drop-append_seam}
 use Rattle.std.proofs.lemmas.Str.{chars-append, encodes-append, encodes-chars}
 use Rattle.std.specs.Prelude.{IsTrue, ◌↔◌}
-use Rattle.std.specs.List.{list_any, filter}
+use Rattle.std.specs.List.{list_any}
 use Rattle.std.specs.Str.{bytes_eq, chars, IsUtf8}
-use Rattle.snap_path.specs.Paths.{attached, between_slashes, is_component, components, is_absolute, slashed, path_of_parts, joined, IsName, front_behind, front_of}
+use Rattle.snap_path.specs.Paths.{is_component, IsName}
 use lib.Utf8.{encodes}
 use Rattle.snap_content.proofs.Booleans.{not_true}
 use Rattle.snap_path.proofs.Joining.{name-from-parts, name-parts}

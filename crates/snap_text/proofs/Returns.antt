@@ -1,5 +1,5 @@
 -- Texts without the returns in front of a line's end.
-use Rattle.std.proofs.Common.{◌≡◌, ◌≢◌, ◌==◌, ℕ, List, [], ◌∷◌, ◌++◌, Bool, true, false, ◌&&◌, ◌||◌, cond, refl, sym, ap, ◌∙◌, append_assoc, true-eqb}
+use Rattle.std.proofs.Common.{◌≡◌, ◌≢◌, ◌==◌, ℕ, List, [], ◌∷◌, ◌++◌, Bool, true, false, ◌&&◌, cond, refl, sym, ap, ◌∙◌, append_assoc, true-eqb}
 use Rattle.std.specs.List.{list_any}
 use Rattle.snap_content.specs.Front.{begins}
 use Rattle.snap_content.specs.Quotes.{ends_badly}
