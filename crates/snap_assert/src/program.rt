@@ -83,7 +83,7 @@ pub fn run<S: Source, K: Sink, F: Store>(
 ) -> Status
     ensures words { WordsCause words.now result }
     ensures told { (text : List ℕ) → text_asked words.now ≡ Some text → IsTold text result (K.written sink.old) (K.written sink.new) }
-    ensures untouched { (text : List ℕ) → text_asked words.now ≡ Some text → (S.left source.new ≡ S.left source.old) × (F.files store.new ≡ F.files store.old) }
+    ensures untouched { (text : List ℕ) → text_asked words.now ≡ Some text → (source.new ≡ source.old) × (store.new ≡ store.old) }
     ensures runs { text_asked words.now ≡ None → RunsFrom result (words_mean words.now) (S.left source.old)
         (F.files store.old) (F.files store.new) (K.written sink.old) (K.written sink.new) }
     ensures length { text_asked words.now ≡ None → LengthCause MAX_INPUT (S.left source.old) (S.left source.new) result }
