@@ -5,9 +5,7 @@ use std::alloc::Global;
 
 /// What assertions remember from one to the next. Nothing is kept yet: names are given, and no block is open.
 #[derive(Debug, Drop)]
-pub struct Session {
-    is_new: bool,
-}
+pub struct Session(());
 
 impl Session {
     ghost use Rattle.snap_assert.specs.Session.{session_of, empty_session};
@@ -16,6 +14,6 @@ impl Session {
     pub fn new(_alloc: Global) -> Session
         ensures { session_of result ≡ empty_session }
     {
-        Session { is_new: true }
+        Session(())
     }
 }
