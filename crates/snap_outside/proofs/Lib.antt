@@ -1,4 +1,6 @@
+mod Asking
 pub mod Entries
 mod Joined
+mod LastMark
 mod Folders
 pub mod Unchanged

@@ -1,5 +1,6 @@
 -- What is seen of the objects over the system.
 use Rattle.std.specs.Prelude.{ℕ}
+use Rattle.snap_outside.specs.Calls.{History}
 use Rattle.snap_outside.specs.declared.folder.FolderStore.{FolderStore}
 use Rattle.snap_outside.specs.declared.stream.StreamSource.{StreamSource}
 use Rattle.snap_outside.specs.declared.stream.StreamSink.{StreamSink}
@@ -7,6 +8,10 @@ use Rattle.snap_outside.specs.declared.stream.StreamSink.{StreamSink}
 -- R is the runtime, and the others are its own types
 abbrev pub store_faults : {R A B C D : Type 0} → FolderStore R A B C D → ℕ
 store_faults store = store.faults
+
+-- what the store asked of the file system
+abbrev pub store_asked : {R A B C D : Type 0} → FolderStore R A B C D → History
+store_asked store = store.disk.record.calls
 
 abbrev pub source_faults : {R : Type 0} → StreamSource R → ℕ
 source_faults source = source.faults

@@ -1,7 +1,12 @@
 pub mod Adapters
+pub mod Beside
+pub mod Calls
 pub mod Causes
+pub mod Disks
 pub mod Files
 pub mod Held
 pub mod Listed
+pub mod Operations
 pub mod Schedules
 pub mod Streams
+pub mod Told

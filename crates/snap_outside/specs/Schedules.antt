@@ -22,9 +22,13 @@ calls_so_far s = s.calls
 abbrev pub faults_so_far : Schedule → ℕ
 faults_so_far s = s.faults
 
+-- the next number, up to the largest
+abbrev pub one_more : ℕ → ℕ
+one_more n = min (n + 1) (2 ^ 64 - 1)
+
 -- the number of the next call, from 1 on
 abbrev pub next_call : Schedule → ℕ
-next_call s = min (calls_so_far s + 1) (2 ^ 64 - 1)
+next_call s = one_more (calls_so_far s)
 
 -- whether the next call is one of those that fail
 abbrev pub fails_next : Schedule → Bool

@@ -3,16 +3,22 @@
 //! Beside the traits stand the forms in memory, and the adapters over real streams and folders.
 //!
 //! In the order in which data flows: `outside` (the traits), `names`, `files`, `pieces` and `schedule` (what the forms are made
-//! of), `steady` and `memory` (forms that tell all, without and with faults), `listing`, `folder` and `stream` (the real ones).
+//! of), `steady` and `memory` (forms that tell all, without and with faults), `listing`, and the real ones: `call` and `record`
+//! (what was asked of the file system), `folder_entries`, `disk`, `beside`, `folder` and `stream`.
 #![tactic(auto)]
 
+mod beside;
+mod call;
+mod disk;
 pub mod files;
 pub mod folder;
+mod folder_entries;
 mod listing;
 pub mod memory;
 pub mod names;
 pub mod outside;
 mod pieces;
+mod record;
 pub mod schedule;
 pub mod steady;
 pub mod stream;

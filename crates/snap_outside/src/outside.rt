@@ -28,6 +28,17 @@ pub enum StoreError {
     OutOfMemory,
 }
 
+impl From<Fault> for StoreError {
+    ghost use Rattle.std.specs.Prelude.{◌≡◌};
+    ghost use Rattle.snap_outside.specs.declared.outside.StoreError.TheVariants.{Failed};
+
+    ghost from_gives = { λ _ e. e ≡ Failed };
+
+    fn from(_: Fault) -> Self {
+        StoreError::Failed
+    }
+}
+
 impl From<OutOfMemory> for StoreError {
     ghost use Rattle.std.specs.Prelude.{◌≡◌};
     ghost use Rattle.snap_outside.specs.declared.outside.StoreError.TheVariants.{OutOfMemory};

@@ -2,7 +2,7 @@
 ghost use Rattle.std.specs.Prelude.{◌≡◌, IsTrue};
 ghost use Rattle.std.specs.Bool.{OnTrue, OnFalse};
 ghost use Rattle.snap_outside.specs.Causes.{Rose};
-ghost use Rattle.snap_outside.specs.Schedules.{listed_calls, calls_so_far, faults_so_far, fails_next, Counts, IsFresh, ListsCalls};
+ghost use Rattle.snap_outside.specs.Schedules.{listed_calls, calls_so_far, faults_so_far, fails_next, one_more, Counts, IsFresh, ListsCalls};
 
 /// The calls that fail by their numbers, from 1 on, and the counts of calls and of faults so far.
 #[derive(Drop)]
@@ -36,6 +36,7 @@ impl Schedule {
         ensures listed { result ≡ fails_next self.old }
         ensures counts { Counts self.old self.new }
         ensures fails { OnTrue result (Rose (faults_so_far self.old) (faults_so_far self.new)) }
+        ensures one { OnTrue result (faults_so_far self.new ≡ one_more (faults_so_far self.old)) }
         ensures goes_on { OnFalse result (faults_so_far self.new ≡ faults_so_far self.old) }
     {
         self.calls = self.calls.saturating_add(1);
@@ -52,6 +53,7 @@ impl Schedule {
     /// Raises the count of faults.
     pub fn fault(&mut self)
         ensures rose { Rose (faults_so_far self.old) (faults_so_far self.new) }
+        ensures one { faults_so_far self.new ≡ one_more (faults_so_far self.old) }
         ensures calls { calls_so_far self.new ≡ calls_so_far self.old }
         ensures listed { listed_calls self.new ≡ listed_calls self.old }
     {

@@ -1,7 +1,9 @@
 //! The store over real files, and over a folder whose names no real path can spell here.
 use super::{Call, after_call, assert_steps, text};
-use crate::folder::{helper_of, list_folder};
-use crate::{FolderStore, StoreError};
+use crate::beside::helper_of;
+use crate::disk::Disk;
+use crate::folder::list_folder;
+use crate::{FolderStore, Names, StoreError};
 use std::alloc::{Allocator, Global};
 use std::fs::{Files, Metadata, OpenOptions};
 use std::io::ErrorKind;
@@ -178,6 +180,14 @@ impl Files for OneFolder {
     }
 }
 
+fn names_in<R: Files + Alloc + Clone + Drop>(
+    files: R,
+    alloc: Global,
+    most: usize,
+) -> Result<Names, StoreError> {
+    list_folder(&mut Disk::new(files), alloc, "w", most)
+}
+
 #[test]
 fn names_that_are_no_text_are_skipped(rt: HostRuntime) -> Result<(), Fail> {
     let alloc = rt.alloc();
@@ -185,11 +195,11 @@ fn names_that_are_no_text_are_skipped(rt: HostRuntime) -> Result<(), Fail> {
         alloc,
         names: b"a\0\xff.snap\0.\0..\0b\0",
     };
-    let names = list_folder(&files, alloc, "w", 2)?.into_vec();
+    let names = names_in(files, alloc, 2)?.into_vec();
     assert_eq!(rt; names.len(), 2);
     for (name, want) in names.as_slice().iter().zip(["a", "b"]) {
         assert_eq!(rt; name.as_str(), want);
     }
-    assert!(rt; matches!(list_folder(&files, alloc, "w", 1), Err(StoreError::Failed)));
+    assert!(rt; matches!(names_in(files, alloc, 1), Err(StoreError::Failed)));
     Ok(())
 }
