@@ -186,6 +186,8 @@ fn texts(rt: HostRuntime) -> Result<(), Fail> {
         assert_eq!(rt; printed.as_str(), wanted);
         let again = header_again(&rt, alloc, wanted)?;
         assert_eq!(rt; again.as_str(), wanted);
+        let made = parse_str(alloc, wanted, &Text::empty())?;
+        assert_eq!(rt; made.as_str(), Some(text));
     }
     Ok(())
 }
