@@ -6,6 +6,7 @@ ghost use Rattle.snap_content.specs.Printed.{AreLines};
 ghost use Rattle.snap_content.specs.Readable.{IsReadable, IsWithin, is_word};
 ghost use Rattle.snap_content.specs.Spell.{spelling};
 ghost use Rattle.snap_content.specs.Typed.{typed, value};
+ghost use Rattle.snap_emit.specs.Examples.{AreMarkedNumbers, AreWords, AreWholeNumbers, AreReal, AreTexts};
 
 /// No line of a printed text is empty, holds a line's end, ends in white space or begins with two dashes.
 pub const fn printed_lines_are_lines()
@@ -20,4 +21,13 @@ pub const fn one_text_is_one_tree()
 /// A scalar that is written without double quotes is what a reader takes its spelling for.
 pub const fn words_are_typed()
     ensures { (t : Plain) → is_word t ≡ true → IsWithin t → typed (spelling t) ≡ value t }
+{}
+
+/// What a reader takes bare words for, worked out by hand.
+pub const fn worked_examples()
+    ensures marked { AreMarkedNumbers }
+    ensures words { AreWords }
+    ensures whole { AreWholeNumbers }
+    ensures real { AreReal }
+    ensures texts { AreTexts }
 {}
