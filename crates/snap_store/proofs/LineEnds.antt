@@ -1,16 +1,13 @@
 -- A piece and its line's end.
 use Rattle.std.proofs.Common.{◌≡◌, ◌==◌, ℕ, List, [], ◌∷◌, ◌++◌, Bool, true, false, ◌&&◌, cond, refl, sym, ap, ◌∙◌, true-eqb}
+use Rattle.std.proofs.lemmas.Bool.{and_parts}
 use Rattle.snap_store.specs.FileSplit.{is_end, line_of}
-
-and_right : (a b : Bool) → (a && b) ≡ true → b ≡ true
-and_right true b h = h
-and_right false b h = absurd (cc)
 
 -- a line's end ends in LF
 end_feeds : (text : List ℕ) → is_end text ≡ true → (cs : List ℕ) × (text ≡ cs ++ 10 ∷ [])
 end_feeds [] h = absurd (cc)
 end_feeds (c ∷ []) h = ([], ap (λ x. x ∷ []) (true-eqb c 10 (sym h)))
-end_feeds (c ∷ d ∷ []) h = (c ∷ [], ap (λ x. c ∷ x ∷ []) (true-eqb d 10 (sym (and_right (c == 13) (d == 10) h))))
+end_feeds (c ∷ d ∷ []) h = (c ∷ [], ap (λ x. c ∷ x ∷ []) (true-eqb d 10 (sym (and_parts (c == 13) (d == 10) h).1)))
 end_feeds (c ∷ d ∷ e ∷ cs) h = absurd (cc)
 
 pub unended : (piece : List ℕ) → ((cs : List ℕ) → piece ≡ cs ++ 10 ∷ [] → ⊥) → line_of piece ≡ piece
