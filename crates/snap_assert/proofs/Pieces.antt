@@ -2,7 +2,7 @@
 use Rattle.std.proofs.Common.{◌≡◌, ℕ, ◌+◌, ◌<◌, ◌≤◌, List, [], ◌∷◌, ◌++◌, length, take, drop, Option, Some, refl, sym, ◌∙◌, ap, arith, append_assoc, length-append}
 use Rattle.std.proofs.lemmas.List.{length-take-le, length-drop}
 use Rattle.snap_outside.specs.Streams.{GivesFront}
-use Rattle.snap_assert.specs.Streams.{TakesPiece, TakesAtMost}
+use Rattle.snap_assert.specs.Streams.{TakesPiece, TakesAtMost, TakesExactly}
 
 -- these bytes were read of what was left first
 pub record IsRead (bytes : List ℕ) (first now : Option (List ℕ)) : Type 0 where
@@ -45,8 +45,9 @@ all_read count bytes next first now later xs none t ended r e =
       nothing_left = after.told ∙ ap Some rest;
     }
 
-pub as_long : (bytes : List ℕ) (first now : Option (List ℕ)) (xs : List ℕ) → IsRead bytes first now → first ≡ Some xs → length bytes ≤ length xs
-as_long bytes first now xs r e = let before = r.each xs e in omega (arith, ap length before.whole, length-append bytes before.rest)
+-- what was taken exactly was there
+pub exactly_long : (count : ℕ) (left left' : Option (List ℕ)) (xs : List ℕ) → TakesExactly count left left' → left ≡ Some xs → count ≤ length xs
+exactly_long count left left' xs t e = let gone = t xs e in omega (arith, ap length gone.given.whole, length-append gone.front gone.given.rest, gone.size)
 
 -- what one read gave
 pub taken : (count : ℕ) (buffer piece bytes next : List ℕ) (left left' : Option (List ℕ)) → count ≤ length buffer → piece ≡ take count buffer → next ≡ bytes ++ piece
@@ -80,6 +81,16 @@ piece_taken count buffer before left left' fits same given = λ xs e. record {
 
 pub all_taken : (most : ℕ) (bytes : List ℕ) (first now : Option (List ℕ)) → IsRead bytes first now → length bytes ≤ most → TakesAtMost most first now
 all_taken most bytes first now r within = λ xs e. record { front = bytes; given = r.each xs e; within = within }
+
+-- after a fault there is left what was left before
+pub fault_taken : (most : ℕ) (bytes : List ℕ) (first now later : Option (List ℕ)) → IsRead bytes first now → later ≡ now → length bytes ≤ most → TakesAtMost most first later
+fault_taken most bytes first now later r kept within = λ xs e.
+    let before = r.each xs e in
+    record { front = bytes; given = record { rest = before.rest; told = kept ∙ before.told; whole = before.whole }; within = within }
+
+-- all that was read was taken
+pub taken_exactly : (count : ℕ) (bytes : List ℕ) (first now : Option (List ℕ)) → IsRead bytes first now → length bytes ≡ count → TakesExactly count first now
+taken_exactly count bytes first now r size = λ xs e. record { front = bytes; given = r.each xs e; size = size }
 
 pub taken_then : (most room : ℕ) (bytes : List ℕ) (first now later : Option (List ℕ)) → IsRead bytes first now → TakesAtMost room now later → length bytes + room ≤ most → TakesAtMost most first later
 taken_then most room bytes first now later r t within = λ xs e.

@@ -1,5 +1,5 @@
 -- What the program's run comes to.
-use Rattle.std.proofs.Common.{◌≡◌, ◌<◌, ◌≤◌, ℕ, Bool, true, false, List, Option, None, Some, refl, sym, ap, ◌∙◌, subst, inl, inr, length, arith}
+use Rattle.std.proofs.Common.{◌≡◌, ◌<◌, ◌≤◌, ◌+◌, ℕ, Bool, true, false, List, Option, None, Some, refl, sym, ap, ◌∙◌, subst, inl, inr, length, arith}
 use Rattle.snap_outside.specs.Files.{Files}
 use Rattle.snap_assert.specs.Answers.{RunWords, words_mean}
 use Rattle.snap_assert.specs.Cut.{documents}
@@ -7,6 +7,7 @@ use Rattle.snap_assert.specs.Runner.{words_of}
 use Rattle.snap_assert.specs.Runs.{Stops}
 use Rattle.snap_assert.specs.Status.{RunCause, Ended, RunsTo, RunsBy, RunsFrom, LengthCause, SourceCause, SinkCause, StoreCause, AreSpelled, IsSteady, EndsWell}
 use Rattle.snap_assert.specs.StatusOf.{status_at, status_of}
+use Rattle.snap_assert.specs.Streams.{TakesExactly}
 use Rattle.snap_assert.specs.declared.documents.DocumentError.{DocumentError}
 use Rattle.snap_assert.specs.declared.documents.DocumentError.TheVariants as error
 use Rattle.snap_assert.specs.declared.documents.Stop.{Stop}
@@ -15,6 +16,7 @@ use Rattle.snap_assert.specs.declared.status.Status.{Status}
 use Rattle.snap_assert.specs.declared.status.Status.TheVariants.{AllPassed, SomeFailed, BadWords, ReadFault, OutOfMemory, InputTooLong}
 use Rattle.snap_assert.proofs.Statuses.{before_all}
 use Rattle.snap_assert.proofs.Completeness.{ends_well, not_rose}
+use Rattle.snap_assert.proofs.Pieces.{exactly_long}
 
 -- where the run stops before any document nothing is changed
 pub bad_words : (words : Option RunWords) (left : Option (List ℕ)) (f : Option Files) (w : Option (List ℕ)) → RunsFrom BadWords words left f f w w
@@ -92,4 +94,4 @@ complete status words limit left left' sb sn kb kn fb fn f g w v by_words run by
     (λ n p e. not_rose fb fn store (subst (StoreCause fb fn) e by_store))
     (λ e. not_rose sb sn source (subst (SourceCause sb sn) e by_source))
     (λ e. not_rose kb kn sink (subst (SinkCause kb kn) e by_sink))
-    (λ e. let long : (xs : List ℕ) → left ≡ Some xs → limit < length xs = subst (LengthCause limit left left') e by_length in absurd (omega (arith, long input told, within)))
+    (λ e. let long : TakesExactly (limit + 1) left left' = subst (LengthCause limit left left') e by_length in absurd (omega (arith, exactly_long (limit + 1) left left' input long told, within)))

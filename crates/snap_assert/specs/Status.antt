@@ -1,5 +1,5 @@
 -- What a status says of a whole run.
-use Rattle.std.specs.Prelude.{◌≡◌, ◌⊎◌, ◌≤◌, ◌<◌, ◌-◌, ◌∷◌, ◌++◌, ◌^◌, ℕ, Bool, true, false, List, [], length, Option, None, Some}
+use Rattle.std.specs.Prelude.{◌≡◌, ◌⊎◌, ◌≤◌, ◌<◌, ◌-◌, ◌+◌, ◌∷◌, ◌++◌, ◌^◌, ℕ, Bool, true, false, List, [], length, Option, None, Some}
 use Rattle.snap_outside.specs.Causes.{Rose}
 use Rattle.snap_outside.specs.Files.{Files}
 use Rattle.snap_outside.specs.Streams.{HoldsFront}
@@ -8,6 +8,7 @@ use Rattle.snap_assert.specs.Requests.{RequestView, Spells}
 use Rattle.snap_assert.specs.Answers.{Answer, RunWords, words_mean, text_asked, some_fails}
 use Rattle.snap_assert.specs.Runs.{Ran, Stops}
 use Rattle.snap_assert.specs.StatusOf.{status_of}
+use Rattle.snap_assert.specs.Streams.{TakesAtMost, TakesExactly}
 use Rattle.snap_assert.specs.declared.documents.Stop.{Stop}
 use Rattle.snap_assert.specs.declared.status.Status.{Status}
 use Rattle.snap_assert.specs.declared.status.Status.TheVariants.{AllPassed, SomeFailed, BadWords, BadRequest, Refused, FileIo, ReadFault, WriteFault, OutOfMemory, InputTooLong}
@@ -72,8 +73,8 @@ pub record IsReadToEnd (limit : ℕ) (left left' : Option (List ℕ)) : Type 0 w
   pub within : (xs : List ℕ) → left ≡ Some xs → length xs ≤ limit
   pub nothing_left : (xs : List ℕ) → left ≡ Some xs → left' ≡ Some []
 
--- `InputTooLong` only where the source has more bytes left than the limit; where a document was reached the source was
--- read to its end within the limit
+-- by what the source gave: `InputTooLong` where that was the limit and one byte more, and a fault of a read within the
+-- limit; where a document was reached the source was read to its end within the limit
 abbrev pub LengthCause : ℕ → Option (List ℕ) → Option (List ℕ) → Status → Type 0
 LengthCause limit left left' AllPassed = IsReadToEnd limit left left'
 LengthCause limit left left' SomeFailed = IsReadToEnd limit left left'
@@ -81,10 +82,10 @@ LengthCause limit left left' BadWords = left' ≡ left
 LengthCause limit left left' (BadRequest n) = IsReadToEnd limit left left'
 LengthCause limit left left' (Refused n kind) = IsReadToEnd limit left left'
 LengthCause limit left left' (FileIo n path) = IsReadToEnd limit left left'
-LengthCause limit left left' ReadFault = Unit {0}
+LengthCause limit left left' ReadFault = TakesAtMost limit left left'
 LengthCause limit left left' WriteFault = IsReadToEnd limit left left'
 LengthCause limit left left' OutOfMemory = Unit {0}
-LengthCause limit left left' InputTooLong = (xs : List ℕ) → left ≡ Some xs → limit < length xs
+LengthCause limit left left' InputTooLong = TakesExactly (limit + 1) left left'
 
 -- each object's count rises only where the status says its fault, and no other answer passes a fault over
 abbrev pub SourceCause : ℕ → ℕ → Status → Type 0

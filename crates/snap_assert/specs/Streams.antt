@@ -28,3 +28,13 @@ pub record LosesAtMost (most : ℕ) (all : List ℕ) (left : Option (List ℕ)) 
 -- at most so many bytes were taken off the front of what was left
 abbrev pub TakesAtMost : ℕ → Option (List ℕ) → Option (List ℕ) → Type 0
 TakesAtMost most left left' = (xs : List ℕ) → left ≡ Some xs → LosesAtMost most xs left'
+
+-- a front of so many bytes is gone, no more and no fewer, and the rest is left
+pub record LosesExactly (count : ℕ) (all : List ℕ) (left : Option (List ℕ)) : Type 0 where
+  pub front : List ℕ
+  pub given : GivesFront all front left
+  pub size : length front ≡ count
+
+-- so many bytes were taken off the front of what was left, no more and no fewer
+abbrev pub TakesExactly : ℕ → Option (List ℕ) → Option (List ℕ) → Type 0
+TakesExactly count left left' = (xs : List ℕ) → left ≡ Some xs → LosesExactly count xs left'

@@ -2,7 +2,7 @@
 ghost use Rattle.std.specs.Prelude.{◌≡◌, ◌<◌, ◌≤◌, ◌+◌, ◌++◌, [], List, ℕ, Some, length, take, IfOk, OnOk, OnErr, IsErrOf};
 ghost use Rattle.snap_outside.specs.Causes.{HasCause};
 ghost use Rattle.snap_outside.specs.Streams.{HoldsFront};
-ghost use Rattle.snap_assert.specs.Streams.{ReadCause, TakesPiece, TakesAtMost};
+ghost use Rattle.snap_assert.specs.Streams.{ReadCause, TakesPiece, TakesAtMost, TakesExactly};
 
 use snap_outside::{Fault, Sink, Source};
 use std::alloc::Global;
@@ -30,6 +30,7 @@ fn read_piece<S: Source>(
     ensures end { IfOk result (λ count. count ≡ 0 → 0 < length buffer.old → (xs : List ℕ) → S.left source.old ≡ Some xs → xs ≡ []) }
     ensures within { IfOk result (λ count. count ≤ length buffer.old) }
     ensures taken { TakesAtMost (length buffer.old) (S.left source.old) (S.left source.new) }
+    ensures kept { IsErrOf result ReadError.Fault → S.left source.new ≡ S.left source.old }
     ensures not_long { IsErrOf result ReadError.TooLong → ⊥ }
     ensures cause { ReadCause (S.faults source.old) (S.faults source.new) result }
 {
@@ -45,13 +46,15 @@ fn read_piece<S: Source>(
     }
 }
 
-/// Reads the source to its end, within the limit. At most one byte more than the limit is ever taken.
+/// Reads the source to its end, within the limit. At most one byte more than the limit is ever taken, and where it is,
+/// the source is not read again.
 pub fn read_all<S: Source>(alloc: Global, source: &mut S) -> Result<Vec<u8>, ReadError>
     ensures all { IfOk result (λ bytes. (xs : List ℕ) → S.left source.old ≡ Some xs → bytes.items ≡ xs) }
     ensures end { IfOk result (λ bytes. (xs : List ℕ) → S.left source.old ≡ Some xs → S.left source.new ≡ Some []) }
     ensures within { IfOk result (λ bytes. length bytes.items ≤ MAX_INPUT) }
     ensures taken { TakesAtMost (MAX_INPUT + 1) (S.left source.old) (S.left source.new) }
-    ensures too_long { IsErrOf result ReadError.TooLong → (xs : List ℕ) → S.left source.old ≡ Some xs → MAX_INPUT < length xs }
+    ensures fault { IsErrOf result ReadError.Fault → TakesAtMost MAX_INPUT (S.left source.old) (S.left source.new) }
+    ensures too_long { IsErrOf result ReadError.TooLong → TakesExactly (MAX_INPUT + 1) (S.left source.old) (S.left source.new) }
     ensures cause { ReadCause (S.faults source.old) (S.faults source.new) result }
 {
     let mut bytes = Vec::new(alloc);

@@ -1,8 +1,12 @@
-use Rattle.std.proofs.Common.{◌∙◌, arith}
-use Rattle.snap_assert.proofs.Pieces.{more_read, all_read, as_long, part_room, whole_room, room_left, within_then, taken_then}
+use Rattle.std.proofs.Common.{◌≡◌, ◌∙◌, ℕ, Vec, Global, IsErrOf, Err, ap, arith}
+use Rattle.snap_assert.specs.declared.streams.ReadError.{ReadError}
+use Rattle.snap_assert.specs.declared.streams.ReadError.TheVariants.{Fault}
+use Rattle.snap_assert.proofs.Pieces.{more_read, all_read, part_room, whole_room, room_left, within_then, taken_then, fault_taken, taken_exactly}
 use Rattle.snap_assert.proofs.streams.read_all.Goals as goal
 
--- src/streams.rt:62:21
+error_is : (T : Type 0) (error wanted : ReadError) → IsErrOf {T = T} (Err error) wanted → error ≡ wanted
+error_is T error wanted is = cc
+
 pub returns-then-count-eq0-clause-all : goal.returns-then-count-eq0-clause-all
 returns-then-count-eq0-clause-all g c = λ xs e.
     let room = part_room c.min-room.result 4096 c.loop-buffer.buffer c.loop-buffer.invariant.room (omega (arith, c.min-room.ensures, c.len-in-loop-buffer.ensures, c.len.ensures, c.loop-buffer-test.true)) (omega (arith, c.min-room.ensures)) in
@@ -34,4 +38,10 @@ returns-in-Err-clause-taken g c = taken_then 67108865 _ c.loop-buffer.bytes.item
     (omega (arith, c.min-room.ensures, c.len-in-loop-buffer.ensures, c.len.ensures, c.loop-buffer-test.true)))
 
 pub returns-clause-too_long : goal.returns-clause-too_long
-returns-clause-too_long g c = λ is xs e. omega (arith, as_long _ _ _ xs c.loop-buffer.invariant.read e, c.loop-buffer-test.false)
+returns-clause-too_long g c = λ is. taken_exactly 67108865 c.loop-buffer.bytes.items _ _ c.loop-buffer.invariant.read
+    (omega (arith, c.loop-buffer.invariant.within, c.len.ensures, c.loop-buffer-test.false))
+
+pub returns-in-Err-clause-fault : goal.returns-in-Err-clause-fault
+returns-in-Err-clause-fault g c = λ is. fault_taken 67108864 c.loop-buffer.bytes.items _ _ _ c.loop-buffer.invariant.read
+    (c.in-Err.ensures.kept (ap Err (error_is (Vec ℕ Global) c.in-Err.error Fault is)))
+    (omega (arith, c.len.ensures, c.loop-buffer-test.true))
