@@ -50,7 +50,11 @@ pub use settings::Settings;
 pub use status::{RefusalKind, Status};
 
 #[cfg(test)]
+mod call_tests;
+#[cfg(test)]
 mod mode_tests;
+#[cfg(test)]
+mod place_tests;
 #[cfg(test)]
 mod redaction_tests;
 #[cfg(test)]

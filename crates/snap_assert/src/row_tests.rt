@@ -1,6 +1,7 @@
 //! Whole runs: more documents than one, inputs in pieces, refusals, faults, and the text of each status.
 ghost use Rattle.std.specs.Prelude.{None};
 
+use crate::streams::MAX_INPUT;
 use crate::{RefusalKind, Status, run};
 use snap_content::{Blob, Text};
 use snap_outside::{Fault, MemorySink, MemorySource, MemoryStore, Sink, Source, Store};
@@ -63,18 +64,21 @@ fn two_documents_in_pieces(rt: HostRuntime) -> Result<(), Fail> {
     Ok(())
 }
 
+/// Files before a pass, their bytes, and whether they stay.
+const BEFORE_A_PASS: [(&str, &str, bool); 6] = [
+    (FIRST_PATH, FIRST_FILE, true),
+    ("w/src/snapshots/m__one.snap.new", "x", false),
+    ("w/src/snapshots/m__one.snap.new.bin", "x", false),
+    ("w/src/snapshots/m__one.snap.new.y.snap", "x", false),
+    ("w/src/snapshots/m__one.snap.old", "x", true),
+    ("w/src/snapshots/m__on.snap.new.bin", "x", true),
+];
+
 #[test]
 fn strays_are_gone_after_a_pass(rt: HostRuntime) -> Result<(), Fail> {
     let alloc = rt.alloc();
     let mut store = MemoryStore::new(alloc);
-    for (path, bytes) in [
-        (FIRST_PATH, FIRST_FILE),
-        ("w/src/snapshots/m__one.snap.new", "x"),
-        ("w/src/snapshots/m__one.snap.new.bin", "x"),
-        ("w/src/snapshots/m__one.snap.new.y.snap", "x"),
-        ("w/src/snapshots/m__one.snap.old", "x"),
-        ("w/src/snapshots/m__on.snap.new.bin", "x"),
-    ] {
+    for (path, bytes, _) in BEFORE_A_PASS {
         store.put(&Text::from_str(alloc, path)?, bytes.as_bytes())?;
     }
     let mut sink = MemorySink::new(alloc);
@@ -85,6 +89,11 @@ fn strays_are_gone_after_a_pass(rt: HostRuntime) -> Result<(), Fail> {
         sink.written(),
         "passed w/src/snapshots/m__one.snap\n".as_bytes()
     );
+    for (path, bytes, stays) in BEFORE_A_PASS {
+        let found = store.get(&Text::from_str(alloc, path)?);
+        let want = if stays { Some(bytes.as_bytes()) } else { None };
+        assert_eq!(rt; found, want, "{path}");
+    }
     assert_eq!(rt; store.len(), 3);
     Ok(())
 }
@@ -115,17 +124,25 @@ fn bad_requests_are_refused(rt: HostRuntime) -> Result<(), Fail> {
     Ok(())
 }
 
-/// Line ends without an end. It tells nothing of its bytes, and never fails.
+/// Line ends without an end, which tell nothing of their bytes. Once more was given than the limit, each read fails.
 #[derive(Drop)]
-struct LineEnds;
+struct LineEnds {
+    given: usize,
+    faults: u64,
+}
 
 impl Source for LineEnds {
     ghost left = { λ _. None };
 
-    ghost faults = { λ _. 0 };
+    ghost faults = { λ source. source.faults };
 
     fn read(&mut self, buffer: &mut [u8]) -> Result<usize, Fault> {
+        if self.given > MAX_INPUT {
+            self.faults = self.faults.saturating_add(1);
+            return Err(Fault);
+        }
         buffer.fill(b'\n');
+        self.given = self.given.saturating_add(buffer.len());
         Ok(buffer.len())
     }
 }
@@ -135,7 +152,11 @@ fn a_longer_input_is_refused(rt: HostRuntime) -> Result<(), Fail> {
     let alloc = rt.alloc();
     let mut store = MemoryStore::new(alloc);
     let mut sink = MemorySink::new(alloc);
-    let status = run_in_place(alloc, &mut LineEnds, &mut sink, &mut store)?;
+    let mut source = LineEnds {
+        given: 0,
+        faults: 0,
+    };
+    let status = run_in_place(alloc, &mut source, &mut sink, &mut store)?;
     assert_eq!(rt; status.code(), 9);
     assert_eq!(rt; sink.written(), "".as_bytes());
     assert_eq!(rt; store.len(), 0);
@@ -169,19 +190,29 @@ fn a_failing_write_is_told_with_its_path(rt: HostRuntime) -> Result<(), Fail> {
     let alloc = rt.alloc();
     let mut store = MemoryStore::new(alloc);
     store.fail_at(vec![in alloc; 3]?);
-    for (told, files) in [
+    let path = Text::from_str(alloc, FIRST_PATH)?;
+    for (code, told, line, file) in [
         (
+            5,
             "snap: document 1: file fault at w/src/snapshots/m__one.snap",
-            0,
+            "",
+            None,
         ),
-        ("snap: all passed", 1),
+        (
+            0,
+            "snap: all passed",
+            "updated w/src/snapshots/m__one.snap\n",
+            Some(FIRST_FILE.as_bytes()),
+        ),
     ] {
         let mut sink = MemorySink::new(alloc);
         let mut source = MemorySource::new(Blob::from_slice(alloc, FIRST.as_bytes())?, 100);
         let status = run_in_place(alloc, &mut source, &mut sink, &mut store)?;
+        assert_eq!(rt; status.code(), code);
         let text = status.describe(alloc)?;
         assert_eq!(rt; text.as_str(), told);
-        assert_eq!(rt; store.len(), files);
+        assert_eq!(rt; sink.written(), line.as_bytes());
+        assert_eq!(rt; store.get(&path), file);
     }
     Ok(())
 }
