@@ -1,17 +1,19 @@
 -- What one document leaves.
-use Rattle.std.proofs.Common.{◌≡◌, ◌⊎◌, inl, inr, ℕ, List, [], ◌∷◌, ◌++◌, Option, Some, refl, sym, ap, ◌∙◌, subst, Err, encode_utf8_all}
+use Rattle.std.proofs.Common.{◌≡◌, ◌⊎◌, ◌&&◌, not, inl, inr, ℕ, List, [], ◌∷◌, ◌++◌, Option, Some, refl, sym, ap, ◌∙◌, subst, Result, Ok, Err, encode_utf8_all}
 use Rattle.std.proofs.lemmas.List.{append-nil}
-use Rattle.std.specs.FinMap.{get}
+use Rattle.std.specs.FinMap.{empty, get}
 use Rattle.snap_outside.specs.Causes.{Rose}
 use Rattle.snap_outside.specs.Files.{Files}
 use Rattle.snap_outside.specs.Streams.{HoldsFront}
 use Rattle.snap_assert.specs.Settings.{SettingsView}
 use Rattle.snap_assert.specs.Place.{PlaceView}
 use Rattle.snap_assert.specs.Judging.{May}
-use Rattle.snap_assert.specs.Steps.{Asked, asked_of, step, verdict_of}
+use Rattle.snap_assert.specs.Session.{empty_session}
+use Rattle.snap_assert.specs.Steps.{Asked, asked_of, verdict_of, is_failure}
+use Rattle.snap_assert.specs.Assertions.{Assertion, assertion_of, asked_in}
 use Rattle.snap_assert.specs.Requests.{RequestView, ReadsAs}
-use Rattle.snap_assert.specs.Answers.{RunWords, Answer, place_by, settings_by, asked_by, step_of, line_text, line_of}
-use Rattle.snap_assert.specs.Outcomes.{OnlyNear, IsAnswered, ErrorCause}
+use Rattle.snap_assert.specs.Answers.{RunWords, Answer, place_by, settings_by, asked_by, assertion_by, step_of, line_text, line_of}
+use Rattle.snap_assert.specs.Outcomes.{OnlyNear, IsAnswered, ErrorCause, left_by}
 use Rattle.snap_assert.specs.Runner.{words_of}
 use Rattle.snap_assert.specs.Runs.{Ran, AssertionStops, StopsAt, SomewhereNear, FileFails, LineFails, IsDocumentAnswered, StoreCount}
 use Rattle.snap_assert.specs.declared.documents.DocumentError.{DocumentError}
@@ -19,6 +21,7 @@ use Rattle.snap_assert.specs.declared.documents.DocumentError.TheVariants.{NoReq
 use Rattle.snap_assert.specs.declared.error.AssertError.{AssertError}
 use Rattle.snap_assert.specs.declared.error.AssertError.TheVariants as refusal
 use Rattle.snap_assert.specs.declared.outcome.Outcome.{Outcome}
+use Rattle.snap_assert.specs.declared.outcome.Verdict.{Verdict}
 use Rattle.snap_assert.specs.declared.runner.Runner.{Runner}
 use Rattle.snap_assert.proofs.Removals.{step_near, untouched}
 
@@ -43,17 +46,29 @@ pub asked_is : (settings : SettingsView) (place : PlaceView) (workspace : List �
     → asked_of settings place r.name r.value ≡ asked_by workspace r
 asked_is settings place workspace r new is = ap (λ s. asked_of s place r.name r.value) new ∙ ap (λ p. asked_of (settings_by r) p r.name r.value) is
 
-pub document_answered : (runner : Runner) (document : List ℕ) (r : RequestView) (asked : Asked) (outcome : Outcome) (f g : Option Files)
-    → ReadsAs document r → asked ≡ asked_by runner.workspace r → IsAnswered runner.config asked outcome f g → IsDocumentAnswered (words_of runner) document outcome f g
-document_answered runner document r asked outcome f g reads is x = record {
-  answer = record { request = r; passed = x.passed };
-  reads = reads;
-  verdict = x.verdict;
-  fails = x.fails;
-  path = x.path ∙ ap (λ a. a.path) is;
-  allowed = λ m e. subst (λ a. May x.passed (get m a.path) a.tree) is (x.allowed m e);
-  stands = λ m e. x.stands m e ∙ ap (λ a. Some (step runner.config.update runner.config.force_update a x.passed m)) is;
-}
+pub assertion_is : (settings : SettingsView) (place : PlaceView) (workspace : List ℕ) (r : RequestView) → settings ≡ settings_by r → place ≡ place_by workspace r
+    → assertion_of settings place r.name r.value ≡ assertion_by workspace r
+assertion_is settings place workspace r new is =
+    ap (λ s. assertion_of s place r.name r.value) new ∙ ap (λ p. assertion_of (settings_by r) p r.name r.value) is
+
+one_verdict : (answer : Result Verdict AssertError) (a b : Verdict) → answer ≡ Ok a → answer ≡ Ok b → a ≡ b
+one_verdict answer a b is also = cc
+
+pub document_answered : (runner : Runner) (document : List ℕ) (r : RequestView) (assertion : Assertion) (outcome : Outcome) (f g : Option Files)
+    → ReadsAs document r → assertion ≡ assertion_by runner.workspace r → IsAnswered runner.config assertion outcome f g empty_session empty_session
+    → IsDocumentAnswered (words_of runner) document outcome f g
+document_answered runner document r assertion outcome f g reads is x =
+    let says : verdict_of runner.config.update x.passed ≡ outcome.verdict =
+    one_verdict (left_by runner.config assertion x.passed empty empty_session).answer (verdict_of runner.config.update x.passed) outcome.verdict refl (x.verdict empty) in
+    record {
+      answer = record { request = r; passed = x.passed };
+      reads = reads;
+      verdict = sym says;
+      fails = x.fails ∙ ap (λ v. is_failure v && not runner.config.force_pass) (sym says);
+      path = x.path ∙ ap (λ a. (asked_in a empty_session).path) is;
+      allowed = λ m e. subst (λ a. May x.passed (get m (asked_in a empty_session).path) (asked_in a empty_session).tree) is (x.allowed m e);
+      stands = λ m e. x.stands m e ∙ ap (λ a. Some (left_by runner.config a x.passed m empty_session).files) is;
+    }
 
 pub document_fails : (runner : Runner) (document : List ℕ) (r : RequestView) (asked : Asked) (f g : Option Files)
     → ReadsAs document r → asked ≡ asked_by runner.workspace r → OnlyNear asked.path f g → FileFails (words_of runner) document f g

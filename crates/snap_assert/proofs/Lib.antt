@@ -16,6 +16,7 @@ mod Looking
 mod Settling
 mod Requesting
 mod Answering
+mod Blocks
 mod RequestMade
 mod RunEnds
 mod Wholes

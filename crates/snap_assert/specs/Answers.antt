@@ -7,7 +7,9 @@ use Rattle.snap_outside.specs.Files.{Files}
 use Rattle.snap_assert.specs.Settings.{SettingsView, new_settings}
 use Rattle.snap_assert.specs.Place.{PlaceView}
 use Rattle.snap_assert.specs.Judging.{May}
-use Rattle.snap_assert.specs.Steps.{Asked, asked_of, step, verdict_of, is_failure}
+use Rattle.snap_assert.specs.Session.{empty_session}
+use Rattle.snap_assert.specs.Steps.{Asked, asked_of, verdict_of, is_failure}
+use Rattle.snap_assert.specs.Assertions.{Assertion, assertion_of, assertion_step}
 use Rattle.snap_assert.specs.Requests.{RequestView}
 use Rattle.snap_assert.specs.declared.usage.TheConstants.{USAGE, VERSION}
 use Rattle.snap_assert.specs.declared.config.Flags.{Flags}
@@ -87,6 +89,9 @@ settings_by request = record new_settings { redactions = request.redactions }
 abbrev pub asked_by : List ℕ → RequestView → Asked
 asked_by workspace request = asked_of (settings_by request) (place_by workspace request) request.name request.value
 
+abbrev pub assertion_by : List ℕ → RequestView → Assertion
+assertion_by workspace request = assertion_of (settings_by request) (place_by workspace request) request.name request.value
+
 -- a request, and whether it passed
 pub record Answer : Type 0 where
   pub request : RequestView
@@ -96,9 +101,9 @@ abbrev pub requests_of : List Answer → List RequestView
 requests_of [] = []
 requests_of (a ∷ more) = a.request ∷ requests_of more
 
--- the files after one answer
+-- the files after one answer; no request opens a block, so nothing is remembered from one to the next
 abbrev pub step_of : RunWords → Answer → Files → Files
-step_of words a files = step words.update words.force_update (asked_by words.workspace a.request) a.passed files
+step_of words a files = (assertion_step words.update words.force_update (assertion_by words.workspace a.request) a.passed files empty_session).files
 
 -- whether a request may pass is decided by the file that stands at its path at that moment
 abbrev pub IsAllowed : RunWords → Answer → Files → Type 0

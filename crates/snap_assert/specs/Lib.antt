@@ -1,10 +1,12 @@
 pub mod Redactions
 pub mod Settings
 pub mod Session
+pub mod Blocks
 pub mod Place
 pub mod SnapshotPath
 pub mod Judging
 pub mod Steps
+pub mod Assertions
 pub mod Outcomes
 pub mod Strays
 pub mod Prepared

@@ -11,7 +11,9 @@ use Rattle.snap_store.specs.Fields.{kind_in}
 use Rattle.snap_store.specs.Reading.{IsTextFile, HasHeader, IsRefused}
 use Rattle.snap_store.specs.declared.metadata.SnapshotKind.{SnapshotKind}
 use Rattle.snap_assert.specs.Judging.{BodyMatches, IsLegacyFile, May}
-use Rattle.snap_assert.specs.Steps.{Asked, step, verdict_of, is_failure, is_near}
+use Rattle.snap_assert.specs.Assertions.{Assertion, Left, asked_in, assertion_step}
+use Rattle.snap_assert.specs.Session.{SessionView}
+use Rattle.snap_assert.specs.Steps.{is_failure, is_near}
 use Rattle.snap_assert.specs.declared.config.Config.{Config}
 use Rattle.snap_assert.specs.declared.error.AssertError.{AssertError}
 use Rattle.snap_assert.specs.declared.error.AssertError.TheVariants.{FileIo, OutOfMemory}
@@ -52,15 +54,22 @@ AreWarnings path file passed printed (Unreadable error ∷ []) = IsNotUnderstood
 AreWarnings path file passed printed (LegacyFile ∷ more) = IsLegacyFile file × PassWarns file passed printed more
 AreWarnings path file passed printed warnings = ((file ≡ None) × (warnings ≡ [])) ⊎ (IsHeadedFile file × PassWarns file passed printed warnings)
 
--- what was asked is answered: by a verdict that is allowed, and with the files of the step where they are told
-pub record IsAnswered (config : Config) (asked : Asked) (outcome : Outcome) (files files' : Option Files) : Type 0 where
+-- what the step leaves of these files and of what is remembered
+abbrev pub left_by : Config → Assertion → Bool → Files → SessionView → Left
+left_by config assertion passed files session = assertion_step config.update config.force_update assertion passed files session
+
+-- an assertion is answered: by a pass that is allowed or none, and, whatever the files are, with the verdict of the step and
+-- with what it remembers; with the files of the step where they are told
+pub record IsAnswered (config : Config) (assertion : Assertion) (outcome : Outcome) (files files' : Option Files) (session session' : SessionView) : Type 0 where
   pub passed : Bool
-  pub verdict : outcome.verdict ≡ verdict_of config.update passed
-  pub path : outcome.path ≡ asked.path
-  pub fails : outcome.fails ≡ (is_failure (verdict_of config.update passed) && not config.force_pass)
-  pub allowed : (m : Files) → files ≡ Some m → May passed (get m asked.path) asked.tree
-  pub stands : (m : Files) → files ≡ Some m → files' ≡ Some (step config.update config.force_update asked passed m)
-  pub warned : (m : Files) → files ≡ Some m → AreWarnings asked.path (get m asked.path) passed (text_of asked.tree) (warnings_in outcome.warnings)
+  pub verdict : (m : Files) → (left_by config assertion passed m session).answer ≡ Ok outcome.verdict
+  pub remembered : (m : Files) → session' ≡ (left_by config assertion passed m session).session
+  pub path : outcome.path ≡ (asked_in assertion session).path
+  pub fails : outcome.fails ≡ (is_failure outcome.verdict && not config.force_pass)
+  pub allowed : (m : Files) → files ≡ Some m → May passed (get m (asked_in assertion session).path) (asked_in assertion session).tree
+  pub stands : (m : Files) → files ≡ Some m → files' ≡ Some (left_by config assertion passed m session).files
+  pub warned : (m : Files) → files ≡ Some m → AreWarnings (asked_in assertion session).path (get m (asked_in assertion session).path) passed
+      (text_of (asked_in assertion session).tree) (warnings_in outcome.warnings)
 
 -- the only refusals while names are given and no block is open
 abbrev pub ErrorCause : ℕ → ℕ → AssertError → Type 0

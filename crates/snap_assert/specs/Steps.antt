@@ -25,13 +25,17 @@ pub record Asked : Type 0 where
   pub meta : Meta
   pub tree : Plain
 
--- the tree is redacted, and its plain form is asked
-abbrev pub asked_of : SettingsView → PlaceView → List ℕ → Tree → Asked
-asked_of settings place name content = record {
-  path = path_of settings place (suffixed name settings.suffix);
+-- under a name with its suffix: the tree is redacted, and its plain form is asked
+abbrev pub asked_as : SettingsView → PlaceView → List ℕ → Tree → Asked
+asked_as settings place name content = record {
+  path = path_of settings place name;
   meta = new_meta settings place;
   tree = plain (redacted_by settings.redactions content);
 }
+
+-- under a given name, which gets the suffix of the settings
+abbrev pub asked_of : SettingsView → PlaceView → List ℕ → Tree → Asked
+asked_of settings place name content = asked_as settings place (suffixed name settings.suffix) content
 
 -- what is left behind by payloads that wait: the pending path, a dot, and more without a slash
 abbrev pub stray_front : List ℕ → List ℕ

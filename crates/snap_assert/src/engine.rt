@@ -2,7 +2,8 @@
 ghost use Rattle.std.specs.Prelude.{◌≡◌, ◌&&◌, List, ℕ, false, not, Some, IsSome, IfOk, OnErr, option_copied};
 ghost use Rattle.snap_content.specs.View.{tree};
 ghost use Rattle.snap_assert.specs.Outcomes.{IsAnswered, OnlyNear, AssertCause};
-ghost use Rattle.snap_assert.specs.Session.{session_of, suffixed, name_step};
+ghost use Rattle.snap_assert.specs.Assertions.{assertion_of};
+ghost use Rattle.snap_assert.specs.Session.{session_of, empty_session, suffixed, name_step};
 ghost use Rattle.snap_assert.specs.Settings.{settings_of};
 ghost use Rattle.snap_assert.specs.Place.{place_of};
 ghost use Rattle.snap_outside.specs.Files.{Files};
@@ -76,7 +77,8 @@ fn assert_prepared<S: Store>(
     }
 }
 
-/// Asserts the tree under this name, with all that is written printed before the store is touched.
+/// Asserts the tree under this name where nothing is remembered, with all that is written printed before the store is
+/// touched.
 fn assert_named<S: Store>(
     alloc: Global,
     store: &mut S,
@@ -86,7 +88,8 @@ fn assert_named<S: Store>(
     name: &Text,
     content: Content,
 ) -> Result<Outcome, AssertError>
-    ensures answered { IfOk result (λ outcome. IsAnswered config.now (asked_of (settings_of settings.now) (place_of place.now) name.now (tree content)) outcome (S.files store.old) (S.files store.new)) }
+    ensures answered { IfOk result (λ outcome. IsAnswered config.now (assertion_of (settings_of settings.now) (place_of place.now) name.now (tree content)) outcome
+        (S.files store.old) (S.files store.new) empty_session empty_session) }
     ensures others { OnErr result (OnlyNear (asked_of (settings_of settings.now) (place_of place.now) name.now (tree content)).path (S.files store.old) (S.files store.new)) }
     ensures cause { AssertCause (S.faults store.old) (S.faults store.new) result }
 {
@@ -125,7 +128,8 @@ pub fn assert_content<S: Store>(
     requires no_blocks { config.now.literal ≡ false }
     requires named { IsSome name }
     ensures answered { IfOk result (λ outcome. (given : List ℕ) → option_copied name.entry ≡ Some given
-        → IsAnswered config.now (asked_of (settings_of settings.now) (place_of place.now) given (tree content)) outcome (S.files store.old) (S.files store.new)) }
+        → IsAnswered config.now (assertion_of (settings_of settings.now) (place_of place.now) given (tree content)) outcome
+        (S.files store.old) (S.files store.new) (session_of session.old) (session_of session.new)) }
     ensures others { OnErr result ((given : List ℕ) → option_copied name.entry ≡ Some given
         → OnlyNear (asked_of (settings_of settings.now) (place_of place.now) given (tree content)).path (S.files store.old) (S.files store.new)) }
     ensures session { session_of session.new ≡ session_of session.old }

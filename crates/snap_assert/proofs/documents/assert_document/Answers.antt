@@ -1,6 +1,6 @@
 use Rattle.std.proofs.Common.{refl, ap, ◌∙◌, Err}
 use Rattle.snap_assert.proofs.Requesting.{file_named}
-use Rattle.snap_assert.proofs.DocumentEnds.{unchanged_near, asked_is, document_answered, refused_stops, refused_count}
+use Rattle.snap_assert.proofs.DocumentEnds.{unchanged_near, asked_is, assertion_is, document_answered, refused_stops, refused_count}
 use Rattle.snap_assert.specs.declared.outcome.Outcome.{Outcome}
 use Rattle.snap_assert.specs.RequestOf.{request_of}
 use Rattle.snap_assert.proofs.documents.assert_document.Goals as goal
@@ -23,7 +23,7 @@ returns-in_default-clause-err g c = unchanged_near c.args.document.now _ _ refl
 pub returns-in-Ok-assert_content-clause-ok : goal.returns-in-Ok-assert_content-clause-ok
 returns-in-Ok-assert_content-clause-ok g c =
     document_answered c.args.runner.now c.args.document.now (request_of c.in-Ok.request) _ _ _ _ c.in-Ok.ensures.ok
-    (asked_is _ _ _ (request_of c.in-Ok.request) c.in-Ok-of_redactions.ensures c.in-Ok-place_of_request.ensures.place)
+    (assertion_is _ _ _ (request_of c.in-Ok.request) c.in-Ok-of_redactions.ensures c.in-Ok-place_of_request.ensures.place)
     (c.in-Ok-assert_content.ensures.answered _ refl)
 
 pub returns-clause-err : goal.returns-clause-err
