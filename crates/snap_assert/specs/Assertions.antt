@@ -1,5 +1,5 @@
 -- One whole assertion: what it leaves of the files and of what is remembered, and how it ends.
-use Rattle.std.specs.Prelude.{ℕ, Bool, true, false, List, [], ◌∷◌, Option, None, Some, Result, Ok, Err, if◌then◌else◌}
+use Rattle.std.specs.Prelude.{ℕ, Bool, List, [], ◌∷◌, Option, None, Some, Result, Ok, Err, if◌then◌else◌}
 use Rattle.snap_content.specs.Lines.{text_of}
 use Rattle.snap_content.specs.Tree.{Tree}
 use Rattle.snap_outside.specs.Files.{Files}

@@ -26,7 +26,7 @@ same_payload None None = true
 same_payload (Some a) (Some b) = bytes_eq a b
 same_payload _ _ = false
 
--- whether contents agree: law `agreement_is_decided` says that it is just as `Agree` has it
+-- whether contents agree; law `a_block_keeps_the_first` holds it to `Agree`
 abbrev pub do_agree : SnapshotContents → SnapshotContents → Bool
 do_agree (Text a) (Text b) = bytes_eq (legacy (raw_of a)) (legacy (raw_of b))
 do_agree (Binary a) (Binary b) = same_payload a b

@@ -3,7 +3,7 @@ ghost use Rattle.std.specs.Prelude.{◌≡◌, ◌&&◌, List, ℕ, false, not, 
 ghost use Rattle.snap_content.specs.View.{tree};
 ghost use Rattle.snap_assert.specs.Outcomes.{IsAnswered, OnlyNear, AssertCause};
 ghost use Rattle.snap_assert.specs.Assertions.{assertion_of};
-ghost use Rattle.snap_assert.specs.Session.{session_of, empty_session, suffixed, name_step};
+ghost use Rattle.snap_assert.specs.Session.{session_of, empty_session};
 ghost use Rattle.snap_assert.specs.Settings.{settings_of};
 ghost use Rattle.snap_assert.specs.Place.{place_of};
 ghost use Rattle.snap_outside.specs.Files.{Files};

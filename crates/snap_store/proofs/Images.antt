@@ -3,7 +3,7 @@ use Rattle.std.proofs.Common.{◌≡◌, ℕ, List, [], ◌∷◌, ◌++◌, sym
 use Rattle.std.specs.Prelude.{codes}
 use Rattle.std.specs.List.{flat_map}
 use Rattle.snap_content.specs.Plain.{Plain}
-use Rattle.snap_content.specs.Lines.{document_of, text_of, lines_of, ended}
+use Rattle.snap_content.specs.Lines.{document_of, text_of, ended}
 use Rattle.snap_content.specs.Printed.{AreLines}
 use Rattle.snap_content.specs.Readable.{IsWithin}
 use Rattle.snap_print.proofs.LineFacts.{printed_lines}
