@@ -1,0 +1,3 @@
+mod Cuts
+mod Trims
+pub mod LineTexts
