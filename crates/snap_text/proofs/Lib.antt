@@ -1,5 +1,4 @@
-mod LineTexts
-mod Returns
+mod InlineLaws
 mod Shown
 pub mod Trimming
 pub mod NormalForms

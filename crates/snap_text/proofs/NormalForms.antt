@@ -4,7 +4,7 @@ use Rattle.std.specs.List.{list_any, flat_map}
 use Rattle.snap_content.specs.Lines.{ended}
 use Rattle.snap_content.specs.Printed.{IsLine, AreLines, is_break}
 use Rattle.snap_text.specs.Normal.{trimmed, normal}
-use Rattle.snap_text.proofs.Returns.{unreturned-free}
+use Rattle.snap_literal.proofs.Returns.{unreturned-free}
 use Rattle.snap_text.proofs.Trimming.{trimmed-well, trimmed-push, trimmed-behind}
 use Rattle.snap_content.proofs.Booleans.{or_left, or_right}
 

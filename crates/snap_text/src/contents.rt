@@ -1,19 +1,26 @@
 //! The text of a snapshot, with its kind. The one error of these calls is want of memory.
 ghost use Rattle.std.specs.Prelude.{◌≡◌, ◌↔◌, IsTrue, IfOk};
 ghost use Rattle.std.specs.Str.{chars};
-ghost use Rattle.snap_text.specs.Legacy.{legacy};
-ghost use Rattle.snap_text.specs.Normal.{normal};
+ghost use Rattle.snap_literal.specs.OfLiteral.{of_literal};
+ghost use Rattle.snap_literal.specs.Spelled.{spelled};
+ghost use Rattle.snap_text.specs.declared.contents.TextSnapshotKind.TheVariants.{Inline};
 
-use crate::legacy::legacy_text;
-use crate::lines::{split_line, trim_returns};
-use crate::normal::{normal_text, trimmed_text};
 use snap_content::{OutOfMemory, Text};
+use snap_literal::frame::inline_legacy_text;
+use snap_literal::inline::{inline_normal_text, inline_width};
+use snap_literal::legacy::legacy_text;
+use snap_literal::lines::{from_byte, split_line, trim_returns};
+use snap_literal::literal;
+use snap_literal::normal::{normal_text, trimmed_text};
+use snap_literal::spelling::spell;
 use std::alloc::Global;
 use std::fmt;
 
 /// Where the text of a snapshot stands.
 #[derive(Clone, Copy, Debug, PartialEq, Eq)]
 pub enum TextSnapshotKind {
+    /// In a literal of the source.
+    Inline,
     /// In a file of its own.
     File,
 }
@@ -26,7 +33,7 @@ pub struct TextSnapshotContents {
 }
 
 impl TextSnapshotContents {
-    ghost use Rattle.snap_text.specs.Contents.{raw_of, kind_of};
+    ghost use Rattle.snap_text.specs.Contents.{raw_of, kind_of, normal_of, legacy_of, width_of, MatchLatest, InlineLaw};
 
     /// The contents of a snapshot of this kind.
     pub fn new(contents: Text, kind: TextSnapshotKind) -> TextSnapshotContents
@@ -37,6 +44,22 @@ impl TextSnapshotContents {
             raw: contents,
             kind,
         }
+    }
+
+    /// The inline contents of a literal that reads as this text: trimmed where that has at most one line or it holds
+    /// control characters, else its lines without a first one that is empty.
+    pub fn from_inline_literal(
+        alloc: Global,
+        contents: &str,
+    ) -> Result<TextSnapshotContents, OutOfMemory>
+        ensures text { IfOk result (λ made. raw_of made ≡ of_literal (chars contents.now)) }
+        ensures kind { IfOk result (λ made. kind_of made ≡ Inline) }
+    {
+        let raw = literal::from_inline_literal(alloc, contents)?;
+        Ok(TextSnapshotContents {
+            raw,
+            kind: TextSnapshotKind::Inline,
+        })
     }
 
     /// Where the text stands.
@@ -53,11 +76,26 @@ impl TextSnapshotContents {
         self.raw.as_str()
     }
 
-    /// The text without white space at its end and without the returns in front of a line's end.
+    /// The text without white space at its end and without the returns in front of a line's end; an inline text
+    /// first loses the indentation that its lines share.
     pub fn normal(&self, alloc: Global) -> Result<Text, OutOfMemory>
-        ensures { IfOk result (λ text. text ≡ normal (raw_of self.now)) }
+        ensures { IfOk result (λ text. text ≡ normal_of self.now) }
     {
-        normal_text(alloc, self.as_raw())
+        match self.kind {
+            TextSnapshotKind::Inline => inline_normal_text(alloc, self.as_raw()),
+            TextSnapshotKind::File => normal_text(alloc, self.as_raw()),
+        }
+    }
+
+    /// The normal form without returns and line ends at its front, and then without one `---` and its line's end;
+    /// an inline text then loses the frame of the oldest format.
+    fn legacy(&self, alloc: Global) -> Result<Text, OutOfMemory>
+        ensures { IfOk result (λ text. text ≡ legacy_of self.now) }
+    {
+        match self.kind {
+            TextSnapshotKind::Inline => inline_legacy_text(alloc, self.as_raw()),
+            TextSnapshotKind::File => legacy_text(alloc, self.as_raw()),
+        }
     }
 
     /// A copy with the text as it was given.
@@ -79,50 +117,69 @@ impl TextSnapshotContents {
         self.raw == other.raw
     }
 
-    /// Whether both have one older form: the normal form without returns and line ends at its front, and then
-    /// without one `---` and its line's end.
+    /// Whether both have one older form, each by its kind.
     pub fn matches_legacy(
         &self,
         alloc: Global,
         other: &TextSnapshotContents,
     ) -> Result<bool, OutOfMemory>
-        ensures { IfOk result (λ same. IsTrue same ↔ (legacy (raw_of self.now) ≡ legacy (raw_of other.now))) }
+        ensures { IfOk result (λ same. IsTrue same ↔ (legacy_of self.now ≡ legacy_of other.now)) }
     {
-        let mine = legacy_text(alloc, self.as_raw())?;
-        let theirs = legacy_text(alloc, other.as_raw())?;
+        let mine = self.legacy(alloc)?;
+        let theirs = other.legacy(alloc)?;
         Ok(mine == theirs)
     }
 
-    /// Whether both have one normal form.
+    /// Whether both have one normal form, each by its kind.
     pub fn matches_latest(
         &self,
         alloc: Global,
         other: &TextSnapshotContents,
     ) -> Result<bool, OutOfMemory>
-        ensures { IfOk result (λ same. IsTrue same ↔ (normal (raw_of self.now) ≡ normal (raw_of other.now))) }
+        ensures { IfOk result (λ same. IsTrue same ↔ MatchLatest self.now other.now) }
     {
         let left = self.normal(alloc)?;
         let right = other.normal(alloc)?;
         Ok(left == right)
+    }
+
+    /// The normal form as a literal, at this indentation. For an inline text whose normal form is its own normal form, and
+    /// an indentation of blanks and tabs, the literal reads as a text of which `from_inline_literal` makes contents that match.
+    pub fn to_inline(&self, alloc: Global, indentation: &str) -> Result<Text, OutOfMemory>
+        ensures spelled { IfOk result (λ literal. literal ≡ spelled (chars indentation.now) (normal_of self.now)) }
+        ensures law { IfOk result (λ literal. InlineLaw literal (chars indentation.now) self.now) }
+    {
+        let normal = self.normal(alloc)?;
+        spell(alloc, normal.as_str(), indentation)
+    }
+
+    /// From which byte on each line of the trimmed text is written.
+    fn width(&self) -> usize
+        ensures { result ≡ width_of self.now }
+    {
+        match self.kind {
+            TextSnapshotKind::Inline => inline_width(self.as_raw()),
+            TextSnapshotKind::File => 0,
+        }
     }
 }
 
 /// The normal form, written line by line.
 impl fmt::Display for TextSnapshotContents {
     ghost use Rattle.std.specs.Prelude.{Some, encode_utf8_all};
-    ghost use Rattle.snap_text.specs.Normal.{normal};
-    ghost use Rattle.snap_text.specs.Contents.{raw_of};
+    ghost use Rattle.snap_text.specs.Contents.{normal_of};
 
-    ghost output = { λ contents. Some (encode_utf8_all (normal (raw_of contents))) };
+    ghost output = { λ contents. Some (encode_utf8_all (normal_of contents)) };
 
     fn fmt<W: fmt::Write>(&self, f: &mut fmt::Formatter<W>) -> fmt::Result {
+        let byte = self.width();
         let mut rest = trimmed_text(self.as_raw());
         while let Some((line, more)) = split_line(rest) {
-            f.write_str(trim_returns(line))?;
+            f.write_str(trim_returns(from_byte(line, byte)))?;
             f.write_str("\n")?;
             rest = more;
         }
-        f.write_str(rest)
+        f.write_str(from_byte(rest, byte))
     }
 }
 
@@ -149,6 +206,65 @@ mod tests {
             assert_eq!(rt; given.to_string(alloc)?.as_str(), normal);
             assert_eq!(rt; given.as_raw(), text);
         }
+        Ok(())
+    }
+
+    fn inline(alloc: Global, text: &str) -> Result<TextSnapshotContents, OutOfMemory> {
+        Ok(TextSnapshotContents::new(Text::from_str(alloc, text)?, TextSnapshotKind::Inline))
+    }
+
+    #[test]
+    fn inline_forms(rt: HostRuntime) -> Result<(), Fail> {
+        let alloc = rt.alloc();
+        for (text, normal) in [
+            ("\n    a\r\r\n\n      b\n    ", "\na\n\n  b"),
+            ("\n    a\n", "\na"),
+            ("    a\n", "    a"),
+            ("\t\u{a0}\n  a\n", "\u{a0}\n a"),
+            ("\n  \u{a0}a\n    b", "\n\u{a0}a\n  b"),
+            ("", ""),
+        ] {
+            let given = inline(alloc, text)?;
+            assert_eq!(rt; given.normal(alloc)?.as_str(), normal);
+            assert_eq!(rt; given.to_string(alloc)?.as_str(), normal);
+            assert!(rt; given.matches_latest(alloc, &contents(alloc, normal)?)?);
+        }
+        Ok(())
+    }
+
+    #[test]
+    fn inline_texts_read_back(rt: HostRuntime) -> Result<(), Fail> {
+        let alloc = rt.alloc();
+        for (text, literal) in [
+            ("a\n  b", "\"\n    a\n      b\n    \""),
+            ("a\\\"#", "r##\"a\\\"#\"##"),
+            ("\r\n\0a", "\"\\n\\0a\""),
+            ("a", "\"a\""),
+        ] {
+            let given = inline(alloc, text)?;
+            let written = given.to_inline(alloc, "    ")?;
+            assert_eq!(rt; written.as_str(), literal);
+            let read = snap_literal::read_literal(alloc, written.as_str())?;
+            let made = TextSnapshotContents::from_inline_literal(alloc, read.as_str())?;
+            assert!(rt; made.kind() == TextSnapshotKind::Inline);
+            assert!(rt; made.matches_latest(alloc, &given)?);
+        }
+        Ok(())
+    }
+
+    #[test]
+    fn older_inline_forms(rt: HostRuntime) -> Result<(), Fail> {
+        let alloc = rt.alloc();
+        let text = inline(alloc, "a\nb")?;
+        for (other, same) in [
+            ("---\na\nb", true),
+            ("\n  \u{22ee}a\n  \u{22ee}b\n", true),
+            ("\n  \u{22ee}a\n b", false),
+        ] {
+            assert_eq!(rt; text.matches_legacy(alloc, &inline(alloc, other)?)?, same);
+        }
+        assert!(rt; inline(alloc, "\n   a\n")?.matches_legacy(alloc, &inline(alloc, "a")?)?);
+        assert!(rt; !inline(alloc, "   a")?.matches_legacy(alloc, &inline(alloc, "a")?)?);
         Ok(())
     }
 

@@ -2,8 +2,10 @@
 //! Two agree where their normal forms are equal: white space at the end, the kind of line ends and returns do not count.
 //! Texts of insta's first format agree by an older form too.
 //!
-//! In the order in which data flows: `lines` (a text at its line's ends), `normal` and `legacy` (the two forms), `contents`
-//! (a snapshot's text, compared), `laws`.
+//! An inline text is written as a literal that reads back as contents that match it.
+//!
+//! `lines`, `normal` and `legacy` hand on what `snap_literal` knows of texts, as the calls on literals are; `contents` is a
+//! snapshot's text, compared and written, and `laws` what comparing promises.
 #![tactic(auto)]
 
 pub mod contents;
@@ -13,3 +15,6 @@ pub mod lines;
 pub mod normal;
 
 pub use contents::{TextSnapshotContents, TextSnapshotKind};
+pub use snap_literal::{
+    LiteralError, literal_is_open, min_indentation, normalize_inline, read_literal, required_hashes,
+};

@@ -1,0 +1,41 @@
+-- Texts cut at their line ends, and framed again.
+use Rattle.std.proofs.Common.{◌≡◌, ◌==◌, ℕ, List, [], ◌∷◌, ◌++◌, Bool, true, false, cond, Result, Ok, Err, refl, sym, ap, ◌∙◌, append-nil, append_assoc}
+use Rattle.std.specs.List.{list_any, flat_map}
+use Rattle.std.specs.Result.{OnOk}
+use Rattle.snap_content.proofs.Booleans.{or_left, or_right}
+use Rattle.snap_literal.specs.Lines.{IsUnbroken, IsLineThen, is_line_end}
+use Rattle.snap_literal.specs.Spelled.{line_parts, framed_line, shown}
+use Rattle.snap_str.specs.Lines.{onto}
+
+pub pieces-line : (line more : List ℕ) → list_any is_line_end line ≡ false → line_parts (line ++ 10 ∷ more) ≡ line ∷ line_parts more
+pieces-line [] more h = refl
+pieces-line (c ∷ line) more h =
+    ap (λ b. cond b ([] ∷ line_parts (line ++ 10 ∷ more)) (onto c (line_parts (line ++ 10 ∷ more)))) (or_left (c == 10) (list_any is_line_end line) h)
+    ∙ ap (onto c) (pieces-line line more (or_right (c == 10) (list_any is_line_end line) h))
+
+pub pieces-unbroken : (line : List ℕ) → list_any is_line_end line ≡ false → line_parts line ≡ line ∷ []
+pieces-unbroken [] h = refl
+pieces-unbroken (c ∷ line) h =
+    ap (λ b. cond b ([] ∷ line_parts line) (onto c (line_parts line))) (or_left (c == 10) (list_any is_line_end line) h)
+    ∙ ap (onto c) (pieces-unbroken line (or_right (c == 10) (list_any is_line_end line) h))
+
+pub framed_past : (indentation next made rest line more whole : List ℕ) → IsLineThen rest line more → next ≡ made ++ framed_line indentation line
+    → made ++ flat_map (framed_line indentation) (line_parts rest) ≡ whole → next ++ flat_map (framed_line indentation) (line_parts more) ≡ whole
+framed_past indentation next made rest line more whole h is so_far =
+    let frame = flat_map (framed_line indentation) in
+    ap (λ n. n ++ flat_map (framed_line indentation) (line_parts more)) is ∙ append_assoc made (framed_line indentation line) (flat_map (framed_line indentation) (line_parts more))
+    ∙ ap (λ p. made ++ flat_map (framed_line indentation) p) (sym (ap line_parts h.is ∙ pieces-line line more h.unbroken)) ∙ so_far
+
+pub framed_end : (indentation text old made rest one two three : List ℕ) → IsUnbroken rest → list_any is_line_end text ≡ true
+    → made ++ flat_map (framed_line indentation) (line_parts rest) ≡ old ++ flat_map (framed_line indentation) (line_parts text)
+    → one ≡ made ++ framed_line indentation rest → two ≡ one ++ 10 ∷ [] → three ≡ two ++ indentation → three ≡ old ++ shown indentation text
+framed_end indentation text old made rest one two three unbroken broken so_far a b z =
+    let lines : List ℕ = flat_map (framed_line indentation) (line_parts text) in
+    let last : made ++ framed_line indentation rest ≡ old ++ lines =
+    ap (λ t. made ++ t) (sym (append-nil (framed_line indentation rest))) ∙ ap (λ p. made ++ flat_map (framed_line indentation) p) (sym (pieces-unbroken rest unbroken)) ∙ so_far in
+    z ∙ ap (λ t. t ++ indentation) (b ∙ ap (λ t. t ++ 10 ∷ []) (a ∙ last)) ∙ append_assoc (old ++ lines) (10 ∷ []) indentation ∙ append_assoc old lines (10 ∷ indentation)
+    ∙ ap (λ t. old ++ cond t (lines ++ 10 ∷ indentation) text) (sym broken)
+
+pub on_ok : {T E : Type 0} (r : Result T E) (P Q : Type 0) → (P → Q) → OnOk r P → OnOk r Q
+on_ok (Ok x) P Q f h = f h
+on_ok (Err e) P Q f h = tt

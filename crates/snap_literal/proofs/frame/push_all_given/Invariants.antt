@@ -1,0 +1,17 @@
+use Rattle.std.proofs.Common.{◌≡◌, ◌++◌, length}
+use denote.Text.{Utf8}
+use denote.Shadow.{shadow}
+use Rattle.std.specs.List.{flat_map}
+use Rattle.std.specs.Str.{chars}
+use Rattle.snap_str.specs.Lines.{lines}
+use Rattle.snap_literal.specs.Frame.{given}
+use Rattle.snap_literal.proofs.frame.push_all_given.Given as goal
+
+abbrev pub invariant-loop-line : goal.invariant-loop-line
+invariant-loop-line l = record {
+  utf8 : shadow (Utf8 l.rest);
+  same : l.made ++ flat_map (given l.fn.byte) (lines (chars l.rest)) ≡ l.fn.made ++ flat_map (given l.fn.byte) (lines (chars l.fn.text));
+}
+
+abbrev pub decreases-loop-line : goal.decreases-loop-line
+decreases-loop-line l = length (chars l.rest)

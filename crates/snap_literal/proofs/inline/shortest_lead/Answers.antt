@@ -1,0 +1,13 @@
+use Rattle.std.proofs.Common.{ap, sym, rules, length}
+use Rattle.std.proofs.lemmas.Str.{chars-nil}
+use Rattle.std.specs.Str.{chars}
+use Rattle.snap_literal.proofs.LineLeads.{shortest_start}
+use Rattle.snap_literal.proofs.inline.shortest_lead.Goals as goal
+
+pub loop-line-init : goal.loop-line-init
+loop-line-init c = record {
+  utf8 = search rules;
+  best_utf8 = search rules;
+  bytes = ap length (sym chars-nil);
+  same = shortest_start (chars c.args.text.now) c.trimmed_text-rest.result.now c.trimmed_text-rest.ensures;
+}

@@ -1,0 +1,8 @@
+use Rattle.std.proofs.Common.{refl}
+use Rattle.snap_literal.specs.Inline.{inline_normal}
+use Rattle.snap_literal.specs.Spelled.{spelled}
+use Rattle.snap_literal.proofs.InlineLaw.{comes-back}
+use Rattle.snap_literal.proofs.laws.inline_law.Goals as goal
+
+pub returns : goal.returns
+returns c = λ indentation text. comes-back (spelled indentation (inline_normal text)) indentation text refl

@@ -1,0 +1,12 @@
+use Rattle.std.proofs.Common.{sym, ◌∙◌, arith}
+use Rattle.std.proofs.lemmas.Str.{chars-nil}
+use Rattle.std.specs.Str.{chars}
+use Rattle.snap_literal.proofs.LineLeads.{from_byte-inside}
+use Rattle.snap_literal.proofs.lines.from_byte.Goals as goal
+
+pub returns-then-left-width : goal.returns-then-left-width
+returns-then-left-width c =
+    chars-nil
+    ∙ sym (from_byte-inside c.loop-c.left c.in-Some.c (chars c.loop-c.rest.now) (chars c.in-Some.more.now) c.in-Some.ensures c.if-left-eq0.false
+    (omega (arith, c.len_utf8-width.ensures.value, c.if-left-width.true)))
+    ∙ c.loop-c.invariant.same

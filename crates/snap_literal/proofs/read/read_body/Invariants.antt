@@ -1,0 +1,13 @@
+use Rattle.std.proofs.Common.{length}
+use denote.Text.{Utf8}
+use denote.Shadow.{shadow}
+use Rattle.std.specs.Str.{chars}
+use Rattle.snap_literal.specs.Literal.{IsBody}
+use Rattle.snap_literal.proofs.Reading.{IsReading}
+use Rattle.snap_literal.proofs.read.read_body.Given as goal
+
+abbrev pub invariant-loop-c : goal.invariant-loop-c
+invariant-loop-c l = record { utf8 : shadow (Utf8 l.rest); so_far : IsReading (IsBody l.fn.count) (chars l.fn.source) l.made (chars l.rest) }
+
+abbrev pub decreases-loop-c : goal.decreases-loop-c
+decreases-loop-c l = length (chars l.rest)

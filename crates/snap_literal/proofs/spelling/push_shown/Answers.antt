@@ -1,0 +1,23 @@
+use Rattle.std.proofs.Common.{◌≡◌, ◌++◌, ◌∷◌, [], true, rules}
+use Rattle.std.specs.List.{flat_map, list_any}
+use Rattle.std.specs.Str.{chars}
+use Rattle.snap_literal.specs.Spelled.{framed_line, shown, line_parts}
+use Rattle.snap_literal.proofs.LineParts.{framed_past, framed_end, on_ok}
+use Rattle.snap_literal.proofs.spelling.push_shown.Goals as goal
+use Rattle.snap_literal.specs.Lines.{is_line_end}
+
+pub loop-line-preserved : goal.loop-line-preserved
+loop-line-preserved c = record {
+  utf8 = search rules;
+  same = framed_past (chars c.args.indentation.now) c.push_line.new.made c.loop-line.made (chars c.loop-line.rest.now) (chars c.in-Some.line.now) (chars c.in-Some.more.now)
+      _ c.in-Some.ensures.line c.in_ok-push_line.ensures c.loop-line.invariant.same;
+}
+
+pub returns : goal.returns
+returns c =
+    let indentation = chars c.args.indentation.now in
+    let text = chars c.args.text.now in
+    let broken : list_any is_line_end text ≡ true = search rules in
+    on_ok c.push_str-2.result _ (c.push_str-2.new.self ≡ c.args.made.now ++ shown indentation text)
+    (λ last. framed_end indentation text c.args.made.now c.loop-line.made (chars c.loop-line.rest.now) c.push_line-2.new.made c.push_ascii.new.self c.push_str-2.new.self
+    c.in_default.ensures.line broken c.loop-line.invariant.same c.in_ok-push_line-2.ensures c.in_ok-push_ascii.ensures.ok last) c.push_str-2.ensures.ok

@@ -1,0 +1,18 @@
+use Rattle.std.proofs.Common.{◌≡◌, ◌++◌, ◌∷◌, length}
+use denote.Text.{Utf8}
+use denote.Shadow.{shadow}
+use Rattle.std.specs.List.{flat_map}
+use Rattle.std.specs.Str.{chars}
+use Rattle.snap_literal.specs.Spelled.{framed_line, line_parts}
+use Rattle.snap_literal.proofs.spelling.push_shown.Given as goal
+
+abbrev pub invariant-loop-line : goal.invariant-loop-line
+invariant-loop-line l = record {
+  utf8 : shadow (Utf8 l.rest);
+  same :
+      l.made ++ flat_map (framed_line (chars l.fn.indentation)) (line_parts (chars l.rest))
+      ≡ l.fn.made ++ flat_map (framed_line (chars l.fn.indentation)) (line_parts (chars l.fn.text));
+}
+
+abbrev pub decreases-loop-line : goal.decreases-loop-line
+decreases-loop-line l = length (chars l.rest)

@@ -1,0 +1,12 @@
+pub mod Normal
+pub mod Lines
+pub mod Legacy
+pub mod Units
+pub mod Hashes
+pub mod Literal
+pub mod Refusal
+pub mod Spelled
+pub mod Inline
+pub mod OfLiteral
+pub mod Frame
+pub mod Signed
