@@ -1,9 +1,8 @@
 -- A call more for what an open file gave, and for what an open folder told.
 use Rattle.std.proofs.Common.{◌≡◌, ℕ, List, [], ◌∷◌, ◌++◌, sym, subst}
-use Rattle.std.specs.Str.{chars}
-use Rattle.snap_outside.specs.Calls.{History, gives, tells, tells_no_file}
-use Rattle.snap_outside.specs.Operations.{Gave, Told}
-use Rattle.snap_outside.specs.declared.call.Answer.TheVariants.{Other}
+use Rattle.snap_outside.specs.Calls.{History, gives, tells}
+use Rattle.snap_outside.specs.Listing.{Told, names_in}
+use Rattle.snap_outside.specs.Operations.{Gave}
 
 pub gave_none : (before : History) (bytes : List ℕ) → bytes ≡ [] → Gave before bytes before
 gave_none before bytes none = subst (λ b. Gave before b before) (sym none) Gave.none_yet
@@ -15,10 +14,6 @@ gave_more before now now' bytes piece bytes' gave call all =
 pub told_none : (before : History) (names : List (List ℕ)) → names ≡ [] → Told before names before
 told_none before names none = subst (λ n. Told before n before) (sym none) Told.none_yet
 
-pub told_file : (before now now' : History) (names : List (List ℕ)) (name : List ℕ) (names' : List (List ℕ)) → Told before names now → now' ≡ tells name ∷ now → names' ≡ names ++ chars name ∷ [] → Told before names' now'
-told_file before now now' names name names' told call all =
-    subst (λ h. Told before names' h) (sym call) (subst (λ n. Told before n (tells name ∷ now)) (sym all) (Told.file names name now told))
-
-pub told_other : (before now now' : History) (names names' : List (List ℕ)) → Told before names now → now' ≡ tells_no_file Other ∷ now → names' ≡ names → Told before names' now'
-told_other before now now' names names' told call same =
-    subst (λ h. Told before names' h) (sym call) (subst (λ n. Told before n (tells_no_file Other ∷ now)) (sym same) (Told.other names now told))
+pub told_more : (before now now' : History) (names : List (List ℕ)) (piece : List ℕ) (names' : List (List ℕ)) → Told before names now → now' ≡ tells piece ∷ now → names' ≡ names ++ names_in piece → Told before names' now'
+told_more before now now' names piece names' told call all =
+    subst (λ h. Told before names' h) (sym call) (subst (λ n. Told before n (tells piece ∷ now)) (sym all) (Told.more names piece now told))

@@ -4,3 +4,4 @@ mod Joined
 mod LastMark
 mod Folders
 pub mod Unchanged
+mod Parts

@@ -6,11 +6,11 @@ use Rattle.snap_outside.specs.declared.stream.StreamSource.{StreamSource}
 use Rattle.snap_outside.specs.declared.stream.StreamSink.{StreamSink}
 
 -- R is the runtime, and the others are its own types
-abbrev pub store_faults : {R A B C D : Type 0} → FolderStore R A B C D → ℕ
+abbrev pub store_faults : {R A F D : Type 0} → FolderStore R A F D → ℕ
 store_faults store = store.faults
 
 -- what the store asked of the file system
-abbrev pub store_asked : {R A B C D : Type 0} → FolderStore R A B C D → History
+abbrev pub store_asked : {R A F D : Type 0} → FolderStore R A F D → History
 store_asked store = store.disk.record.calls
 
 abbrev pub source_faults : {R : Type 0} → StreamSource R → ℕ
@@ -24,3 +24,7 @@ reader_of source = source.reader
 
 abbrev pub writer_of : {W : Type 0} → StreamSink W → W
 writer_of sink = sink.writer
+
+-- what the sink asked of its writer
+abbrev pub sink_asked : {W : Type 0} → StreamSink W → History
+sink_asked sink = sink.record.calls

@@ -18,3 +18,18 @@ abbrev pub StoreCause : {T : Type 0} → ℕ → ℕ → Result T StoreError →
 StoreCause before now (Ok value) = now ≡ before
 StoreCause before now (Err Failed) = Rose before now
 StoreCause before now (Err OutOfMemory) = now ≡ before
+
+-- the next count, up to the largest
+abbrev pub one_more : ℕ → ℕ
+one_more count = min (count + 1) (2 ^ 64 - 1)
+
+-- where a source or a sink fails its count rises by one
+abbrev pub FailsOnce : {T E : Type 0} → ℕ → ℕ → Result T E → Type 0
+FailsOnce before now (Ok value) = now ≡ before
+FailsOnce before now (Err fault) = now ≡ one_more before
+
+-- where a store fails its count rises by one
+abbrev pub StoreFailsOnce : {T : Type 0} → ℕ → ℕ → Result T StoreError → Type 0
+StoreFailsOnce before now (Ok value) = now ≡ before
+StoreFailsOnce before now (Err Failed) = now ≡ one_more before
+StoreFailsOnce before now (Err OutOfMemory) = now ≡ before

@@ -1,8 +1,8 @@
 -- A store's files: a finite map from the text of a path to bytes.
-use Rattle.std.specs.Prelude.{◌≡◌, ◌≢◌, ℕ, Bool, false, List, [], ◌++◌, Option, Some, unwrap_or}
+use Rattle.std.specs.Prelude.{◌≡◌, ◌≢◌, ◌⊎◌, ℕ, Bool, false, List, [], ◌++◌, Option, Some, unwrap_or}
 use Rattle.std.specs.Ordering.{nat_cmp}
 use Rattle.std.specs.Cmp.Lexicographic.{slice_cmp}
-use Rattle.std.specs.FinMap.{FinMap, get, insert}
+use Rattle.std.specs.FinMap.{FinMap, get, insert, remove}
 
 abbrev pub Files : Type 0
 Files = FinMap (slice_cmp nat_cmp) (List ℕ)
@@ -17,8 +17,6 @@ pub record SameBut (path : List ℕ) (m : Files) (now : Option Files) : Type 0 w
   pub told : now ≡ Some files
   pub others : (q : List ℕ) → q ≢ path → get files q ≡ get m q
 
--- now is known, and holds what m holds at each path that the test leaves out
-pub record SameOutside (test : List ℕ → Bool) (m : Files) (now : Option Files) : Type 0 where
-  pub files : Files
-  pub told : now ≡ Some files
-  pub others : (q : List ℕ) → test q ≡ false → get files q ≡ get m q
+-- now is known: the file at the path is gone or as before, and all others are as before
+abbrev pub MayBeGone : List ℕ → Files → Option Files → Type 0
+MayBeGone path m now = (now ≡ Some m) ⊎ (now ≡ Some (remove m path))

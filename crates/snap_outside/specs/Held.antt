@@ -45,6 +45,9 @@ steady_piece source = source.piece
 abbrev pub steady_written : SteadySink → List ℕ
 steady_written sink = sink.bytes.items
 
+abbrev pub steady_faults : SteadySink → ℕ
+steady_faults sink = sink.faults
+
 -- a piece, or as much as there is room for and is left; a piece of 0 counts as 1
 abbrev pub count_given : ℕ → List ℕ → List ℕ → ℕ
 count_given piece buffer left = min (max 1 piece) (min (length buffer) (length left))

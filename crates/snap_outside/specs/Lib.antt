@@ -5,8 +5,11 @@ pub mod Causes
 pub mod Disks
 pub mod Files
 pub mod Held
+pub mod Limits
 pub mod Listed
+pub mod Listing
 pub mod Operations
 pub mod Schedules
 pub mod Streams
 pub mod Told
+pub mod Writing

@@ -1,14 +1,14 @@
 -- What each operation of a store over real files asks of the file system, and what its answer says of what was answered.
-use Rattle.std.specs.Prelude.{◌≡◌, ◌≤◌, ◌<◌, ◌⊎◌, ◌^◌, ◌-◌, ⊤, ℕ, Bool, List, [], ◌∷◌, ◌++◌, length, Option, None, Some, Result, Ok, Err}
-use Rattle.std.specs.Str.{chars}
-use Rattle.snap_outside.specs.Beside.{folder_of, helper_of}
-use Rattle.snap_outside.specs.Calls.{History, Step, opens, makes_folders, creates, opens_to_append, writes, syncs, syncs_folder, renames, removes, lists, gives, gives_nothing, tells, tells_no_file, there_or_failed}
+use Rattle.std.specs.Prelude.{◌≡◌, ◌≤◌, ◌<◌, ◌⊎◌, ⊤, ℕ, Bool, List, [], ◌∷◌, ◌++◌, length, Option, None, Some, Result, Ok, Err}
+use Rattle.snap_outside.specs.Beside.{folder_of}
+use Rattle.snap_outside.specs.Calls.{History, Step, looks, looks_at_link, opens, makes_folders, opens_to_append, writes, removes, gives, gives_nothing}
+use Rattle.snap_outside.specs.Limits.{most_bytes}
+use Rattle.snap_outside.specs.Told.{bits_told, gone_told}
 use Rattle.snap_outside.specs.declared.call.Answer.{Answer}
-use Rattle.snap_outside.specs.declared.call.Answer.TheVariants.{Done, Missing, Other}
+use Rattle.snap_outside.specs.declared.call.Answer.TheVariants.{Done, Missing}
 use Rattle.snap_outside.specs.declared.call.Answer.TheVariants.{Failed as NotDone}
 use Rattle.snap_outside.specs.declared.outside.StoreError.{StoreError}
 use Rattle.snap_outside.specs.declared.outside.StoreError.TheVariants.{Failed, OutOfMemory}
-use Rattle.snap_outside.specs.declared.folder.TheConstants.{MAX_FILE}
 
 -- these calls were made in order, and all were done
 abbrev pub after : List Step → History → History
@@ -25,6 +25,18 @@ abbrev pub Made : {T E : Type 0} → List Step → Result T E → History → Hi
 Made steps (Ok value) before now = now ≡ after steps before
 Made steps (Err error) before now = Stopped steps before now
 
+-- the path was looked at: the bits of the regular file there, or that nothing is there, or a fault
+pub record LookedAt (path : List ℕ) (result : Result (Option ℕ) StoreError) (before now : History) : Type 0 where
+  pub answer : Answer
+  pub seen : bits_told answer ≡ result
+  pub called : now ≡ looks path answer ∷ before
+
+-- the same, where a link is no regular file
+pub record LookedAtLink (path : List ℕ) (result : Result (Option ℕ) StoreError) (before now : History) : Type 0 where
+  pub answer : Answer
+  pub seen : bits_told answer ≡ result
+  pub called : now ≡ looks_at_link path answer ∷ before
+
 -- since then the open file gave these bytes, in one piece or more
 pub data Gave (before : History) : List ℕ → History → Type 0 where
   none_yet : Gave before [] before
@@ -32,65 +44,36 @@ pub data Gave (before : History) : List ℕ → History → Type 0 where
 
 -- The open file was read to its end, and was not too long. Else it failed, or gave more.
 abbrev pub ReadToEnd : Result (List ℕ) StoreError → History → History → Type 0
-ReadToEnd (Ok bytes) before now = (last : History) × Gave before bytes last × (now ≡ gives [] ∷ last) × (length bytes ≤ MAX_FILE)
-ReadToEnd (Err Failed) before now = (bytes : List ℕ) × (((last : History) × Gave before bytes last × (now ≡ gives_nothing ∷ last)) ⊎ (Gave before bytes now × (MAX_FILE < length bytes)))
+ReadToEnd (Ok bytes) before now = (last : History) × Gave before bytes last × (now ≡ gives [] ∷ last) × (length bytes ≤ most_bytes)
+ReadToEnd (Err Failed) before now = (bytes : List ℕ) × (((last : History) × Gave before bytes last × (now ≡ gives_nothing ∷ last)) ⊎ (Gave before bytes now × (most_bytes < length bytes)))
 ReadToEnd (Err OutOfMemory) before now = ⊤
 
--- the file was opened and read to its end, or is not there
+-- a regular file was opened and read to its end, or nothing is there any more
+abbrev pub OpenedAndRead : List ℕ → Result (Option (List ℕ)) StoreError → History → History → Type 0
+OpenedAndRead path (Ok None) before now = now ≡ opens path Missing ∷ before
+OpenedAndRead path (Ok (Some bytes)) before now = ReadToEnd (Ok bytes) (opens path Done ∷ before) now
+OpenedAndRead path (Err Failed) before now = (now ≡ opens path NotDone ∷ before) ⊎ ReadToEnd (Err Failed) (opens path Done ∷ before) now
+OpenedAndRead path (Err OutOfMemory) before now = ⊤
+
+-- the path was looked at before it was opened: what is no regular file is never opened
 abbrev pub FileRead : List ℕ → Result (Option (List ℕ)) StoreError → History → History → Type 0
-FileRead path (Ok None) before now = now ≡ opens path Missing ∷ before
-FileRead path (Ok (Some bytes)) before now = ReadToEnd (Ok bytes) (opens path Done ∷ before) now
-FileRead path (Err Failed) before now = (now ≡ opens path NotDone ∷ before) ⊎ ReadToEnd (Err Failed) (opens path Done ∷ before) now
-FileRead path (Err OutOfMemory) before now = ⊤
-
--- the bytes go to a helper beside the file, are made last there, and only then the helper takes the file's place
-abbrev pub replacing : List ℕ → List ℕ → List ℕ → List Step
-replacing helper path bytes = creates helper ∷ writes bytes ∷ syncs ∷ renames helper path ∷ []
-
--- The folders were made, the file was replaced and its entry was made last. Where the file could not be replaced, the helper
--- was taken away. Want of memory comes before any call.
-abbrev pub FileWritten : List ℕ → List ℕ → Result (Unit {0}) StoreError → History → History → Type 0
-FileWritten path bytes (Ok done) before now = now ≡ after (makes_folders (folder_of path) ∷ replacing (helper_of path) path bytes ++ syncs_folder (folder_of path) ∷ []) before
-FileWritten path bytes (Err Failed) before now =
-    Stopped (makes_folders (folder_of path) ∷ []) before now
-    ⊎ ((last : History) × (answer : Answer) × Stopped (replacing (helper_of path) path bytes) (makes_folders (folder_of path) Done ∷ before) last × (now ≡ removes (helper_of path) answer ∷ last))
-    ⊎ Stopped (syncs_folder (folder_of path) ∷ []) (after (replacing (helper_of path) path bytes) (makes_folders (folder_of path) Done ∷ before)) now
-FileWritten path bytes (Err OutOfMemory) before now = now ≡ before
+FileRead path result before now =
+    ((result ≡ Ok None) × LookedAt path (Ok None) before now)
+    ⊎ ((result ≡ Err Failed) × LookedAt path (Err Failed) before now)
+    ⊎ ((bits : ℕ) × (seen : History) × LookedAt path (Ok (Some bits)) before seen × OpenedAndRead path result seen now)
 
 -- the folders were made, and the bytes went to the end of the file itself
 abbrev pub appending : List ℕ → List ℕ → List Step
-appending path bytes = makes_folders (folder_of path) ∷ opens_to_append path ∷ writes bytes ∷ syncs ∷ syncs_folder (folder_of path) ∷ []
+appending path bytes = makes_folders (folder_of path) ∷ opens_to_append path ∷ writes bytes ∷ []
 
+-- the path was looked at first: what is no regular file, or a link, is never opened
 abbrev pub FileAppended : List ℕ → List ℕ → Result (Unit {0}) StoreError → History → History → Type 0
-FileAppended path bytes result before now = Made (appending path bytes) result before now
+FileAppended path bytes result before now =
+    ((result ≡ Err Failed) × LookedAtLink path (Err Failed) before now)
+    ⊎ ((bits : Option ℕ) × (seen : History) × LookedAtLink path (Ok bits) before seen × Made (appending path bytes) result seen now)
 
-abbrev pub FileRemoved : List ℕ → Result Bool StoreError → History → History → Type 0
-FileRemoved path result before now = now ≡ removes path (there_or_failed result) ∷ before
-
--- since then the open folder told the files of these names, and perhaps others that are no files
-pub data Told (before : History) : List (List ℕ) → History → Type 0 where
-  none_yet : Told before [] before
-  file : (names : List (List ℕ)) (name : List ℕ) (now : History) → Told before names now → Told before (names ++ chars name ∷ []) (tells name ∷ now)
-  other : (names : List (List ℕ)) (now : History) → Told before names now → Told before names (tells_no_file Other ∷ now)
-
--- The open folder told these files to its end, at most so many. Else it failed, or told one more, or more entries than can be counted.
-abbrev pub ToldToEnd : ℕ → Result (List (List ℕ)) StoreError → History → History → Type 0
-ToldToEnd most (Ok names) before now = (last : History) × Told before names last × (now ≡ tells_no_file Missing ∷ last) × (length names ≤ most)
-ToldToEnd most (Err Failed) before now =
-    (names : List (List ℕ)) × (
-    ((last : History) × Told before names last × (now ≡ tells_no_file NotDone ∷ last))
-    ⊎ ((last : History) × (name : List ℕ) × Told before names last × (now ≡ tells name ∷ last) × (most ≤ length names))
-    ⊎ (2 ^ 64 - 1 ≤ length now)
-    )
-ToldToEnd most (Err OutOfMemory) before now = ⊤
-
--- the working folder has the empty path in a store, and a dot in the file system
-abbrev pub named_folder : List ℕ → List ℕ
-named_folder [] = 46 ∷ []
-named_folder (byte ∷ bytes) = byte ∷ bytes
-
--- the folder was opened and told its files to the end, or is not there
-abbrev pub FolderListed : ℕ → List ℕ → Result (List (List ℕ)) StoreError → History → History → Type 0
-FolderListed most folder (Ok names) before now = ((now ≡ lists (named_folder folder) Missing ∷ before) × (names ≡ [])) ⊎ ToldToEnd most (Ok names) (lists (named_folder folder) Done ∷ before) now
-FolderListed most folder (Err Failed) before now = (now ≡ lists (named_folder folder) NotDone ∷ before) ⊎ ToldToEnd most (Err Failed) (lists (named_folder folder) Done ∷ before) now
-FolderListed most folder (Err OutOfMemory) before now = ⊤
+-- the file was taken away, or nothing was there, or a folder, which stays; else the call failed
+pub record FileRemoved (path : List ℕ) (result : Result Bool StoreError) (before now : History) : Type 0 where
+  pub answer : Answer
+  pub told : gone_told answer ≡ result
+  pub called : now ≡ removes path answer ∷ before

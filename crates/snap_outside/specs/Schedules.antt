@@ -1,7 +1,8 @@
 -- Which calls of an object in memory fail.
-use Rattle.std.specs.Prelude.{◌≡◌, ◌==◌, ℕ, ◌+◌, ◌-◌, ◌^◌, min, Bool, true, false, List, [], Option, None, Some, Result, Ok, Err, Vec}
+use Rattle.std.specs.Prelude.{◌≡◌, ◌==◌, ℕ, Bool, true, false, List, [], Option, None, Some, Result, Ok, Err, Vec}
 use Rattle.std.specs.declared.alloc.Global.{Global}
 use Rattle.std.specs.List.{list_any}
+use Rattle.snap_outside.specs.Causes.{one_more}
 use Rattle.snap_outside.specs.declared.outside.StoreError.{StoreError}
 use Rattle.snap_outside.specs.declared.outside.StoreError.TheVariants.{Failed, OutOfMemory}
 use Rattle.snap_outside.specs.declared.schedule.Schedule.{Schedule}
@@ -21,10 +22,6 @@ calls_so_far s = s.calls
 -- how many of them failed, up to the largest number
 abbrev pub faults_so_far : Schedule → ℕ
 faults_so_far s = s.faults
-
--- the next number, up to the largest
-abbrev pub one_more : ℕ → ℕ
-one_more n = min (n + 1) (2 ^ 64 - 1)
 
 -- the number of the next call, from 1 on
 abbrev pub next_call : Schedule → ℕ

@@ -1,6 +1,6 @@
-//! The folder of a path, and the helper beside the file.
-ghost use Rattle.std.specs.Prelude.{◌≡◌, ◌++◌, IfOk, string_bytes};
-ghost use Rattle.snap_outside.specs.Beside.{folder_of, helper_ending, helper_of};
+//! The folder of a path, the helper beside the file, and the file that another waits for.
+ghost use Rattle.std.specs.Prelude.{◌≡◌, ◌++◌, List, ℕ, IfOk, MatchOption, string_bytes};
+ghost use Rattle.snap_outside.specs.Beside.{folder_of, helper_name, helper_of, WaitsFor};
 
 use std::alloc::{AllocError, Allocator};
 
@@ -14,13 +14,18 @@ pub(crate) fn folder_of(path: &str) -> &str
     }
 }
 
-/// A hidden file beside the file, so no name of the product begins as its name does.
-pub(crate) fn helper_of<A: Allocator>(alloc: A, path: &str) -> Result<String<A>, AllocError>
-    ensures { IfOk result (λ helper. string_bytes helper ≡ helper_of path.now) }
+/// A hidden file in the folder of the path, whose name says nothing of the path: so no name of the product begins as
+/// it does, and it is short enough where the path's own name is as long as the system lets it be.
+pub(crate) fn helper_of<A: Allocator>(
+    alloc: A,
+    path: &str,
+    number: u32,
+) -> Result<String<A>, AllocError>
+    ensures { IfOk result (λ helper. string_bytes helper ≡ helper_of path.now number) }
 {
     match path.rsplit_once('/') {
-        Some((folder, name)) => hidden(alloc, folder, "/.", name),
-        None => hidden(alloc, "", ".", path),
+        Some((folder, _)) => hidden(alloc, folder, "/", number),
+        None => hidden(alloc, "", "", number),
     }
 }
 
@@ -28,13 +33,16 @@ fn hidden<A: Allocator>(
     alloc: A,
     folder: &str,
     mark: &str,
-    name: &str,
+    number: u32,
 ) -> Result<String<A>, AllocError>
-    ensures { IfOk result (λ helper. string_bytes helper ≡ folder.now ++ mark.now ++ name.now ++ helper_ending) }
+    ensures { IfOk result (λ helper. string_bytes helper ≡ folder.now ++ mark.now ++ helper_name number) }
 {
-    let mut helper = String::from_str(alloc, folder)?;
-    helper.push_str(mark)?;
-    helper.push_str(name)?;
-    helper.push_str(".snap-writing")?;
-    Ok(helper)
+    format!(in alloc; "{folder}{mark}.snap-writing-{number}")
+}
+
+/// The snapshot, where the path is that of a file that waits for a review.
+pub(crate) fn waits_for(path: &str) -> Option<&str>
+    ensures { MatchOption result ((snapshot : List ℕ) → WaitsFor path.now snapshot → ⊥) (λ snapshot. WaitsFor path.now snapshot.now) }
+{
+    path.strip_suffix(".new")
 }

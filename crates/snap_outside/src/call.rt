@@ -1,31 +1,35 @@
-//! The words of a record of calls: what was asked of the file system, and what it answered.
+//! The words of a record of calls: what was asked of the system, and what it answered.
 
 /// What was asked.
 #[derive(Clone, Copy)]
 pub enum Asked {
+    /// What stands at a path, behind the links there.
+    Look,
+    /// What stands at a path itself, which may be a link.
+    LookAtLink,
     /// To open a file, so that it can be read.
     Open,
     /// For the next bytes of the file that was opened.
     Read,
     /// To make a folder and those above it.
     MakeFolders,
-    /// To make a file, or to empty one.
-    Create,
+    /// To make a file where nothing is, not even a link, with no permission bits but these.
+    CreateNew(Option<u32>),
+    /// To give the file that was made these permission bits.
+    SetBits(u32),
     /// To open a file, so that bytes are added at its end.
     OpenToAppend,
     /// To write the bytes to the file that was opened.
     Write,
-    /// To make the bytes of the file that was opened last.
-    Sync,
-    /// To make the entries of a folder last.
-    SyncFolder,
+    /// To hand on what the writer holds back.
+    Flush,
     /// To move a file to another's place.
     Rename,
     /// To take a file away.
     Remove,
-    /// To open a folder, so that its entries can be told.
+    /// To open a folder, so that its names can be read.
     List,
-    /// For the next entry of the folder that was opened.
+    /// For the next names of the folder that was opened.
     Next,
 }
 
@@ -33,9 +37,13 @@ pub enum Asked {
 #[derive(Clone, Copy)]
 pub enum Answer {
     Done,
+    /// A regular file is there, with these permission bits.
+    File(u32),
     /// Nothing was there.
     Missing,
-    /// Something was there that is no file, or whose name is no text.
+    /// Something was there already.
+    Taken,
+    /// Something was there that is no regular file.
     Other,
     Failed,
 }

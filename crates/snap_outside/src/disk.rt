@@ -3,16 +3,18 @@
 ghost use Rattle.std.specs.Prelude.{◌≡◌, [], ◌∷◌, OnOk};
 ghost use Rattle.std.specs.Io.{ReadsAtMost};
 ghost use Rattle.std.specs.Io.KnownBytes.{ReadConsumes, Appends};
-ghost use Rattle.snap_outside.specs.Calls.{opens, makes_folders, creates, opens_to_append, writes, syncs, syncs_folder, renames, removes, lists, done_or_failed, found_or_failed, there_or_failed, read_call};
-ghost use Rattle.snap_outside.specs.Disks.{asked_of, told_call};
-ghost use Rattle.snap_outside.specs.Told.{IsToldAs, IsFoundAs};
+ghost use Rattle.snap_outside.specs.Calls.{looks, looks_at_link, opens, makes_folders, creates_new, sets_bits, opens_to_append, writes, renames, removes, lists, done_or_failed, found_or_failed, made_or_taken, read_call, tell_call};
+ghost use Rattle.snap_outside.specs.Disks.{asked_of};
+ghost use Rattle.snap_outside.specs.Told.{IsToldAs, IsFoundAs, IsMadeAs};
 
+use crate::answers::{removed, seen, told, told_found, told_made};
 use crate::call::{Answer, Asked};
-use crate::folder_entries::{Entries, Found};
+use crate::opening::{append_options, new_file_options};
 use crate::outside::Fault;
 use crate::record::Record;
-use std::fs::{DirEntry, Files, OpenFile, OpenOptions};
-use std::io::{ErrorKind, Read, Write};
+use std::fs::{Files, OpenFile, Permissions};
+use std::io::{Read, Write};
+use std::os::unix::fs::PermissionsExt;
 use std::{fs, io};
 
 /// The files of the system by their paths; a path that does not begin with a slash is one of the working folder.
@@ -50,19 +52,17 @@ impl<R: Files + Alloc + Clone + Drop> Disk<R> {
         bytes: &[u8],
         answer: io::Result<T>,
     ) -> Result<T, Fault>
-        ensures noted { asked_of self.new ≡ (asked, done_or_failed result, path.now, bytes.now) ∷ asked_of self.old }
         ensures told { IsToldAs answer result }
+        ensures noted { asked_of self.new ≡ (asked, done_or_failed result, path.now, bytes.now) ∷ asked_of self.old }
     {
-        match answer {
-            Ok(value) => {
-                self.note(asked, Answer::Done, path, bytes);
-                Ok(value)
-            }
-            Err(_) => {
-                self.note(asked, Answer::Failed, path, bytes);
-                Err(Fault)
-            }
-        }
+        let told = told(answer);
+        let noted = if told.is_ok() {
+            Answer::Done
+        } else {
+            Answer::Failed
+        };
+        self.note(asked, noted, path, bytes);
+        told
     }
 
     /// Notes a call that may find nothing at the path. Another error is no missing file.
@@ -75,20 +75,32 @@ impl<R: Files + Alloc + Clone + Drop> Disk<R> {
         ensures told { IsFoundAs answer result }
         ensures noted { asked_of self.new ≡ (asked, found_or_failed result, path.now, []) ∷ asked_of self.old }
     {
-        match answer {
-            Ok(value) => {
-                self.note(asked, Answer::Done, path, &[]);
-                Ok(Some(value))
-            }
-            Err(error) if error.kind() == ErrorKind::NotFound => {
-                self.note(asked, Answer::Missing, path, &[]);
-                Ok(None)
-            }
-            Err(_) => {
-                self.note(asked, Answer::Failed, path, &[]);
-                Err(Fault)
-            }
-        }
+        let told = told_found(answer);
+        let noted = match &told {
+            Ok(Some(_)) => Answer::Done,
+            Ok(None) => Answer::Missing,
+            Err(Fault) => Answer::Failed,
+        };
+        self.note(asked, noted, path, &[]);
+        told
+    }
+
+    /// What stands at the path, behind the links there.
+    pub(crate) fn look(&mut self, path: &str) -> Answer
+        ensures { asked_of self.new ≡ looks path.now result ∷ asked_of self.old }
+    {
+        let answer = seen(fs::metadata(&self.rt, path));
+        self.note(Asked::Look, answer, path, &[]);
+        answer
+    }
+
+    /// What stands at the path itself, which may be a link.
+    pub(crate) fn look_at_link(&mut self, path: &str) -> Answer
+        ensures { asked_of self.new ≡ looks_at_link path.now result ∷ asked_of self.old }
+    {
+        let answer = seen(fs::symlink_metadata(&self.rt, path));
+        self.note(Asked::LookAtLink, answer, path, &[]);
+        answer
     }
 
     /// Opens the file to read it, where there is one.
@@ -125,22 +137,39 @@ impl<R: Files + Alloc + Clone + Drop> Disk<R> {
         self.done(Asked::MakeFolders, folder, &[], made)
     }
 
-    /// Makes the file, or empties it.
-    pub(crate) fn create(&mut self, path: &str) -> Result<R::File, Fault>
-        ensures { asked_of self.new ≡ creates path.now (done_or_failed result) ∷ asked_of self.old }
+    /// Makes the file, where nothing is there, not even a link: with no permission bits but these, or with those that
+    /// the system chooses.
+    pub(crate) fn create_new(
+        &mut self,
+        path: &str,
+        bits: Option<u32>,
+    ) -> Result<Option<R::File>, Fault>
+        ensures { asked_of self.new ≡ creates_new path.now bits (made_or_taken result) ∷ asked_of self.old }
     {
-        let file = fs::create(&self.rt, path);
-        self.done(Asked::Create, path, &[], file)
+        let file = new_file_options(bits).open(&self.rt, path);
+        let made = told_made(file);
+        let noted = match &made {
+            Ok(Some(_)) => Answer::Done,
+            Ok(None) => Answer::Taken,
+            Err(Fault) => Answer::Failed,
+        };
+        self.note(Asked::CreateNew(bits), noted, path, &[]);
+        made
+    }
+
+    /// Gives the file these permission bits, whatever the system narrows.
+    pub(crate) fn set_bits(&mut self, file: &R::File, bits: u32) -> Result<(), Fault>
+        ensures { asked_of self.new ≡ sets_bits bits (done_or_failed result) ∷ asked_of self.old }
+    {
+        let set = file.set_permissions(Permissions::from_mode(bits));
+        self.done(Asked::SetBits(bits), "", &[], set)
     }
 
     /// Opens the file, or makes it, to add bytes at its end.
     pub(crate) fn open_to_append(&mut self, path: &str) -> Result<R::File, Fault>
         ensures { asked_of self.new ≡ opens_to_append path.now (done_or_failed result) ∷ asked_of self.old }
     {
-        let file = OpenOptions::new()
-            .append(true)
-            .create(true)
-            .open(&self.rt, path);
+        let file = append_options().open(&self.rt, path);
         self.done(Asked::OpenToAppend, path, &[], file)
     }
 
@@ -153,22 +182,6 @@ impl<R: Files + Alloc + Clone + Drop> Disk<R> {
         self.done(Asked::Write, "", bytes, written)
     }
 
-    /// Makes what was written to the file last.
-    pub(crate) fn sync(&mut self, file: &R::File) -> Result<(), Fault>
-        ensures { asked_of self.new ≡ syncs (done_or_failed result) ∷ asked_of self.old }
-    {
-        let synced = file.sync_all();
-        self.done(Asked::Sync, "", &[], synced)
-    }
-
-    /// Makes the entries of the folder last.
-    pub(crate) fn sync_folder(&mut self, folder: &str) -> Result<(), Fault>
-        ensures { asked_of self.new ≡ syncs_folder folder.now (done_or_failed result) ∷ asked_of self.old }
-    {
-        let synced = sync_entries(&self.rt, folder);
-        self.done(Asked::SyncFolder, folder, &[], synced)
-    }
-
     /// Moves the file to the other's place, in one step.
     pub(crate) fn rename(&mut self, from: &str, to: &str) -> Result<(), Fault>
         ensures { asked_of self.new ≡ renames from.now to.now (done_or_failed result) ∷ asked_of self.old }
@@ -177,53 +190,39 @@ impl<R: Files + Alloc + Clone + Drop> Disk<R> {
         self.done(Asked::Rename, from, to.as_bytes(), moved)
     }
 
-    /// Takes the file away. Whether it was there.
-    pub(crate) fn remove(&mut self, path: &str) -> Result<bool, Fault>
-        ensures { asked_of self.new ≡ removes path.now (there_or_failed result) ∷ asked_of self.old }
+    /// Takes the file away, or the link.
+    pub(crate) fn remove(&mut self, path: &str) -> Answer
+        ensures { asked_of self.new ≡ removes path.now result ∷ asked_of self.old }
     {
-        let removed = fs::remove_file(&self.rt, path);
-        match self.found(Asked::Remove, path, removed) {
-            Ok(Some(())) => Ok(true),
-            Ok(None) => Ok(false),
-            Err(fault) => Err(fault),
-        }
+        let answer = removed(fs::remove_file(&self.rt, path));
+        self.note(Asked::Remove, answer, path, &[]);
+        answer
     }
 
     /// Opens the folder, where there is one.
-    pub(crate) fn list(&mut self, folder: &str) -> Result<Option<Entries<R>>, Fault>
+    pub(crate) fn list(&mut self, folder: &str) -> Result<Option<R::Dir>, Fault>
         ensures { asked_of self.new ≡ lists folder.now (found_or_failed result) ∷ asked_of self.old }
     {
-        let left = fs::read_dir(&self.rt, folder);
-        match self.found(Asked::List, folder, left) {
-            Ok(Some(left)) => Ok(Some(Entries::new(&self.rt, folder, left))),
-            Ok(None) => Ok(None),
-            Err(fault) => Err(fault),
-        }
+        let names = self.rt.open_dir(folder);
+        self.found(Asked::List, folder, names)
     }
 
-    /// The next entry of the folder.
-    pub(crate) fn next(
-        &mut self,
-        entries: &mut Entries<R>,
-    ) -> Result<Found<DirEntry<R, R::A>>, Fault>
-        ensures { asked_of self.new ≡ told_call result ∷ asked_of self.old }
+    /// Puts the next names of the folder at the front of the buffer, each ended by a 0. No bytes for a buffer that has
+    /// room are the end.
+    pub(crate) fn next(&mut self, names: &mut R::Dir, buffer: &mut [u8]) -> Result<usize, Fault>
+        ensures bound { ReadsAtMost result buffer.new }
+        ensures given { ReadConsumes (R.Dir.Read.remaining names.old) (R.Dir.Read.remaining names.new) result buffer.new }
+        ensures noted { asked_of self.new ≡ tell_call result buffer.new ∷ asked_of self.old }
     {
-        let found = entries.next();
-        match &found {
-            Ok(Found::File(entry)) => self.note(Asked::Next, Answer::Done, entry.file_name(), &[]),
-            Ok(Found::Other) => self.note(Asked::Next, Answer::Other, "", &[]),
-            Ok(Found::End) => self.note(Asked::Next, Answer::Missing, "", &[]),
-            Err(Fault) => self.note(Asked::Next, Answer::Failed, "", &[]),
+        match names.read(buffer) {
+            Ok(count) => {
+                self.note(Asked::Next, Answer::Done, "", &buffer[..count]);
+                Ok(count)
+            }
+            Err(_) => {
+                self.note(Asked::Next, Answer::Failed, "", &[]);
+                Err(Fault)
+            }
         }
-        found
-    }
-}
-
-/// Some file systems have no such call, and say that it is invalid.
-fn sync_entries<R: Files>(rt: &R, folder: &str) -> io::Result<()> {
-    match fs::open(rt, folder)?.sync_all() {
-        Ok(()) => Ok(()),
-        Err(error) if error.kind() == ErrorKind::InvalidInput => Ok(()),
-        Err(error) => Err(error),
     }
 }

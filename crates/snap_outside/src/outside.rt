@@ -4,7 +4,7 @@ ghost use Rattle.std.specs.Prelude.{◌≡◌, ◌<◌, ◌↔◌, ◌++◌, [],
 ghost use Rattle.std.specs.FinMap.{get, insert, remove};
 ghost use Rattle.std.specs.Io.{ReadsAtMost, WritesAtMost};
 ghost use Rattle.snap_outside.specs.Causes.{HasCause, StoreCause};
-ghost use Rattle.snap_outside.specs.Files.{Files, SameBut, appended};
+ghost use Rattle.snap_outside.specs.Files.{Files, SameBut, MayBeGone, appended};
 ghost use Rattle.snap_outside.specs.Listed.{AreNames};
 ghost use Rattle.snap_outside.specs.Streams.{GivesFront};
 
@@ -109,8 +109,8 @@ pub trait Sink {
 }
 
 /// Files by their paths. Paths are texts, and two texts name two files.
-/// After a `write`, an `append` or a `remove` that failed or found no memory the file at that path is unknown,
-/// and all others are as they were; `read` and `list` change nothing.
+/// After a `write` or an `append` that failed or found no memory the file at that path is unknown, and all others
+/// are as they were; after such a `remove` the file is as it was or gone; `read` and `list` change nothing.
 pub trait Store {
     /// The files, where it tells them.
     ghost files: { Self → Option Files };
@@ -140,7 +140,7 @@ pub trait Store {
     fn remove(&mut self, path: &Text) -> Result<bool, StoreError>
         ensures found { IfOk result (λ found. (m : Files) → files self.old ≡ Some m → IsTrue found ↔ IsSome (get m path.now)) }
         ensures removed { OnOk result ((m : Files) → files self.old ≡ Some m → files self.new ≡ Some (remove m path.now)) }
-        ensures unknown { OnErr result ((m : Files) → files self.old ≡ Some m → SameBut path.now m (files self.new)) }
+        ensures stopped { OnErr result ((m : Files) → files self.old ≡ Some m → MayBeGone path.now m (files self.new)) }
         ensures cause { StoreCause (faults self.old) (faults self.new) result };
 
     /// The names of the files in a folder; none for a missing folder.

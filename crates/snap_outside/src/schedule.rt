@@ -1,8 +1,8 @@
 //! Which calls of an object fail, and how many did.
 ghost use Rattle.std.specs.Prelude.{◌≡◌, IsTrue};
 ghost use Rattle.std.specs.Bool.{OnTrue, OnFalse};
-ghost use Rattle.snap_outside.specs.Causes.{Rose};
-ghost use Rattle.snap_outside.specs.Schedules.{listed_calls, calls_so_far, faults_so_far, fails_next, one_more, Counts, IsFresh, ListsCalls};
+ghost use Rattle.snap_outside.specs.Causes.{Rose, one_more};
+ghost use Rattle.snap_outside.specs.Schedules.{listed_calls, calls_so_far, faults_so_far, fails_next, Counts, IsFresh, ListsCalls};
 
 /// The calls that fail by their numbers, from 1 on, and the counts of calls and of faults so far.
 #[derive(Drop)]
@@ -48,6 +48,13 @@ impl Schedule {
             self.fault();
         }
         fails
+    }
+
+    /// How many calls failed so far, up to the largest number.
+    pub const fn faults(&self) -> u64
+        ensures { result ≡ faults_so_far self.now }
+    {
+        self.faults
     }
 
     /// Raises the count of faults.

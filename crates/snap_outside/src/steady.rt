@@ -1,9 +1,9 @@
 //! A store, a source and a sink in memory that do not fail.
 ghost use Rattle.std.specs.Prelude.{◌≡◌, ◌<◌, ◌++◌, [], List, ℕ, Some, length, take, IfOk, OnOk, OnErr, option_map};
 ghost use Rattle.std.specs.FinMap.{empty, insert, get, len};
-ghost use Rattle.std.specs.Io.{ReadsAtMost};
-ghost use Rattle.snap_outside.specs.Causes.{HasCause};
-ghost use Rattle.snap_outside.specs.Held.{steady_files, steady_left, steady_piece, count_given, steady_written};
+ghost use Rattle.std.specs.Io.{ReadsAtMost, WritesAtMost};
+ghost use Rattle.snap_outside.specs.Causes.{HasCause, FailsOnce};
+ghost use Rattle.snap_outside.specs.Held.{steady_files, steady_left, steady_piece, count_given, steady_written, steady_faults};
 
 use crate::files::MemoryFiles;
 use crate::names::Names;
@@ -157,7 +157,15 @@ impl Sink for SteadySink {
 
     ghost faults = { λ sink. sink.faults };
 
-    fn write(&mut self, bytes: &[u8]) -> Result<usize, Fault> {
+    fn write(&mut self, bytes: &[u8]) -> Result<usize, Fault>
+        ensures count { IfOk result (λ count. count ≡ length bytes.now) }
+        ensures bound { WritesAtMost result bytes.now }
+        ensures some { IfOk result (λ count. 0 < length bytes.now → 0 < count) }
+        ensures bytes { IfOk result (λ count. steady_written self.new ≡ steady_written self.old ++ take count bytes.now) }
+        ensures kept { OnErr result (steady_written self.new ≡ steady_written self.old) }
+        ensures cause { HasCause (steady_faults self.old) (steady_faults self.new) result }
+        ensures once { FailsOnce (steady_faults self.old) (steady_faults self.new) result }
+    {
         if self.bytes.extend_from_slice(bytes).is_err() {
             self.faults = self.faults.saturating_add(1);
             return Err(Fault);

@@ -42,10 +42,11 @@ fn after_read<S: Store>(alloc: Global, store: &mut S, path: &Text) -> Result<Tex
 }
 
 fn after_list<S: Store>(alloc: Global, store: &mut S, folder: &Text) -> Result<Text, OutOfMemory> {
-    let names = match store.list(alloc, folder) {
-        Ok(names) => names,
+    let mut names = match store.list(alloc, folder) {
+        Ok(names) => names.into_vec(),
         Err(error) => return after_error(alloc, error),
     };
+    names.sort()?;
     let mut all = Text::empty();
     for name in names.as_slice() {
         all.push_str(alloc, name.as_str())?;

@@ -1,12 +1,12 @@
 //! The store over real files, and over a folder whose names no real path can spell here.
-use super::{Call, after_call, assert_steps, text};
-use crate::beside::helper_of;
+use super::{Call, assert_steps, text};
 use crate::disk::Disk;
-use crate::folder::list_folder;
-use crate::{FolderStore, Names, StoreError};
+use crate::folder_names::list_folder;
+use crate::{FolderStore, Names, Store, StoreError};
 use std::alloc::{Allocator, Global};
 use std::fs::{Files, Metadata, OpenOptions};
 use std::io::ErrorKind;
+use std::os::unix::fs::symlink;
 use std::test::Fail;
 use std::{fs, io};
 
@@ -22,19 +22,19 @@ fn folder_store_keeps_files(rt: HostRuntime) -> Result<(), Fail> {
         ("folder_store_test/x/a", Call::Write(b"one"), "written"),
         ("folder_store_test/x/a", Call::Write(b"two"), "written"),
         ("folder_store_test/x/a", Call::Read, "two"),
-        ("folder_store_test/x", Call::List, "a "),
+        ("folder_store_test/x", Call::List, "a s "),
         ("folder_store_test/x/a", Call::Remove, "removed"),
         ("folder_store_test/x/a", Call::Remove, "nothing"),
         // A folder in a file's place, and a file in a folder's.
         ("folder_store_test/x", Call::Read, "Failed"),
         ("folder_store_test/x", Call::Write(b"one"), "Failed"),
-        ("folder_store_test/x", Call::Remove, "Failed"),
+        ("folder_store_test/x/s", Call::Remove, "nothing"),
         ("folder_store_test/x/s/b", Call::List, "Failed"),
         ("folder_store_test/x", Call::Append(b"one"), "Failed"),
         ("folder_store_test/x/s/b/c", Call::Write(b"one"), "Failed"),
         // No helper is left, of a write that failed neither.
-        ("folder_store_test", Call::List, ""),
-        ("folder_store_test/x", Call::List, ""),
+        ("folder_store_test", Call::List, "x "),
+        ("folder_store_test/x", Call::List, "s "),
         ("folder_store_test/x/s", Call::List, "b "),
     ];
     assert_steps(&rt, alloc, &mut store, &steps)?;
@@ -81,37 +81,72 @@ fn the_working_folder_needs_no_name(rt: HostRuntime) -> Result<(), Fail> {
     Ok(())
 }
 
+/// What has a helper's name may be another run's, or a link that leads elsewhere.
 #[test]
-fn a_file_is_read_up_to_the_limit(rt: HostRuntime) -> Result<(), Fail> {
+fn a_taken_helper_stays_as_it_is(rt: HostRuntime) -> Result<(), Fail> {
     let alloc = rt.alloc();
-    for (bytes, want) in [(67_108_864, None), (67_108_865, Some("Failed"))] {
-        // The file has no blocks on the disk.
-        fs::create(&rt, "limit_test")?.set_len(bytes)?;
-        let mut store = FolderStore::new(rt.clone()?);
-        let answer = after_call(alloc, &mut store, &text(alloc, "limit_test")?, Call::Read)?;
-        match want {
-            Some(words) => assert_eq!(rt; answer.as_str(), words),
-            None => assert_eq!(rt; answer.as_str().len(), 67_108_864),
-        }
-        fs::remove_file(&rt, "limit_test")?;
-    }
+    let _ = fs::remove_dir_all(&rt, "helper_test");
+    fs::create_dir(&rt, "helper_test")?;
+    fs::write(&rt, "helper_test/elsewhere", b"mine")?;
+    symlink(&rt, "elsewhere", "helper_test/.snap-writing-0")?;
+    symlink(&rt, "nothing", "helper_test/.snap-writing-1")?;
+    fs::write(&rt, "helper_test/.snap-writing-2", b"another's")?;
+    let mut store = FolderStore::new(rt.clone()?);
+    let steps = [
+        ("helper_test/a", Call::Write(b"one"), "written"),
+        ("helper_test/a", Call::Read, "one"),
+        ("helper_test/elsewhere", Call::Read, "mine"),
+        ("helper_test/nothing", Call::Read, "nothing"),
+        ("helper_test/.snap-writing-2", Call::Read, "another's"),
+        (
+            "helper_test",
+            Call::List,
+            ".snap-writing-0 .snap-writing-1 .snap-writing-2 a elsewhere ",
+        ),
+    ];
+    assert_steps(&rt, alloc, &mut store, &steps)?;
+    fs::remove_dir_all(&rt, "helper_test")?;
     Ok(())
 }
 
 #[test]
-fn a_helper_is_no_snapshot(rt: HostRuntime) -> Result<(), Fail> {
+fn a_write_does_not_follow_a_link(rt: HostRuntime) -> Result<(), Fail> {
     let alloc = rt.alloc();
-    for (path, helper) in [
-        ("w/a.snap", "w/.a.snap.snap-writing"),
-        ("w/a.snap.new", "w/.a.snap.new.snap-writing"),
-        ("a.snap", ".a.snap.snap-writing"),
-        ("/a.snap", "/.a.snap.snap-writing"),
-    ] {
-        let made = helper_of(alloc, path)?;
-        assert_eq!(rt; made.as_str(), helper);
-        assert!(rt; !made.as_str().ends_with(".snap"), "at {path}");
-        assert!(rt; !made.as_str().starts_with(path), "at {path}");
+    let _ = fs::remove_dir_all(&rt, "link_test");
+    fs::create_dir(&rt, "link_test")?;
+    fs::write(&rt, "link_test/elsewhere", b"mine")?;
+    symlink(&rt, "elsewhere", "link_test/a")?;
+    symlink(&rt, "elsewhere", "link_test/b")?;
+    let mut store = FolderStore::new(rt.clone()?);
+    let steps = [
+        ("link_test/a", Call::Read, "mine"),
+        ("link_test/a", Call::Append(b"more"), "Failed"),
+        ("link_test/a", Call::Write(b"one"), "written"),
+        ("link_test/a", Call::Read, "one"),
+        ("link_test/b", Call::Remove, "removed"),
+        ("link_test/elsewhere", Call::Read, "mine"),
+        // A device.
+        ("/dev/null", Call::Read, "Failed"),
+        ("/dev/null", Call::Append(b"one"), "Failed"),
+    ];
+    assert_steps(&rt, alloc, &mut store, &steps)?;
+    fs::remove_dir_all(&rt, "link_test")?;
+    Ok(())
+}
+
+/// The longest name that the system takes, in more files than it tells at once.
+#[test]
+fn long_names_are_written_and_listed(rt: HostRuntime) -> Result<(), Fail> {
+    let alloc = rt.alloc();
+    let _ = fs::remove_dir_all(&rt, "long_names_test");
+    let mut store = FolderStore::new(rt.clone()?);
+    for number in 100..140 {
+        let path = format!(in alloc; "long_names_test/{number:0>255}")?;
+        assert_eq!(rt; store.write(&text(alloc, path.as_str())?, b""), Ok(()));
     }
+    let names = store.list(alloc, &text(alloc, "long_names_test")?)?;
+    assert_eq!(rt; names.len(), 40);
+    fs::remove_dir_all(&rt, "long_names_test")?;
     Ok(())
 }
 

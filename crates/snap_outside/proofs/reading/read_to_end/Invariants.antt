@@ -1,7 +1,7 @@
 use Rattle.std.proofs.Common.{◌≡◌, ◌-◌, length}
 use Rattle.snap_outside.specs.Disks.{asked_of}
 use Rattle.snap_outside.specs.Operations.{Gave}
-use Rattle.snap_outside.proofs.folder.read_to_end.Given as goal
+use Rattle.snap_outside.proofs.reading.read_to_end.Given as goal
 
 abbrev pub invariant-loop-alloc : goal.invariant-loop-alloc
 invariant-loop-alloc g l = record {

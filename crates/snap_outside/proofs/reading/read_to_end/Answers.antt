@@ -1,6 +1,6 @@
 use Rattle.std.proofs.Common.{◌∙◌, refl}
 use Rattle.snap_outside.proofs.Asking.{gave_none, gave_more}
-use Rattle.snap_outside.proofs.folder.read_to_end.Goals as goal
+use Rattle.snap_outside.proofs.reading.read_to_end.Goals as goal
 
 pub loop-alloc-init : goal.loop-alloc-init
 loop-alloc-init g c = record { gave = gave_none _ _ c.new-bytes.ensures.items; room = refl }

@@ -1,0 +1,98 @@
+//! The names in a real folder.
+ghost use Rattle.std.specs.Prelude.{◌≡◌, ◌++◌, true, false, IfOk, MatchOption, string_bytes};
+ghost use Rattle.snap_outside.specs.Disks.{asked_of};
+ghost use Rattle.std.specs.Str.{is_utf8};
+ghost use Rattle.snap_outside.specs.Listing.{is_entry, is_listed, names_in, ToldToEnd, opened_folder, FolderTold};
+
+use crate::disk::Disk;
+use crate::names::Names;
+use crate::outside::StoreError;
+use snap_content::{OutOfMemory, Text};
+use std::alloc::{AllocError, Allocator, Global};
+use std::fs::Files;
+
+/// The names in a folder, folders among them; not those that are no UTF-8. More than `most` are a fault.
+pub(crate) fn list_folder<R: Files + Alloc + Clone + Drop>(
+    disk: &mut Disk<R>,
+    alloc: Global,
+    folder: &str,
+    most: usize,
+) -> Result<Names, StoreError>
+    ensures { FolderTold most folder.now result (asked_of disk.old) (asked_of disk.new) }
+{
+    let path = opened_folder(disk.alloc(), folder)?;
+    match disk.list(path.as_str())? {
+        Some(mut told) => read_names(disk, alloc, &mut told, most),
+        None => Ok(Names::new(alloc)),
+    }
+}
+
+/// The slash behind it makes the system follow a link there. The working folder is a dot to the system.
+fn opened_folder<A: Allocator>(alloc: A, folder: &str) -> Result<String<A>, AllocError>
+    ensures { IfOk result (λ path. string_bytes path ≡ opened_folder folder.now) }
+{
+    let mut path = String::from_str(alloc, if folder.is_empty() { "." } else { folder })?;
+    path.push_str("/")?;
+    Ok(path)
+}
+
+/// The names that the open folder tells, up to its end.
+fn read_names<R: Files + Alloc + Clone + Drop>(
+    disk: &mut Disk<R>,
+    alloc: Global,
+    told: &mut R::Dir,
+    most: usize,
+) -> Result<Names, StoreError>
+    ensures { ToldToEnd most result (asked_of disk.old) (asked_of disk.new) }
+{
+    let mut names = Names::new(alloc);
+    // A name has at most 255 bytes, and the system gives no part of one.
+    let mut buffer = [0u8; 4096];
+    for _ in 0..u64::MAX {
+        let count = disk.next(told, &mut buffer)?;
+        if count == 0 {
+            return Ok(names);
+        }
+        push_names(alloc, &mut names, &buffer[..count])?;
+        if names.len() > most {
+            return Err(StoreError::Failed);
+        }
+    }
+    Err(StoreError::Failed)
+}
+
+/// Adds the names in the bytes, each ended by a 0.
+pub(crate) fn push_names(alloc: Global, names: &mut Names, bytes: &[u8]) -> Result<(), OutOfMemory>
+    ensures { IfOk result (λ _. names.new ≡ names.old ++ names_in bytes.now) }
+{
+    for name in bytes.split(|byte| *byte == 0) {
+        if let Some(name) = listed(name) {
+            names.push(Text::from_str(alloc, name)?)?;
+        }
+    }
+    Ok(())
+}
+
+/// The name as a text, where it is that of an entry.
+fn listed(name: &[u8]) -> Option<&str>
+    ensures { MatchOption result (is_listed name.now ≡ false) (λ text. (text.now ≡ name.now) × (is_listed name.now ≡ true)) }
+{
+    let text = text_of(name)?;
+    if is_entry(text) { Some(text) } else { None }
+}
+
+fn text_of(name: &[u8]) -> Option<&str>
+    ensures { MatchOption result (is_utf8 name.now ≡ false) (λ text. (text.now ≡ name.now) × (is_utf8 name.now ≡ true)) }
+{
+    match str::from_utf8(name) {
+        Ok(text) => Some(text),
+        Err(_) => None,
+    }
+}
+
+/// Neither empty, nor the folder itself, nor the one above.
+fn is_entry(name: &str) -> bool
+    ensures { result ≡ is_entry name.now }
+{
+    !name.is_empty() && name != "." && name != ".."
+}
