@@ -29,6 +29,3 @@ pub use lent::Lent;
 pub use lists::{Fields, Items, Pairs};
 pub use memory::OutOfMemory;
 pub use text::Text;
-
-#[cfg(test)]
-mod tests;

@@ -10,10 +10,3 @@ pub mod yaml;
 
 pub use snap_print::{need_quotes, spelled_text};
 pub use yaml::{Header, parse_header, parse_str, to_string};
-
-#[cfg(test)]
-mod original_rows;
-#[cfg(test)]
-mod original_tests;
-#[cfg(test)]
-mod tests;

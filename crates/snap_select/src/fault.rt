@@ -21,7 +21,7 @@ pub enum SelectFault {
 
 /// Why a text is no selector, and where.
 #[derive(Clone, Copy, Debug, PartialEq, Eq, Error)]
-#[error("{kind}")]
+#[error("SelectorParseError")]
 pub struct SelectorParseError {
     kind: SelectFault,
     column: usize,

@@ -26,8 +26,3 @@ pub use path_item::PathItem;
 pub use redaction::Redaction;
 pub use segment::Segment;
 pub use selector::Selector;
-
-#[cfg(test)]
-mod redact_tests;
-#[cfg(test)]
-mod tests;

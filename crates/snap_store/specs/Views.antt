@@ -1,7 +1,8 @@
 -- What metadata and snapshots are seen as.
-use Rattle.std.specs.Prelude.{ℕ, Bool, List, Option, None, Some, option_map}
+use Rattle.std.specs.Prelude.{◌≡◌, ℕ, Bool, List, Option, None, Some, option_map}
 use Rattle.snap_content.specs.View.{tree}
-use Rattle.snap_text.specs.Contents.{raw_of}
+use Rattle.snap_text.specs.Contents.{compared_of, kind_of}
+use Rattle.snap_text.specs.declared.contents.TextSnapshotKind.TheVariants.{File}
 use Rattle.snap_store.specs.Meta.{Meta}
 use Rattle.snap_store.specs.declared.metadata.MetaData.{MetaData}
 use Rattle.snap_store.specs.declared.contents.SnapshotContents.{SnapshotContents}
@@ -35,7 +36,12 @@ contents_in snapshot = snapshot.contents
 abbrev pub legacy_in : Snapshot → Bool
 legacy_in snapshot = snapshot.was_legacy
 
--- the raw text of text contents
+-- of text contents what is compared and saved: the raw text of a file, and an inline one without the indentation that its lines share
 abbrev pub text_in : SnapshotContents → Option (List ℕ)
-text_in (Text contents) = Some (raw_of contents)
+text_in (Text contents) = Some (compared_of contents)
 text_in (Binary payload) = None
+
+-- the contents are the text of a file
+abbrev pub IsFileText : SnapshotContents → Type 0
+IsFileText (Text contents) = kind_of contents ≡ File
+IsFileText (Binary payload) = ⊥

@@ -9,11 +9,7 @@
 
 pub mod contents;
 pub mod fields;
-#[cfg(test)]
-mod file_tests;
 mod header;
-#[cfg(test)]
-mod held_tests;
 pub mod laws;
 pub mod legacy;
 pub mod metadata;
@@ -21,11 +17,12 @@ mod reading;
 mod saving;
 pub mod snapshot;
 pub mod split;
-#[cfg(test)]
-mod tests;
 
 pub use contents::SnapshotContents;
 pub use metadata::{MetaData, SnapshotKind};
-pub use snap_outside::{Fault, Names, Sink, Source, Store, StoreError};
+pub use snap_outside::{
+    Fault, FolderStore, MemorySink, MemorySource, MemoryStore, Names, Sink, Source, SteadySink,
+    SteadySource, SteadyStore, Store, StoreError, StreamSink, StreamSource,
+};
 pub use snap_path::{names_of_path, path_join, path_name, path_parent, path_relative_from};
 pub use snapshot::Snapshot;

@@ -1,6 +1,6 @@
 //! Which paths are matched, and trees with what is made of them. The original makes the same of each.
-use crate::{PathItem, Redaction, Selector};
 use snap_content::{Content, Fields, Items, OutOfMemory, Pairs, Text};
+use snap_select::{PathItem, Redaction, Selector};
 use std::alloc::Global;
 use std::process::Abort;
 use std::test::Fail;

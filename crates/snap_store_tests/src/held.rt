@@ -5,9 +5,9 @@
 //! fences with white space, bodies). The original's reader read each; this table is a sample of its answers. It
 //! refused six; here the same six are refused, and six more, whose header has no end and is no text that this library
 //! prints. All others were read alike.
-use crate::Snapshot;
 use snap_content::Text;
 use snap_outside::SteadyStore;
+use snap_store::Snapshot;
 use std::alloc::Global;
 use std::test::Fail;
 

@@ -1,6 +1,6 @@
 //! What the formats say of printed texts, by examples.
-use crate::{need_quotes, parse_header, parse_str, to_string};
 use snap_content::{Content, Error, Items, OutOfMemory, Pairs, Text};
+use snap_emit::{need_quotes, parse_header, parse_str, to_string};
 use std::alloc::Global;
 use std::process::Abort;
 use std::test::Fail;

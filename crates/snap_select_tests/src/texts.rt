@@ -1,5 +1,6 @@
 //! Texts of selectors, with what they spell and where they are refused, and the texts of the errors.
-use crate::{Segment, SelectError, SelectFault, Selector};
+use snap_content::Content;
+use snap_select::{PathItem, SelectError, SelectFault, Selector};
 use std::alloc::Global;
 use std::fmt::Display;
 use std::process::Abort;
@@ -12,25 +13,33 @@ enum Step {
     Index(u64),
 }
 
-/// Whether the segment is that step.
-fn is_step(segment: &Segment<'_>, step: Step) -> bool {
-    match (segment, step) {
-        (Segment::Key(key), Step::Key(name)) => key.as_str() == name,
-        (Segment::Index(index), Step::Index(number)) => *index == number,
-        _ => false,
-    }
+/// A key of a map that the step names.
+fn key_of(alloc: Global, step: Step) -> Result<PathItem, Fail> {
+    Ok(PathItem::Content(match step {
+        Step::Key(name) => Content::from_str(alloc, name)?,
+        Step::Index(number) => Content::U64(number),
+    }))
 }
 
-/// That the selector has these steps.
-fn assert_steps(rt: &impl Abort, selector: &Selector<'_>, steps: &[Step]) {
-    assert_eq!(rt; selector.segments.len(), steps.len());
-    for (segment, step) in selector.segments.iter().zip(steps) {
-        assert!(rt; is_step(segment, *step));
+/// That the selector selects the path of these steps, and none of its fronts.
+fn assert_steps(
+    rt: &impl Abort,
+    alloc: Global,
+    selector: &Selector<'_>,
+    steps: &[Step],
+) -> Result<(), Fail> {
+    let mut path = Vec::new(alloc);
+    for step in steps {
+        assert!(rt; !selector.is_match(&path));
+        path.push(key_of(alloc, *step)?)?;
     }
+    assert!(rt; selector.is_match(&path));
+    Ok(())
 }
 
 #[test]
 fn texts_of_selectors(rt: HostRuntime) -> Result<(), Fail> {
+    let alloc = rt.alloc();
     let a = Step::Key("a");
     let rows: [(&str, &[Step]); 14] = [
         (".", &[]),
@@ -52,10 +61,10 @@ fn texts_of_selectors(rt: HostRuntime) -> Result<(), Fail> {
         (".a.a.a", &[a, a, a]),
     ];
     for (text, steps) in rows {
-        let selector = Selector::parse(rt.alloc(), text)?;
-        assert_steps(&rt, &selector, steps);
-        assert_steps(&rt, &selector.try_clone(rt.alloc())?, steps);
-        assert_steps(&rt, &selector.make_static(rt.alloc())?, steps);
+        let selector = Selector::parse(alloc, text)?;
+        assert_steps(&rt, alloc, &selector, steps)?;
+        assert_steps(&rt, alloc, &selector.try_clone(alloc)?, steps)?;
+        assert_steps(&rt, alloc, &selector.make_static(alloc)?, steps)?;
     }
     Ok(())
 }
@@ -119,8 +128,11 @@ fn texts_of_errors(rt: HostRuntime) -> Result<(), Fail> {
     assert_shown(&rt, alloc, &SelectFault::TooLarge, "TooLarge")?;
     assert_shown(&rt, alloc, &SelectError::OutOfMemory, "OutOfMemory")?;
     match Selector::parse(alloc, "") {
-        Err(error) => assert_shown(&rt, alloc, &error, "Parse")?,
-        Ok(_) => return Err(Fail::from("not refused")),
+        Err(SelectError::Parse(fault)) => {
+            assert_shown(&rt, alloc, &SelectError::Parse(fault), "Parse")?;
+            assert_shown(&rt, alloc, &fault, "SelectorParseError")?;
+        }
+        _ => return Err(Fail::from("not refused")),
     }
     Ok(())
 }

@@ -1,5 +1,5 @@
 //! That calls that take memory give what they say, the order of trees at concrete values, and the texts of errors.
-use crate::{Blob, Content, Error, Fields, Items, Lent, OutOfMemory, Pairs, Text};
+use snap_content::{Blob, Content, Error, Fields, Items, Lent, OutOfMemory, Pairs, Text};
 use std::alloc::Global;
 use std::fmt::Display;
 use std::process::Abort;

@@ -1,7 +1,7 @@
 //! Our texts and trees beside those of insta 1.49.0.
 use crate::original_rows::{FIRST, FOURTH, SECOND, THIRD};
-use crate::{parse_str, to_string};
 use snap_content::{Blob, Content, Fields, Items, OutOfMemory, Pairs, Text};
+use snap_emit::{parse_str, to_string};
 use std::alloc::Global;
 use std::process::Abort;
 use std::test::Fail;

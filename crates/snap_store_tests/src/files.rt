@@ -1,7 +1,7 @@
 //! Files that are read, files that are refused, and a file that is saved.
-use crate::{MetaData, Snapshot, SnapshotContents};
 use snap_content::{Error, OutOfMemory, Text};
 use snap_outside::SteadyStore;
+use snap_store::{MetaData, Snapshot, SnapshotContents};
 use snap_text::{TextSnapshotContents, TextSnapshotKind};
 use std::alloc::Global;
 use std::test::Fail;

@@ -1,7 +1,7 @@
 //! Copies, agreement, and what waits for a review, at concrete values.
-use crate::{MetaData, Snapshot, SnapshotContents, SnapshotKind};
 use snap_content::{Blob, Content, OutOfMemory, Text};
 use snap_outside::SteadyStore;
+use snap_store::{MetaData, Snapshot, SnapshotContents, SnapshotKind};
 use snap_text::{TextSnapshotContents, TextSnapshotKind};
 use std::alloc::Global;
 
