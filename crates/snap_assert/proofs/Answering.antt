@@ -6,7 +6,7 @@ use Rattle.snap_assert.specs.Outcomes.{IsAnswered}
 use Rattle.snap_assert.specs.Prepared.{IsPrepared, IsSettled}
 use Rattle.snap_assert.specs.Session.{empty_session}
 use Rattle.snap_assert.specs.Steps.{Asked, verdict_of, is_failure}
-use Rattle.snap_assert.specs.declared.config.Config.{Config}
+use Rattle.snap_settings.specs.declared.config.Config.{Config}
 use Rattle.snap_assert.specs.declared.look.Judged.{Judged}
 use Rattle.snap_assert.specs.declared.outcome.Verdict.{Verdict}
 use Rattle.snap_assert.specs.declared.prepare.Prepared.{Prepared}

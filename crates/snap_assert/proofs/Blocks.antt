@@ -5,15 +5,14 @@ use Rattle.std.proofs.lemmas.Bool.{false_from_ne_true}
 use Rattle.std.proofs.lemmas.Slice.Eq.{bytes_eq-Decides}
 use Rattle.snap_content.proofs.Booleans.{some_same}
 use Rattle.snap_outside.specs.Files.{Files}
-use Rattle.snap_text.specs.Contents.{raw_of}
-use Rattle.snap_text.specs.Legacy.{legacy}
+use Rattle.snap_text.specs.Contents.{legacy_of}
 use Rattle.snap_store.specs.Agreement.{Agree}
 use Rattle.snap_store.specs.declared.contents.SnapshotContents.{SnapshotContents}
 use Rattle.snap_store.specs.declared.contents.SnapshotContents.TheVariants.{Text, Binary}
 use Rattle.snap_assert.specs.Assertions.{Assertion, Left, asked_in, key_in, new_contents, goes_on, is_refused, in_block, by_blocks, assertion_step}
 use Rattle.snap_assert.specs.Blocks.{Block, kept_for, same_payload, do_agree}
 use Rattle.snap_assert.specs.Session.{SessionView}
-use Rattle.snap_assert.specs.declared.config.Update.{Update}
+use Rattle.snap_settings.specs.declared.config.Update.{Update}
 
 payloads : (a b : Option (List ℕ)) → Decides (same_payload a b) (a ≡ b)
 payloads None None = (λ e. refl, λ h. refl)
@@ -22,7 +21,7 @@ payloads (Some a) None = (λ e. cc, λ h. cc)
 payloads (Some a) (Some b) = (λ e. ap Some ((bytes_eq-Decides a b).0 e), λ h. (bytes_eq-Decides a b).1 (some_same a b h))
 
 agreement : (a b : SnapshotContents) → Decides (do_agree a b) (Agree a b)
-agreement (Text a) (Text b) = bytes_eq-Decides (legacy (raw_of a)) (legacy (raw_of b))
+agreement (Text a) (Text b) = bytes_eq-Decides (legacy_of a) (legacy_of b)
 agreement (Text a) (Binary b) = (λ e. cc, λ h. absurd h)
 agreement (Binary a) (Text b) = (λ e. cc, λ h. absurd h)
 agreement (Binary a) (Binary b) = payloads a b

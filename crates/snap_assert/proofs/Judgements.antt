@@ -1,45 +1,49 @@
 -- What a reading of a file says of a pass.
-use Rattle.std.proofs.Common.{◌≡◌, ◌↔◌, ◌||◌, ◌&&◌, IsTrue, ℕ, Bool, true, false, cond, List, Option, None, Some, refl, sym, ap, ◌∙◌, subst, codes}
+use Rattle.std.proofs.Common.{◌≡◌, ◌↔◌, inl, inr, ◌||◌, ◌&&◌, IsTrue, ℕ, Bool, true, false, cond, List, Option, None, Some, refl, sym, ap, ◌∙◌, subst, codes}
 use Rattle.snap_content.specs.Plain as p
 use Rattle.snap_content.specs.Plain.{Plain, dict, Entries, entry, no_entries}
 use Rattle.snap_content.specs.Lines.{text_of}
 use Rattle.snap_content.specs.declared.error.Error.{Error}
 use Rattle.snap_content.specs.declared.error.Error.TheVariants.{FailedParsingYaml, UnexpectedDataType, MissingField, FileIo, FloatText, JsonKey, NotText, NoFile, OutOfMemory}
-use Rattle.snap_text.specs.Contents.{raw_of}
+use Rattle.snap_text.specs.Contents.{raw_of, kind_of, compared_as, legacy_as}
+use Rattle.snap_text.specs.declared.contents.TextSnapshotKind.{TextSnapshotKind}
+use Rattle.snap_text.specs.declared.contents.TextSnapshotKind.TheVariants.{File}
 use Rattle.snap_text.specs.Legacy.{legacy}
 use Rattle.snap_store.specs.Agreement.{Agree}
 use Rattle.snap_store.specs.Fields.{is_named, is_text, is_binary, kind_in, binary_kind, last_value, later_or, text_value}
 use Rattle.snap_store.specs.FileSplit.{is_headed, body_of}
 use Rattle.snap_store.specs.Meta.{Meta}
 use Rattle.snap_store.specs.Reading.{IsTextFile, HasHeader, HoldsBody, IsReadAs, IsRefused, Tells}
-use Rattle.snap_store.specs.Views.{meta_in, contents_in, legacy_in, text_in}
+use Rattle.snap_store.specs.Views.{meta_in, contents_in, legacy_in, text_in, IsFileText}
 use Rattle.snap_store.specs.declared.contents.SnapshotContents.{SnapshotContents}
 use Rattle.snap_store.specs.declared.contents.SnapshotContents.TheVariants.{Text, Binary}
 use Rattle.snap_store.specs.declared.metadata.SnapshotKind.{SnapshotKind}
 use Rattle.snap_store.specs.declared.metadata.SnapshotKind.TheVariants as kind
 use Rattle.snap_store.specs.declared.snapshot.Snapshot.{Snapshot}
-use Rattle.snap_assert.specs.Judging.{BodyAgrees, HasCanonicalHeader, HasBinaryHeader, IsLegacyFile, says_binary, May}
+use Rattle.snap_assert.specs.Judging.{BodyAgrees, HasCanonicalHeader, HasBinaryHeader, IsLegacyFile, IsUnread, says_binary, May}
 use Rattle.snap_assert.proofs.Readings.{one_text, no_text_file, text_or_none, one_reading, headed_or_not, entries_same}
 use Rattle.snap_assert.proofs.Saved.{against_saved}
 use Rattle.snap_content.proofs.Booleans.{some_same}
 use Rattle.std.proofs.lemmas.Bool.{false_from_ne_true}
 
--- a pass that is decided by three facts and two refusals
+-- a pass that is decided by three facts and three refusals
 pub judged : (passed : Bool) (file : Option (List ℕ)) (tree : Plain) → (file ≡ None → passed ≡ false)
     → (passed ≡ true → BodyAgrees file (text_of tree)) → (HasCanonicalHeader file → BodyAgrees file (text_of tree) → passed ≡ true)
-    → (IsLegacyFile file → BodyAgrees file (text_of tree) → passed ≡ true) → (HasBinaryHeader file → passed ≡ false) → May passed file tree
-judged passed file tree absent agrees canonical legacy binary = record {
+    → (IsLegacyFile file → BodyAgrees file (text_of tree) → passed ≡ true) → (HasBinaryHeader file → passed ≡ false)
+    → (IsUnread file → passed ≡ false) → May passed file tree
+judged passed file tree absent agrees canonical legacy binary unread = record {
   absent = absent;
   agrees = agrees;
   canonical = canonical;
   legacy = legacy;
   binary = binary;
+  unread = unread;
   saved = against_saved passed file tree agrees canonical;
 }
 
 -- no pass, where the file has a header that isn't canonical
 pub no_pass : (file : Option (List ℕ)) (tree : Plain) → (HasCanonicalHeader file → ⊥) → (IsLegacyFile file → ⊥) → May false file tree
-no_pass file tree none headed = judged false file tree (λ e. refl) (λ e. cc) (λ h b. absurd (none h)) (λ h b. absurd (headed h)) (λ h. refl)
+no_pass file tree none headed = judged false file tree (λ e. refl) (λ e. cc) (λ h b. absurd (none h)) (λ h b. absurd (headed h)) (λ h. refl) (λ h. refl)
 
 pub no_file : (file : Option (List ℕ)) (tree : Plain) → file ≡ None → May false file tree
 no_file file tree none = no_pass file tree (λ h. no_text_file file h.whole none h.there) (λ h. no_text_file file h.whole none h.there)
@@ -115,19 +119,32 @@ refused_no_pass path file tree OutOfMemory h io memory = absurd (memory refl)
 pub record Compares (passed : Bool) (old new : SnapshotContents) (printed : List ℕ) : Type 0 where
   pub tells : IsTrue passed ↔ Agree old new
   pub printed_is : text_in new ≡ Some printed
+  pub in_file : IsFileText new
 
-held_agrees : (k : SnapshotKind) (body printed : List ℕ) (old new : SnapshotContents) → HoldsBody k body old → text_in new ≡ Some printed → Agree old new → legacy body ≡ legacy printed
-held_agrees kind.Text body printed (Text held) (Text fresh) h e a = ap legacy (sym h.0) ∙ a ∙ ap legacy (some_same (raw_of fresh) printed e)
-held_agrees kind.Text body printed (Text held) (Binary payload) h e a = absurd a
-held_agrees kind.Text body printed (Binary payload) new h e a = absurd h
-held_agrees (kind.Binary extension) body printed (Text held) new h e a = absurd h
-held_agrees (kind.Binary extension) body printed (Binary payload) (Text fresh) h e a = absurd a
-held_agrees (kind.Binary extension) body printed (Binary payload) (Binary other) h e a = absurd (cc)
+-- the older form of a file's text
+held_legacy : (k : TextSnapshotKind) (raw body : List ℕ) → raw ≡ body → k ≡ File → legacy_as k raw ≡ legacy body
+held_legacy k raw body is file = ap (λ x. legacy_as x raw) file ∙ ap legacy is
 
-agrees_held : (body printed : List ℕ) (old new : SnapshotContents) → HoldsBody kind.Text body old → text_in new ≡ Some printed → legacy body ≡ legacy printed → Agree old new
-agrees_held body printed (Text held) (Text fresh) h e n = ap legacy h.0 ∙ n ∙ ap legacy (sym (some_same (raw_of fresh) printed e))
-agrees_held body printed (Text held) (Binary payload) h e n = absurd (cc)
-agrees_held body printed (Binary payload) new h e n = absurd h
+fresh_legacy : (k : TextSnapshotKind) (raw printed : List ℕ) → Some (compared_as k raw) ≡ Some printed → k ≡ File → legacy_as k raw ≡ legacy printed
+fresh_legacy k raw printed e file =
+    held_legacy k raw printed (sym (ap (λ x. compared_as x raw) file) ∙ some_same (compared_as k raw) printed e) file
+
+held_agrees : (k : SnapshotKind) (body printed : List ℕ) (old new : SnapshotContents) → HoldsBody k body old → text_in new ≡ Some printed → IsFileText new → Agree old new
+    → legacy body ≡ legacy printed
+held_agrees kind.Text body printed (Text held) (Text fresh) h e f a =
+    sym (held_legacy (kind_of held) (raw_of held) body h.0 h.1) ∙ a ∙ fresh_legacy (kind_of fresh) (raw_of fresh) printed e f
+held_agrees kind.Text body printed (Text held) (Binary payload) h e f a = absurd a
+held_agrees kind.Text body printed (Binary payload) new h e f a = absurd h
+held_agrees (kind.Binary extension) body printed (Text held) new h e f a = absurd h
+held_agrees (kind.Binary extension) body printed (Binary payload) (Text fresh) h e f a = absurd a
+held_agrees (kind.Binary extension) body printed (Binary payload) (Binary other) h e f a = absurd f
+
+agrees_held : (body printed : List ℕ) (old new : SnapshotContents) → HoldsBody kind.Text body old → text_in new ≡ Some printed → IsFileText new → legacy body ≡ legacy printed
+    → Agree old new
+agrees_held body printed (Text held) (Text fresh) h e f n =
+    held_legacy (kind_of held) (raw_of held) body h.0 h.1 ∙ n ∙ sym (fresh_legacy (kind_of fresh) (raw_of fresh) printed e f)
+agrees_held body printed (Text held) (Binary payload) h e f n = absurd f
+agrees_held body printed (Binary payload) new h e f n = absurd h
 
 no_agreement : (k : SnapshotKind) (body printed : List ℕ) (old new : SnapshotContents) → (extension : List ℕ) → k ≡ kind.Binary extension → HoldsBody k body old → text_in new ≡ Some printed → Agree old new → ⊥
 no_agreement kind.Text body printed old new extension e h t a = cc
@@ -165,13 +182,27 @@ kind_binary file false text meta there t h =
     (found.0, ap (λ m. m.kind) t.meta_is ∙ found.1)
 kind_binary file true text meta there t h = absurd (headed_or_not file h.whole text h.there there h.header.headed t.unheaded)
 
+-- a file that was read is understood
+read_or_unread : (file : Option (List ℕ)) (was : Bool) (text : List ℕ) (meta : Meta) → IsTextFile file text → Tells was text meta → IsUnread file → ⊥
+read_or_unread file was text meta there t (inl h) = text_or_none file text h there
+read_or_unread file true text meta there t (inr (inl h)) = headed_or_not file h.text text h.there there h.headed t.unheaded
+read_or_unread file true text meta there t (inr (inr (inl h))) = headed_or_not file h.text text h.there there h.header.headed t.unheaded
+read_or_unread file true text meta there t (inr (inr (inr h))) = headed_or_not file h.text text h.there there h.header.headed t.unheaded
+read_or_unread file false text meta there t (inr (inl h)) =
+    h.none (dict t.entries) (subst (λ x. HasHeader x (dict t.entries)) (one_text file text h.text there h.there) t.header)
+read_or_unread file false text meta there t (inr (inr (inl h))) =
+    h.other t.entries (one_reading file h.text text h.tree (dict t.entries) h.there h.header there t.header).tree
+read_or_unread file false text meta there t (inr (inr (inr h))) =
+    let same : h.entries ≡ t.entries = entries_same h.entries t.entries (one_reading file h.text text (dict h.entries) (dict t.entries) h.there h.header there t.header).tree in
+    let e = sym h.lacking ∙ ap kind_in same ∙ t.kind_is in cc e
+
 -- a text that was read passes where its body agrees
 agreement_passes : (file : Option (List ℕ)) (tree : Plain) (snapshot : Snapshot) (new : SnapshotContents) (passed : Bool) (r : IsReadAs file snapshot)
     → Compares passed (contents_in snapshot) new (text_of tree) → (meta_in snapshot).kind ≡ kind.Text → BodyAgrees file (text_of tree) → passed ≡ true
 agreement_passes file tree snapshot new passed r c text b =
     let body : legacy (body_of r.text) ≡ legacy (text_of tree) = ap (λ t. legacy (body_of t)) (one_text file r.text b.whole r.there b.there) ∙ b.same in
     let Holds : SnapshotKind → Type 0 = λ k. HoldsBody k (body_of r.text) (contents_in snapshot) in
-    c.tells.1 (agrees_held (body_of r.text) (text_of tree) (contents_in snapshot) new (subst Holds text r.contents) c.printed_is body)
+    c.tells.1 (agrees_held (body_of r.text) (text_of tree) (contents_in snapshot) new (subst Holds text r.contents) c.printed_is c.in_file body)
 
 pub read_judged : (file : Option (List ℕ)) (tree : Plain) (snapshot : Snapshot) (new : SnapshotContents) (passed : Bool) → IsReadAs file snapshot
     → Compares passed (contents_in snapshot) new (text_of tree) → May passed file tree
@@ -183,10 +214,11 @@ read_judged file tree snapshot new passed r c =
     (λ yes. record {
       whole = r.text;
       there = r.there;
-      same = held_agrees meta.kind (body_of r.text) (text_of tree) (contents_in snapshot) new r.contents c.printed_is (c.tells.0 yes);
+      same = held_agrees meta.kind (body_of r.text) (text_of tree) (contents_in snapshot) new r.contents c.printed_is c.in_file (c.tells.0 yes);
     })
     (λ h b. agreement_passes file tree snapshot new passed r c (kind_canonical file was r.text meta r.there r.metadata h) b)
     (λ h b. agreement_passes file tree snapshot new passed r c (kind_legacy file was r.text meta r.there r.metadata h) b)
     (λ h.
     let found = kind_binary file was r.text meta r.there r.metadata h in
     false_from_ne_true passed (λ yes. no_agreement meta.kind (body_of r.text) (text_of tree) (contents_in snapshot) new found.0 found.1 r.contents c.printed_is (c.tells.0 yes)))
+    (λ h. absurd (read_or_unread file was r.text meta r.there r.metadata h))

@@ -2,24 +2,11 @@ mod Below
 mod Readings
 mod Saved
 mod Judgements
-mod FilePaths
-mod LastPart
 mod StrayPaths
 mod Removals
-mod Pieces
-mod Cutting
-mod Running
-mod Statuses
-mod Completeness
-mod DocumentEnds
+pub mod Keeping
+mod ApprovedPaths
 mod Looking
 mod Settling
-mod Requesting
 mod Answering
 mod Blocks
-mod RequestMade
-mod RunEnds
-mod Wholes
-mod Selected
-mod RedactionLists
-mod RedactionsRead

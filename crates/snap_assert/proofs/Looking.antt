@@ -7,12 +7,14 @@ use Rattle.snap_content.specs.declared.error.Error.{Error}
 use Rattle.snap_content.specs.declared.error.Error.TheVariants.{FailedParsingYaml, UnexpectedDataType, MissingField, FileIo, FloatText, JsonKey, NotText, NoFile, OutOfMemory}
 use Rattle.snap_outside.specs.Files.{Files}
 use Rattle.snap_store.specs.Agreement.{Agree}
-use Rattle.snap_text.specs.Contents.{raw_of}
+use Rattle.snap_text.specs.Contents.{raw_of, kind_of, compared_as, compared_of}
+use Rattle.snap_text.specs.declared.contents.TextSnapshotKind.{TextSnapshotKind}
+use Rattle.snap_text.specs.declared.contents.TextSnapshotKind.TheVariants.{File}
 use Rattle.snap_text.specs.Normal.{normal}
 use Rattle.snap_store.specs.FileSplit.{body_of}
 use Rattle.snap_store.specs.Meta.{Meta}
 use Rattle.snap_store.specs.Reading.{IsTextFile, IsReadAs, IsReadFrom, IsRefused, HoldsBody, Tells}
-use Rattle.snap_store.specs.Views.{meta_in, contents_in, legacy_in, text_in}
+use Rattle.snap_store.specs.Views.{meta_in, contents_in, legacy_in, text_in, IsFileText}
 use Rattle.snap_store.specs.declared.contents.SnapshotContents.{SnapshotContents}
 use Rattle.snap_store.specs.declared.contents.SnapshotContents.TheVariants.{Text, Binary}
 use Rattle.snap_store.specs.declared.metadata.SnapshotKind.{SnapshotKind}
@@ -21,8 +23,10 @@ use Rattle.snap_store.specs.declared.snapshot.Snapshot.{Snapshot}
 use Rattle.snap_assert.specs.Judging.{May}
 use Rattle.snap_assert.specs.Steps.{Asked}
 use Rattle.snap_assert.specs.Outcomes.{AreWarnings, PassWarns, IsNotUnderstood, warnings_in}
-use Rattle.snap_assert.specs.Prepared.{IsPrepared, IsJudged, TextsMatch, TextsDiffer, OlderAs, RefusedEnd, IsCompared, said_if, said}
+use Rattle.snap_assert.specs.Prepared.{IsPrepared, IsJudged, TextsMatch, TextsDiffer, OlderAs, NoPass, RefusedEnd, IsCompared, said_if, said}
+use Rattle.snap_assert.specs.Kept.{NamesOnly}
 use Rattle.snap_assert.specs.declared.error.AssertError.{AssertError}
+use Rattle.snap_assert.specs.declared.error.AssertError.TheVariants as stop
 use Rattle.snap_assert.specs.declared.look.Judged.{Judged}
 use Rattle.snap_assert.specs.declared.outcome.Warning.{Warning}
 use Rattle.snap_assert.specs.declared.outcome.Warning.TheVariants.{Unreadable, LegacyContents}
@@ -38,9 +42,14 @@ one_warning : (path : List ℕ) (file : Option (List ℕ)) (passed : Bool) (prin
     → AreWarnings path file passed printed ws
 one_warning path file passed printed ws error one h = let P : List Warning → Type 0 = λ w. AreWarnings path file passed printed w in subst P (sym one) h
 
+-- what is compared of a file's text
+held_text : (k : TextSnapshotKind) (raw body : List ℕ) → raw ≡ body → k ≡ File → compared_as k raw ≡ body
+held_text k raw body is file = ap (λ x. compared_as x raw) file ∙ is
+
 matches_held : (k : SnapshotKind) (body printed : List ℕ) (old new : SnapshotContents) → HoldsBody k body old → text_in new ≡ Some printed → Agree old new → TextsMatch (text_in old) (text_in new)
     → normal body ≡ normal printed
-matches_held kind.Text body printed (Text held) (Text fresh) h e a t = ap normal (sym h.0) ∙ t ∙ ap normal (some_same (raw_of fresh) printed e)
+matches_held kind.Text body printed (Text held) (Text fresh) h e a t =
+    ap normal (sym (held_text (kind_of held) (raw_of held) body h.0 h.1)) ∙ t ∙ ap normal (some_same (compared_of fresh) printed e)
 matches_held kind.Text body printed (Text held) (Binary payload) h e a t = absurd a
 matches_held kind.Text body printed (Binary payload) new h e a t = absurd h
 matches_held (kind.Binary extension) body printed (Text held) new h e a t = absurd h
@@ -49,7 +58,8 @@ matches_held (kind.Binary extension) body printed (Binary payload) (Binary other
 
 differs_held : (k : SnapshotKind) (body printed : List ℕ) (old new : SnapshotContents) → HoldsBody k body old → text_in new ≡ Some printed → TextsDiffer (text_in old) (text_in new)
     → normal body ≡ normal printed → ⊥
-differs_held kind.Text body printed (Text held) (Text fresh) h e d n = d (ap normal h.0 ∙ n ∙ ap normal (sym (some_same (raw_of fresh) printed e)))
+differs_held kind.Text body printed (Text held) (Text fresh) h e d n =
+    d (ap normal (held_text (kind_of held) (raw_of held) body h.0 h.1) ∙ n ∙ ap normal (sym (some_same (compared_of fresh) printed e)))
 differs_held kind.Text body printed (Text held) (Binary payload) h e d n = d
 differs_held kind.Text body printed (Binary payload) new h e d n = absurd h
 differs_held (kind.Binary extension) body printed (Text held) new h e d n = absurd h
@@ -82,15 +92,16 @@ warned_file path file false true passed text printed meta there t h =
 
 -- a file that was read is judged by the comparison
 read_compared : (asked : Asked) (m : Files) (file : Option (List ℕ)) (snapshot : Snapshot) (new : SnapshotContents) (judged : Judged)
-    → file ≡ get m asked.path → IsReadAs file snapshot → text_in new ≡ Some (text_of asked.tree) → IsCompared (legacy_in snapshot) (contents_in snapshot) new judged → IsJudged asked m judged
-read_compared asked m file snapshot new judged is r printed c =
+    → file ≡ get m asked.path → IsReadAs file snapshot → text_in new ≡ Some (text_of asked.tree) → IsFileText new → IsCompared (legacy_in snapshot) (contents_in snapshot) new judged
+    → IsJudged asked m judged
+read_compared asked m file snapshot new judged is r printed in_file c =
     let May_at : Option (List ℕ) → Type 0 = λ f. May judged.passed f asked.tree in
     let Warned_at : Option (List ℕ) → Type 0 = λ f. AreWarnings asked.path f judged.passed (text_of asked.tree) (warnings_in judged.warnings) in
     let Warned_by : List Warning → Type 0 = λ ws. AreWarnings asked.path file judged.passed (text_of asked.tree) ws in
     let pass = warned_pass file snapshot new judged.passed c.older (text_of asked.tree) r printed (λ yes. c.tells.0 yes) c.older_is in
     let warned = warned_file asked.path file (legacy_in snapshot) c.older judged.passed r.text (text_of asked.tree) (meta_in snapshot) r.there r.metadata pass in
     record {
-      allowed = subst May_at is (read_judged file asked.tree snapshot new judged.passed r (record { tells = c.tells; printed_is = printed }));
+      allowed = subst May_at is (read_judged file asked.tree snapshot new judged.passed r (record { tells = c.tells; printed_is = printed; in_file = in_file }));
       warned = subst Warned_at is (subst Warned_by (sym c.said_is) warned);
     }
 
@@ -105,7 +116,7 @@ pub judge_read : (asked : Asked) (m : Files) (prepared : Prepared) (files : Opti
     → IsPrepared asked prepared → files ≡ Some m → IsReadFrom prepared.path files (Ok snapshot) → was ≡ legacy_in snapshot → old ≡ contents_in snapshot
     → new ≡ contents_in prepared.snapshot → IsCompared was old new judged → IsJudged asked m judged
 judge_read asked m prepared files snapshot was old new judged p told r was_is old_is new_is c =
-    read_compared asked m r.file snapshot new judged (r.told m told ∙ ap (get m) p.path) r.comes_to (ap (λ x. text_in x) new_is ∙ p.printed)
+    read_compared asked m r.file snapshot new judged (r.told m told ∙ ap (get m) p.path) r.comes_to (ap (λ x. text_in x) new_is ∙ p.printed) (subst (λ x. IsFileText x) (sym new_is) p.in_file)
     (compared_with was old new judged snapshot was_is old_is c)
 
 not_passed : (asked : Asked) (m : Files) (file : Option (List ℕ)) (judged : Judged) → file ≡ get m asked.path → judged.passed ≡ false
@@ -150,3 +161,27 @@ pub all_judged : (prepared : Prepared) (files : Option Files) (result : Result J
     → IfOk result (λ judged. (asked : Asked) (m : Files) → IsPrepared asked prepared → files ≡ Some m → IsJudged asked m judged)
 all_judged prepared files (Ok judged) h = h
 all_judged prepared files (Err e) h = tt
+
+-- a fault in reading names the snapshot's path
+unrefused_at : (path : List ℕ) (warnings : List Warning) (result : Result Judged AssertError) → NoPass warnings result → NamesOnly path result
+unrefused_at path warnings (Ok judged) h = tt
+unrefused_at path warnings (Err stop.OutOfMemory) h = tt
+unrefused_at path warnings (Err (stop.FileIo named)) h = absurd h
+unrefused_at path warnings (Err stop.NameClash) h = absurd h
+unrefused_at path warnings (Err stop.DoctestNeedsName) h = absurd h
+unrefused_at path warnings (Err (stop.DuplicateDiffers key kept new)) h = absurd h
+unrefused_at path warnings (Err stop.NamesExhausted) h = absurd h
+unrefused_at path warnings (Err stop.InlineDuplicate) h = absurd h
+unrefused_at path warnings (Err stop.BadExtension) h = absurd h
+unrefused_at path warnings (Err stop.JsonKey) h = absurd h
+
+pub refused_at : (path : List ℕ) (file : Option (List ℕ)) (error : Error) (result : Result Judged AssertError) → IsRefused path file error → RefusedEnd error result → NamesOnly path result
+refused_at path file (NoFile named) result h end = unrefused_at path [] result end
+refused_at path file (FileIo named) result h end = subst (NamesOnly {T = Judged} path) (sym end) h
+refused_at path file OutOfMemory result h end = subst (NamesOnly {T = Judged} path) (sym end) tt
+refused_at path file (NotText named) result h end = unrefused_at path (Unreadable (NotText named) ∷ []) result end
+refused_at path file (FailedParsingYaml named) result h end = unrefused_at path (Unreadable (FailedParsingYaml named) ∷ []) result end
+refused_at path file UnexpectedDataType result h end = unrefused_at path (Unreadable UnexpectedDataType ∷ []) result end
+refused_at path file MissingField result h end = unrefused_at path (Unreadable MissingField ∷ []) result end
+refused_at path file (FloatText named) result h end = absurd h
+refused_at path file JsonKey result h end = absurd h

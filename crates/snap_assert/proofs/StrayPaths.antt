@@ -13,9 +13,10 @@ use Rattle.snap_path.specs.Paths.{joined, parent_of, front_of, name_of, IsName}
 use Rattle.snap_path.proofs.Joining.{joined-name, parted, name_of-name, name-longer}
 use Rattle.snap_outside.specs.Files.{Files}
 use Rattle.snap_outside.specs.Listed.{AreNames}
-use Rattle.snap_assert.specs.Place.{holds_slash}
+use Rattle.snap_place.specs.Place.{holds_slash}
 use Rattle.snap_assert.specs.Steps.{stray_front, is_slashless, is_stray}
-use Rattle.snap_assert.specs.Strays.{IsFilePath, AreStrays}
+use Rattle.snap_place.specs.SnapshotPath.{IsFilePath}
+use Rattle.snap_assert.specs.Strays.{AreStrays, AllStray}
 use Rattle.snap_content.proofs.Booleans.{not_true}
 
 -- what follows one mark and then another
@@ -173,3 +174,35 @@ in_any_order path folder last m names found sorted f is l listed made p = record
       ∙ ap (λ d. filter (is_stray path) (map (joined d) names)) (sym is))
       ∙ (strays_of_names m path folder names f is listed).each q;
 }
+
+-- a name that is stray beside the last component is a name
+stray_is_name : (path last name : List ℕ) → name_of path ≡ Some last → is_stray last name ≡ true → IsName name
+stray_is_name path last name l h =
+    let b = stray_behind last name h in
+    subst IsName (sym (b.is ∙ append_assoc last (codes ".new.") b.rest)) (name-longer last (codes ".new." ++ b.rest) (name_of-name path last l) b.slashless)
+
+-- a path that is joined of such a name is stray beside the whole path
+here_or_further : (path q here : List ℕ) (b : Bool) (rest : Bool) → is_stray path here ≡ true → bytes_eq q here ≡ b → (rest ≡ true → is_stray path q ≡ true) → (b || rest) ≡ true → is_stray path q ≡ true
+here_or_further path q here true rest stray same further h = ap (is_stray path) ((bytes_eq-Decides q here).0 same) ∙ stray
+here_or_further path q here false rest stray other further h = further h
+
+first_or_further : (path folder last q n : List ℕ) (kept : List (List ℕ)) (t : Bool) → is_stray last n ≡ t → (t ≡ true → is_stray path (joined folder n) ≡ true)
+    → (list_any (bytes_eq q) (map (joined folder) kept) ≡ true → is_stray path q ≡ true) → list_any (bytes_eq q) (map (joined folder) (cond t (n ∷ kept) kept)) ≡ true → is_stray path q ≡ true
+first_or_further path folder last q n kept true is stray further h =
+    here_or_further path q (joined folder n) (bytes_eq q (joined folder n)) (list_any (bytes_eq q) (map (joined folder) kept)) (stray refl) refl further h
+first_or_further path folder last q n kept false is stray further h = further h
+
+among_stray : (path last q : List ℕ) (names : List (List ℕ)) → IsFilePath path → name_of path ≡ Some last
+    → list_any (bytes_eq q) (map (joined (parent_of path)) (filter (is_stray last) names)) ≡ true → is_stray path q ≡ true
+among_stray path last q [] f l h = absurd (cc)
+among_stray path last q (n ∷ names) f l h =
+    first_or_further path (parent_of path) last q n (filter (is_stray last) names) (is_stray last n) refl
+    (λ stray. sym (stray_name path last n f l (stray_is_name path last n l stray)) ∙ stray)
+    (λ k. among_stray path last q names f l k) h
+
+-- so each of the stray names' paths is stray, whatever the names are
+pub all_stray : (path folder last : List ℕ) (names found sorted : List (List ℕ)) → IsFilePath path → folder ≡ parent_of path → name_of path ≡ Some last
+    → found ≡ map (joined folder) (filter (is_stray last) names) → IsPermutation found sorted → AllStray path sorted
+all_stray path folder last names found sorted f is l made p = λ q h.
+    among_stray path last q names f l
+    (ap (list_any (bytes_eq q)) (sym (made ∙ ap (λ d. map (joined d) (filter (is_stray last) names)) is)) ∙ list_any-IsPermutation (bytes_eq q) found sorted p ∙ h)

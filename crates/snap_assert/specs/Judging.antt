@@ -1,5 +1,5 @@
 -- When a tree passes against a file.
-use Rattle.std.specs.Prelude.{◌≡◌, ◌↔◌, ◌||◌, ◌&&◌, ℕ, Bool, true, false, List, Option, None, codes}
+use Rattle.std.specs.Prelude.{◌≡◌, ◌↔◌, ◌⊎◌, ◌||◌, ◌&&◌, ℕ, Bool, true, false, List, Option, None, codes}
 use Rattle.snap_content.specs.Plain.{Plain, dict, Entries, entry, no_entries}
 use Rattle.snap_content.specs.Lines.{text_of}
 use Rattle.snap_content.specs.Readable.{IsReadable}
@@ -8,7 +8,7 @@ use Rattle.snap_text.specs.Normal.{normal}
 use Rattle.snap_store.specs.FileSplit.{is_headed, body_of}
 use Rattle.snap_store.specs.Fields.{is_named, is_binary}
 use Rattle.snap_store.specs.Image.{file_of}
-use Rattle.snap_store.specs.Reading.{IsTextFile, HasHeader}
+use Rattle.snap_store.specs.Reading.{IsTextFile, HasHeader, IsNoText, HasNoHeader, HasOtherHeader, LacksExtension}
 
 -- the file's body agrees with the text
 pub record BodyAgrees (file : Option (List ℕ)) (printed : List ℕ) : Type 0 where
@@ -49,6 +49,10 @@ pub record IsLegacyFile (file : Option (List ℕ)) : Type 0 where
   pub there : IsTextFile file whole
   pub unheaded : is_headed whole ≡ false
 
+-- the file isn't understood: it is no text, or its header is not that of a snapshot
+abbrev pub IsUnread : Option (List ℕ) → Type 0
+IsUnread file = IsNoText file ⊎ (HasNoHeader file ⊎ (HasOtherHeader file ⊎ LacksExtension file))
+
 -- the file was saved for a tree, under a canonical header
 pub record IsSavedFor (file : Option (List ℕ)) (tree : Plain) : Type 0 where
   pub entries : Entries
@@ -69,5 +73,7 @@ pub record May (passed : Bool) (file : Option (List ℕ)) (tree : Plain) : Type 
   pub legacy : IsLegacyFile file → BodyAgrees file (text_of tree) → passed ≡ true
   -- never where the header says binary
   pub binary : HasBinaryHeader file → passed ≡ false
+  -- nor where the file isn't understood
+  pub unread : IsUnread file → passed ≡ false
   -- against a file that was saved for a tree exactly where both trees are equal
   pub saved : (stored : Plain) → IsSavedFor file stored → IsReadable tree → (passed ≡ true) ↔ (stored ≡ tree)

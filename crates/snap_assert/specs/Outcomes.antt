@@ -6,15 +6,15 @@ use Rattle.snap_content.specs.Plain.{dict, Entries}
 use Rattle.snap_content.specs.declared.error.Error.{Error}
 use Rattle.snap_content.specs.declared.error.Error.TheVariants.{FailedParsingYaml, UnexpectedDataType, MissingField, NotText}
 use Rattle.snap_outside.specs.Causes.{Rose}
-use Rattle.snap_outside.specs.Files.{Files, SameOutside}
+use Rattle.snap_outside.specs.Files.{Files}
 use Rattle.snap_store.specs.Fields.{kind_in}
 use Rattle.snap_store.specs.Reading.{IsTextFile, HasHeader, IsRefused}
 use Rattle.snap_store.specs.declared.metadata.SnapshotKind.{SnapshotKind}
 use Rattle.snap_assert.specs.Judging.{BodyMatches, IsLegacyFile, May}
 use Rattle.snap_assert.specs.Assertions.{Assertion, Left, asked_in, assertion_step}
 use Rattle.snap_assert.specs.Session.{SessionView}
-use Rattle.snap_assert.specs.Steps.{is_failure, is_near}
-use Rattle.snap_assert.specs.declared.config.Config.{Config}
+use Rattle.snap_assert.specs.Steps.{is_failure}
+use Rattle.snap_settings.specs.declared.config.Config.{Config}
 use Rattle.snap_assert.specs.declared.error.AssertError.{AssertError}
 use Rattle.snap_assert.specs.declared.error.AssertError.TheVariants.{FileIo, OutOfMemory}
 use Rattle.snap_assert.specs.declared.outcome.Outcome.{Outcome}
@@ -81,7 +81,3 @@ ErrorCause before now _ = ⊥
 abbrev pub AssertCause : {T : Type 0} → ℕ → ℕ → Result T AssertError → Type 0
 AssertCause before now (Ok value) = now ≡ before
 AssertCause before now (Err error) = ErrorCause before now error
-
--- only the paths of this assertion may have changed
-abbrev pub OnlyNear : List ℕ → Option Files → Option Files → Type 0
-OnlyNear path files files' = (m : Files) → files ≡ Some m → SameOutside (is_near path) m files'

@@ -7,10 +7,11 @@ use Rattle.snap_outside.specs.Files.{Files}
 use Rattle.snap_text.specs.Normal.{normal}
 use Rattle.snap_store.specs.Agreement.{Agree}
 use Rattle.snap_store.specs.declared.contents.SnapshotContents.{SnapshotContents}
-use Rattle.snap_store.specs.Views.{meta_in, contents_in, text_in}
+use Rattle.snap_store.specs.Views.{meta_in, module_in, name_in, contents_in, text_in, IsFileText}
 use Rattle.snap_assert.specs.Steps.{Asked, pending_path, step}
-use Rattle.snap_assert.specs.declared.config.Config.{Config}
-use Rattle.snap_assert.specs.Strays.{IsFilePath, AreStrays}
+use Rattle.snap_settings.specs.declared.config.Config.{Config}
+use Rattle.snap_place.specs.SnapshotPath.{IsFilePath}
+use Rattle.snap_assert.specs.Strays.{AreStrays}
 use Rattle.snap_assert.specs.Judging.{May}
 use Rattle.snap_assert.specs.Outcomes.{AreWarnings, warnings_in}
 use Rattle.snap_content.specs.declared.error.Error.{Error}
@@ -29,8 +30,11 @@ pub record IsPrepared (asked : Asked) (prepared : Prepared) : Type 0 where
   pub file_path : IsFilePath asked.path
   pub pending : prepared.pending ≡ pending_path asked.path
   pub printed : text_in (contents_in prepared.snapshot) ≡ Some (text_of asked.tree)
+  pub in_file : IsFileText (contents_in prepared.snapshot)
   pub lines : AreLines (lines_of asked.tree)
   pub metadata : meta_in prepared.snapshot ≡ asked.meta
+  pub module_name : module_in prepared.snapshot ≡ asked.module_name
+  pub name : name_in prepared.snapshot ≡ Some asked.name
 
 -- whether it passes, and what is to be said of the file
 pub record IsJudged (asked : Asked) (m : Files) (judged : Judged) : Type 0 where

@@ -1,27 +1,28 @@
 -- What one assertion leaves.
-use Rattle.std.specs.Prelude.{◌≡◌, ◌||◌, ℕ, Bool, true, false, not, List, ◌++◌, Option, None, Some, codes, if◌then◌else◌, encode_utf8_all}
-use Rattle.std.specs.Str.{bytes_eq}
-use Rattle.std.specs.FinMap.{get, insert, remove, retain_keys}
+use Rattle.std.specs.Prelude.{ℕ, Bool, true, false, not, List, ◌++◌, Option, None, Some, codes, if◌then◌else◌, encode_utf8_all}
+use Rattle.std.specs.FinMap.{insert, remove, retain_keys}
 use Rattle.snap_content.specs.Plain.{Plain, plain}
 use Rattle.snap_content.specs.Tree.{Tree}
 use Rattle.snap_outside.specs.Files.{Files}
 use Rattle.snap_store.specs.Meta.{Meta, header_tree, without_line}
 pub use Rattle.snap_store.specs.Image.{pending_path}
 use Rattle.snap_store.specs.Image.{file_of}
-use Rattle.snap_assert.specs.Redactions.{redacted_by}
-use Rattle.snap_assert.specs.Settings.{SettingsView}
+use Rattle.snap_settings.specs.Redactions.{redacted_by}
+use Rattle.snap_settings.specs.Settings.{SettingsView}
 use Rattle.snap_path.specs.Names.{past_mark}
-use Rattle.snap_assert.specs.Place.{PlaceView, holds_slash}
-use Rattle.snap_assert.specs.SnapshotPath.{path_of, new_meta}
+use Rattle.snap_place.specs.Place.{PlaceView, holds_slash}
+use Rattle.snap_place.specs.SnapshotPath.{path_of, flat_module, new_meta}
 use Rattle.snap_assert.specs.Session.{suffixed}
-use Rattle.snap_assert.specs.declared.config.Update.{Update}
-use Rattle.snap_assert.specs.declared.config.Update.TheVariants.{InPlace, NewFile, NoUpdate}
+use Rattle.snap_settings.specs.declared.config.Update.{Update}
+use Rattle.snap_settings.specs.declared.config.Update.TheVariants.{InPlace, NewFile, NoUpdate}
 use Rattle.snap_assert.specs.declared.outcome.Verdict.{Verdict}
 use Rattle.snap_assert.specs.declared.outcome.Verdict.TheVariants.{Passed, Updated, Pending, Rejected}
 
--- what is asked of the files: a plain tree under metadata at a path
+-- what is asked of the files: a plain tree under metadata at a path, with the module and the name that are kept with it
 pub record Asked : Type 0 where
   pub path : List ℕ
+  pub module_name : List ℕ
+  pub name : List ℕ
   pub meta : Meta
   pub tree : Plain
 
@@ -29,6 +30,8 @@ pub record Asked : Type 0 where
 abbrev pub asked_as : SettingsView → PlaceView → List ℕ → Tree → Asked
 asked_as settings place name content = record {
   path = path_of settings place name;
+  module_name = flat_module place.module_name;
+  name = name;
   meta = new_meta settings place;
   tree = plain (redacted_by settings.redactions content);
 }
@@ -47,14 +50,6 @@ is_slashless (Some rest) = not (holds_slash rest)
 
 abbrev pub is_stray : List ℕ → List ℕ → Bool
 is_stray path q = is_slashless (past_mark (stray_front path) q)
-
--- the paths that an assertion may change
-abbrev pub is_near : List ℕ → List ℕ → Bool
-is_near path q = bytes_eq q path || bytes_eq q (pending_path path) || is_stray path q
-
--- n holds what m holds at each other path
-abbrev pub KeepsFar : List ℕ → Files → Files → Type 0
-KeepsFar path m n = (q : List ℕ) → is_near path q ≡ false → get n q ≡ get m q
 
 abbrev pub cleared : List ℕ → Files → Files
 cleared path files = retain_keys files (λ q. not (is_stray path q))

@@ -1,27 +1,28 @@
 //! One assertion over a store.
-ghost use Rattle.std.specs.Prelude.{◌≡◌, ◌&&◌, List, ℕ, false, not, Some, IsSome, IfOk, OnErr, option_copied};
+ghost use Rattle.std.specs.Prelude.{◌≡◌, ◌&&◌, List, ℕ, false, not, Some, IsSome, IfOk, option_copied};
 ghost use Rattle.snap_content.specs.View.{tree};
-ghost use Rattle.snap_assert.specs.Outcomes.{IsAnswered, OnlyNear, AssertCause};
+ghost use Rattle.snap_assert.specs.Outcomes.{IsAnswered, AssertCause};
 ghost use Rattle.snap_assert.specs.Assertions.{assertion_of};
+ghost use Rattle.snap_assert.specs.Kept.{KeptBy, NamesOwn};
 ghost use Rattle.snap_assert.specs.Session.{session_of, empty_session};
-ghost use Rattle.snap_assert.specs.Settings.{settings_of};
-ghost use Rattle.snap_assert.specs.Place.{place_of};
+ghost use Rattle.snap_settings.specs.Settings.{settings_of};
+ghost use Rattle.snap_place.specs.Place.{place_of};
 ghost use Rattle.snap_outside.specs.Files.{Files};
 ghost use Rattle.snap_store.specs.Views.{contents_in, text_in};
 ghost use Rattle.snap_assert.specs.Prepared.{IsPrepared, IsSettled};
 ghost use Rattle.snap_assert.specs.Steps.{Asked, asked_of, verdict_of, is_failure};
 
-use crate::config::{Config, Update};
 use crate::error::AssertError;
 use crate::look::{Judged, look};
 use crate::outcome::{Outcome, Verdict};
-use crate::place::Place;
 use crate::prepare::{Prepared, prepare};
 use crate::session::Session;
-use crate::settings::Settings;
 use crate::settle::settle;
 use snap_content::{Content, Text};
 use snap_outside::Store;
+use snap_place::place::Place;
+use snap_settings::config::{Config, Update};
+use snap_settings::settings::Settings;
 use std::alloc::Global;
 
 /// The verdict of an assertion.
@@ -57,7 +58,8 @@ fn assert_prepared<S: Store>(
 ) -> Result<Judged, AssertError>
     requires { IsSome (text_in (contents_in prepared.now.snapshot)) }
     ensures settled { IfOk result (λ judged. (asked : Asked) (m : Files) → IsPrepared asked prepared.now → S.files store.old ≡ Some m → IsSettled config.now asked m judged (S.files store.new)) }
-    ensures others { OnErr result ((asked : Asked) → IsPrepared asked prepared.now → OnlyNear asked.path (S.files store.old) (S.files store.new)) }
+    ensures kept { (asked : Asked) → IsPrepared asked prepared.now → KeptBy config.now.update asked.path (S.files store.old) (S.files store.new) }
+    ensures named { (asked : Asked) → IsPrepared asked prepared.now → NamesOwn config.now.update asked.path result }
     ensures cause { AssertCause (S.faults store.old) (S.faults store.new) result }
 {
     let seen = match look(alloc, store, prepared) {
@@ -90,7 +92,8 @@ fn assert_named<S: Store>(
 ) -> Result<Outcome, AssertError>
     ensures answered { IfOk result (λ outcome. IsAnswered config.now (assertion_of (settings_of settings.now) (place_of place.now) name.now (tree content)) outcome
         (S.files store.old) (S.files store.new) empty_session empty_session) }
-    ensures others { OnErr result (OnlyNear (asked_of (settings_of settings.now) (place_of place.now) name.now (tree content)).path (S.files store.old) (S.files store.new)) }
+    ensures kept { KeptBy config.now.update (asked_of (settings_of settings.now) (place_of place.now) name.now (tree content)).path (S.files store.old) (S.files store.new) }
+    ensures named { NamesOwn config.now.update (asked_of (settings_of settings.now) (place_of place.now) name.now (tree content)).path result }
     ensures cause { AssertCause (S.faults store.old) (S.faults store.new) result }
 {
     let Ok(prepared) = prepare(alloc, settings, place, name, content) else {
@@ -113,7 +116,8 @@ fn assert_named<S: Store>(
 /// Asserts that the tree, redacted, is that of the snapshot of this name, by what its file holds.
 ///
 /// Until full matches, literal blocks and automatic names are built these two flags are off, and a name is given.
-/// After an error only the snapshot's own path, its pending path and what payloads left behind may have changed.
+/// Whatever is answered, the approved file is written in place alone, and the pending one in the mode `new` alone;
+/// what waited for a review may be gone.
 pub fn assert_content<S: Store>(
     alloc: Global,
     session: &mut Session,
@@ -130,8 +134,11 @@ pub fn assert_content<S: Store>(
     ensures answered { IfOk result (λ outcome. (given : List ℕ) → option_copied name.entry ≡ Some given
         → IsAnswered config.now (assertion_of (settings_of settings.now) (place_of place.now) given (tree content)) outcome
         (S.files store.old) (S.files store.new) (session_of session.old) (session_of session.new)) }
-    ensures others { OnErr result ((given : List ℕ) → option_copied name.entry ≡ Some given
-        → OnlyNear (asked_of (settings_of settings.now) (place_of place.now) given (tree content)).path (S.files store.old) (S.files store.new)) }
+    // Whatever is answered: no file is written but the one of the mode, so the approved one only in place.
+    ensures kept { (given : List ℕ) → option_copied name.entry ≡ Some given
+        → KeptBy config.now.update (asked_of (settings_of settings.now) (place_of place.now) given (tree content)).path (S.files store.old) (S.files store.new) }
+    ensures named { (given : List ℕ) → option_copied name.entry ≡ Some given
+        → NamesOwn config.now.update (asked_of (settings_of settings.now) (place_of place.now) given (tree content)).path result }
     ensures session { session_of session.new ≡ session_of session.old }
     ensures cause { AssertCause (S.faults store.old) (S.faults store.new) result }
 {

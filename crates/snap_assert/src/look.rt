@@ -4,6 +4,9 @@ ghost use Rattle.snap_outside.specs.Files.{Files};
 ghost use Rattle.snap_assert.specs.Outcomes.{AssertCause, warnings_in};
 ghost use Rattle.snap_assert.specs.Steps.{Asked};
 ghost use Rattle.snap_assert.specs.Prepared.{IsPrepared, IsJudged, IsSeen, NoPass, RefusedEnd, DifferAs, OlderAs, IsCompared, said};
+ghost use Rattle.snap_assert.specs.Kept.{NamesOnly, NamesOwn};
+ghost use Rattle.snap_assert.specs.Strays.{AllStray};
+ghost use Rattle.snap_settings.specs.declared.config.Update.{Update};
 ghost use Rattle.snap_store.specs.Views.{text_in};
 
 use crate::error::AssertError;
@@ -136,6 +139,7 @@ fn compare(
 fn judge<S: Store>(alloc: Global, store: &mut S, prepared: &Prepared) -> Result<Judged, AssertError>
     ensures judged { IfOk result (λ judged. (asked : Asked) (m : Files) → IsPrepared asked prepared.now → S.files store.old ≡ Some m → IsJudged asked m judged) }
     ensures same { S.files store.new ≡ S.files store.old }
+    ensures named { NamesOnly prepared.now.path result }
     ensures cause { AssertCause (S.faults store.old) (S.faults store.new) result }
 {
     let old = match Snapshot::from_file(alloc, store, &prepared.path) {
@@ -160,7 +164,9 @@ pub fn look<S: Store>(
     prepared: &Prepared,
 ) -> Result<Seen, AssertError>
     ensures seen { IfOk result (λ seen. (asked : Asked) (m : Files) → IsPrepared asked prepared.now → S.files store.old ≡ Some m → IsSeen asked m seen) }
+    ensures strays { IfOk result (λ seen. (asked : Asked) → IsPrepared asked prepared.now → AllStray asked.path seen.strays.items) }
     ensures same { S.files store.new ≡ S.files store.old }
+    ensures named { (asked : Asked) (mode : Update) → IsPrepared asked prepared.now → NamesOwn mode asked.path result }
     ensures cause { AssertCause (S.faults store.old) (S.faults store.new) result }
 {
     let judged = match judge(alloc, store, prepared) {

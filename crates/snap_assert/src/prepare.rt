@@ -5,19 +5,19 @@ ghost use Rattle.snap_content.specs.Plain.{plain};
 ghost use Rattle.snap_content.specs.View.{tree};
 ghost use Rattle.snap_content.specs.Lines.{text_of, lines_of};
 ghost use Rattle.snap_content.specs.Printed.{AreLines};
-ghost use Rattle.snap_assert.specs.Settings.{settings_of};
-ghost use Rattle.snap_assert.specs.Place.{place_of};
-ghost use Rattle.snap_store.specs.Views.{meta_in, contents_in, text_in};
-ghost use Rattle.snap_assert.specs.SnapshotPath.{new_meta};
+ghost use Rattle.snap_settings.specs.Settings.{settings_of};
+ghost use Rattle.snap_place.specs.Place.{place_of};
+ghost use Rattle.snap_store.specs.Views.{meta_in, module_in, name_in, contents_in, text_in, IsFileText};
+ghost use Rattle.snap_place.specs.SnapshotPath.{flat_module, new_meta};
 ghost use Rattle.snap_assert.specs.Steps.{asked_of};
 ghost use Rattle.snap_assert.specs.Prepared.{IsPrepared};
 
-use crate::paths::{new_metadata, snapshot_path};
-use crate::place::Place;
-use crate::settings::Settings;
 use snap_content::characters::split_first;
 use snap_content::{Content, OutOfMemory, Text};
 use snap_emit::yaml;
+use snap_place::paths::{module_text, new_metadata, snapshot_path};
+use snap_place::place::Place;
+use snap_settings::settings::Settings;
 use snap_store::{Snapshot, SnapshotContents};
 use snap_text::{TextSnapshotContents, TextSnapshotKind};
 use std::alloc::Global;
@@ -67,13 +67,16 @@ fn new_snapshot(
     content: &Content,
 ) -> Result<Snapshot, OutOfMemory>
     ensures printed { IfOk result (λ snapshot. text_in (contents_in snapshot) ≡ Some (text_of (plain (tree content.now)))) }
+    ensures in_file { IfOk result (λ snapshot. IsFileText (contents_in snapshot)) }
     ensures lines { IfOk result (λ snapshot. AreLines (lines_of (plain (tree content.now)))) }
     ensures metadata { IfOk result (λ snapshot. meta_in snapshot ≡ new_meta (settings_of settings.now) (place_of place.now)) }
+    ensures module_name { IfOk result (λ snapshot. module_in snapshot ≡ flat_module (place_of place.now).module_name) }
+    ensures name { IfOk result (λ snapshot. name_in snapshot ≡ Some name.now) }
 {
     let text = printed(alloc, content)?;
     let contents = TextSnapshotContents::new(text, TextSnapshotKind::File);
     let metadata = new_metadata(alloc, settings, place)?;
-    let module_name = place.module_name().try_clone(alloc)?;
+    let module_name = module_text(alloc, place)?;
     let name = name.try_clone(alloc)?;
     Ok(Snapshot::from_components(
         module_name,

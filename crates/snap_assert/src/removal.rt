@@ -1,24 +1,24 @@
 //! Removing files one by one.
-ghost use Rattle.std.specs.Prelude.{◌≡◌, Some, OnOk, OnErr};
-ghost use Rattle.std.specs.List.{list_any};
-ghost use Rattle.std.specs.Str.{bytes_eq};
-ghost use Rattle.snap_outside.specs.Files.{Files, SameOutside};
+ghost use Rattle.std.specs.Prelude.{◌≡◌, Some, OnOk};
+ghost use Rattle.snap_outside.specs.Files.{Files};
+ghost use Rattle.snap_assert.specs.Kept.{Keeps, is_none};
 ghost use Rattle.snap_assert.specs.Outcomes.{AssertCause};
-ghost use Rattle.snap_assert.specs.Removed.{remove_each, is_among};
+ghost use Rattle.snap_assert.specs.Removed.{remove_each, is_among, NamesOneOf};
 
 use crate::error::AssertError;
 use snap_content::Text;
 use snap_outside::{Store, StoreError};
 use std::alloc::Global;
 
-/// Removes each of these files. After an error some of them may be gone, and no other changed.
+/// Removes each of these files. After an error some of them may be gone; no file is written, and no other is changed.
 pub fn remove_files<S: Store>(
     alloc: Global,
     store: &mut S,
     paths: &[Text],
 ) -> Result<(), AssertError>
     ensures ok { OnOk result ((m : Files) → S.files store.old ≡ Some m → S.files store.new ≡ Some (remove_each paths.now m)) }
-    ensures err { OnErr result ((m : Files) → S.files store.old ≡ Some m → SameOutside (is_among paths.now) m (S.files store.new)) }
+    ensures kept { (m : Files) → S.files store.old ≡ Some m → Keeps is_none (is_among paths.now) m (S.files store.new) }
+    ensures named { NamesOneOf paths.now result }
     ensures cause { AssertCause (S.faults store.old) (S.faults store.new) result }
 {
     for path in paths {

@@ -1,26 +1,28 @@
 //! What an assertion leaves in the store.
-ghost use Rattle.std.specs.Prelude.{◌≡◌, false, Some, IsSome, OnOk, OnErr};
+ghost use Rattle.std.specs.Prelude.{◌≡◌, List, ℕ, Some, IsSome, OnOk};
 ghost use Rattle.std.specs.FinMap.{remove};
-ghost use Rattle.snap_outside.specs.Files.{Files, SameBut, SameOutside};
+ghost use Rattle.snap_outside.specs.Files.{Files};
 ghost use Rattle.snap_store.specs.Views.{contents_in, text_in};
 ghost use Rattle.snap_assert.specs.Outcomes.{AssertCause};
-ghost use Rattle.snap_assert.specs.Steps.{Asked, step, written, is_near, pending_path, KeepsFar};
+ghost use Rattle.snap_assert.specs.Kept.{KeptBy, IsWrittenAlone, IsTakenAlone, NamesOwn, NamesOnly};
+ghost use Rattle.snap_assert.specs.Steps.{Asked, step, written, pending_path};
 ghost use Rattle.snap_assert.specs.Prepared.{IsPrepared};
-ghost use Rattle.snap_assert.specs.Strays.{AreStrays};
-ghost use Rattle.snap_assert.specs.declared.config.Update.TheVariants.{InPlace, NewFile};
+ghost use Rattle.snap_assert.specs.Strays.{AreStrays, AllStray};
+ghost use Rattle.snap_settings.specs.declared.config.Update.TheVariants.{InPlace, NewFile};
 
-use crate::config::{Config, Update};
 use crate::error::AssertError;
 use crate::prepare::Prepared;
 use crate::removal::remove_files;
 use snap_content::{Error, Text};
 use snap_outside::{Store, StoreError};
+use snap_settings::config::{Config, Update};
 use std::alloc::Global;
 
 /// Removes what waited for the tree that now passed.
 fn approve<S: Store>(alloc: Global, store: &mut S, prepared: &Prepared) -> Result<(), AssertError>
     ensures ok { OnOk result ((m : Files) → S.files store.old ≡ Some m → S.files store.new ≡ Some (remove m prepared.now.pending)) }
-    ensures err { OnErr result ((m : Files) → S.files store.old ≡ Some m → SameBut prepared.now.pending m (S.files store.new)) }
+    ensures kept { IsTakenAlone prepared.now.pending (S.files store.old) (S.files store.new) }
+    ensures named { NamesOnly prepared.now.pending result }
     ensures cause { AssertCause (S.faults store.old) (S.faults store.new) result }
 {
     let Ok(named) = prepared.pending.try_clone(alloc) else {
@@ -33,17 +35,28 @@ fn approve<S: Store>(alloc: Global, store: &mut S, prepared: &Prepared) -> Resul
     }
 }
 
+/// Why an assertion comes to no answer where its file was not saved: the store failed, or memory was wanting.
+fn unsaved(error: Error) -> AssertError
+    ensures file { (path : List ℕ) → error ≡ Error.FileIo path → result ≡ AssertError.FileIo path }
+    ensures other { ((path : List ℕ) → error ≡ Error.FileIo path → ⊥) → result ≡ AssertError.OutOfMemory }
+{
+    match error {
+        Error::FileIo(path) => AssertError::FileIo(path),
+        _ => AssertError::OutOfMemory,
+    }
+}
+
 /// Writes the tree as the approved one.
 fn update<S: Store>(alloc: Global, store: &mut S, prepared: &Prepared) -> Result<(), AssertError>
     requires { IsSome (text_in (contents_in prepared.now.snapshot)) }
     ensures ok { OnOk result ((asked : Asked) (m : Files) → IsPrepared asked prepared.now → S.files store.old ≡ Some m → S.files store.new ≡ Some (written InPlace asked m)) }
-    ensures err { OnErr result ((m : Files) → S.files store.old ≡ Some m → SameBut prepared.now.path m (S.files store.new)) }
+    ensures kept { IsWrittenAlone prepared.now.path (S.files store.old) (S.files store.new) }
+    ensures named { NamesOnly prepared.now.path result }
     ensures cause { AssertCause (S.faults store.old) (S.faults store.new) result }
 {
     match prepared.snapshot.save(alloc, store, &prepared.path) {
         Ok(()) => Ok(()),
-        Err(Error::FileIo(path)) => Err(AssertError::FileIo(path)),
-        Err(_) => Err(AssertError::OutOfMemory),
+        Err(error) => Err(unsaved(error)),
     }
 }
 
@@ -51,18 +64,17 @@ fn update<S: Store>(alloc: Global, store: &mut S, prepared: &Prepared) -> Result
 fn postpone<S: Store>(alloc: Global, store: &mut S, prepared: &Prepared) -> Result<(), AssertError>
     requires { IsSome (text_in (contents_in prepared.now.snapshot)) }
     ensures ok { OnOk result ((asked : Asked) (m : Files) → IsPrepared asked prepared.now → S.files store.old ≡ Some m → S.files store.new ≡ Some (written NewFile asked m)) }
-    ensures err { OnErr result ((m : Files) → S.files store.old ≡ Some m → SameBut (pending_path prepared.now.path) m (S.files store.new)) }
+    ensures kept { IsWrittenAlone (pending_path prepared.now.path) (S.files store.old) (S.files store.new) }
+    ensures named { NamesOnly (pending_path prepared.now.path) result }
     ensures cause { AssertCause (S.faults store.old) (S.faults store.new) result }
 {
     match prepared.snapshot.save_new(alloc, store, &prepared.path) {
         Ok(_) => Ok(()),
-        Err(Error::FileIo(path)) => Err(AssertError::FileIo(path)),
-        Err(_) => Err(AssertError::OutOfMemory),
+        Err(error) => Err(unsaved(error)),
     }
 }
 
-/// Writes the tree where the mode says.
-/// After an error only paths of this assertion may have changed, whatever changed of them before.
+/// Writes the tree where the mode says, and nowhere else.
 fn write_by<S: Store>(
     alloc: Global,
     store: &mut S,
@@ -71,7 +83,8 @@ fn write_by<S: Store>(
 ) -> Result<(), AssertError>
     requires { IsSome (text_in (contents_in prepared.now.snapshot)) }
     ensures ok { OnOk result ((asked : Asked) (m : Files) → IsPrepared asked prepared.now → S.files store.old ≡ Some m → S.files store.new ≡ Some (written mode asked m)) }
-    ensures err { OnErr result ((asked : Asked) (m n : Files) → IsPrepared asked prepared.now → S.files store.old ≡ Some n → KeepsFar asked.path m n → SameOutside (is_near asked.path) m (S.files store.new)) }
+    ensures kept { KeptBy mode prepared.now.path (S.files store.old) (S.files store.new) }
+    ensures named { NamesOwn mode prepared.now.path result }
     ensures cause { AssertCause (S.faults store.old) (S.faults store.new) result }
 {
     match mode {
@@ -82,7 +95,7 @@ fn write_by<S: Store>(
 }
 
 /// Removes the stray files. On a pass what waited goes; where the tree did not pass, and on a pass that is forced,
-/// it is written as the mode says. After an error only paths of this assertion may have changed.
+/// it is written as the mode says. Whatever is answered, no other file is written, and none removed that does not wait.
 pub fn settle<S: Store>(
     alloc: Global,
     store: &mut S,
@@ -94,8 +107,9 @@ pub fn settle<S: Store>(
     requires { IsSome (text_in (contents_in prepared.now.snapshot)) }
     ensures ok { OnOk result ((asked : Asked) (m : Files) → IsPrepared asked prepared.now → S.files store.old ≡ Some m → AreStrays asked.path m strays.now
         → S.files store.new ≡ Some (step config.now.update config.now.force_update asked passed m)) }
-    ensures err { OnErr result ((asked : Asked) (m : Files) → IsPrepared asked prepared.now → S.files store.old ≡ Some m → AreStrays asked.path m strays.now
-        → SameOutside (is_near asked.path) m (S.files store.new)) }
+    ensures kept { (asked : Asked) → IsPrepared asked prepared.now → AllStray asked.path strays.now
+        → KeptBy config.now.update asked.path (S.files store.old) (S.files store.new) }
+    ensures named { (asked : Asked) → IsPrepared asked prepared.now → AllStray asked.path strays.now → NamesOwn config.now.update asked.path result }
     ensures cause { AssertCause (S.faults store.old) (S.faults store.new) result }
 {
     match remove_files(alloc, store, strays) {

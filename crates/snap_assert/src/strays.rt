@@ -1,18 +1,19 @@
 //! What payloads that wait leave behind: files that go with each assertion.
-ghost use Rattle.std.specs.Prelude.{◌≡◌, Some, IfOk, OnOk, OnErr, map};
+ghost use Rattle.std.specs.Prelude.{◌≡◌, Some, IfOk, map};
 ghost use Rattle.std.specs.List.{filter};
 ghost use Rattle.std.specs.Str.{chars};
 ghost use Rattle.snap_outside.specs.Causes.{StoreCause};
-ghost use Rattle.snap_outside.specs.Files.{Files, SameOutside};
+ghost use Rattle.snap_outside.specs.Files.{Files};
 ghost use Rattle.snap_path.specs.Paths.{joined, parent_of};
-ghost use Rattle.snap_assert.specs.Place.{holds_slash};
-ghost use Rattle.snap_assert.specs.Steps.{is_stray, is_near, cleared};
-ghost use Rattle.snap_assert.specs.Strays.{IsFilePath, AreStrays};
+ghost use Rattle.snap_place.specs.Place.{holds_slash};
+ghost use Rattle.snap_assert.specs.Steps.{is_stray};
+ghost use Rattle.snap_place.specs.SnapshotPath.{IsFilePath};
+ghost use Rattle.snap_assert.specs.Strays.{AreStrays, AllStray};
 
-use crate::front::{behind, behind_ascii};
 use snap_content::{OutOfMemory, Text};
 use snap_outside::{Store, StoreError};
 use snap_path::{path_join, path_name};
+use snap_place::front::{behind, behind_ascii};
 use std::alloc::Global;
 
 fn holds_slash_text(text: &str) -> bool
@@ -60,6 +61,7 @@ pub fn stray_paths<S: Store>(
     path: &Text,
 ) -> Result<Vec<Text>, StoreError>
     ensures strays { IfOk result (λ strays. (m : Files) → IsFilePath path.now → folder.now ≡ parent_of path.now → S.files store.old ≡ Some m → AreStrays path.now m strays.items) }
+    ensures all { IfOk result (λ strays. IsFilePath path.now → folder.now ≡ parent_of path.now → AllStray path.now strays.items) }
     ensures same { S.files store.new ≡ S.files store.old }
     ensures cause { StoreCause (S.faults store.old) (S.faults store.new) result }
 {

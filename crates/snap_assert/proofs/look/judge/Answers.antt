@@ -1,4 +1,4 @@
-use Rattle.snap_assert.proofs.Looking.{judge_read, judge_refused, all_judged}
+use Rattle.snap_assert.proofs.Looking.{judge_read, judge_refused, all_judged, refused_at}
 use Rattle.snap_assert.proofs.look.judge.Goals as goal
 
 pub returns-in-Ok-compare-clause-judged : goal.returns-in-Ok-compare-clause-judged
@@ -9,3 +9,6 @@ returns-in-Ok-compare-clause-judged g c = λ asked m prepared told.
 pub returns-in-Err-clause-judged : goal.returns-in-Err-clause-judged
 returns-in-Err-clause-judged g c = all_judged c.args.prepared.now _ c.refused.result (λ asked m prepared told.
     judge_refused asked m c.args.prepared.now _ c.in-Err.error c.refused.result prepared told c.in-Err.ensures.end c.refused.ensures)
+
+pub returns-in-Err-clause-named : goal.returns-in-Err-clause-named
+returns-in-Err-clause-named g c = refused_at c.args.prepared.now.path _ c.in-Err.error c.refused.result c.in-Err.ensures.end.comes_to c.refused.ensures

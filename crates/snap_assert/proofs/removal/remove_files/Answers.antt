@@ -1,5 +1,7 @@
 use Rattle.std.proofs.Common.{◌∙◌, ap, sym, Some}
-use Rattle.snap_assert.proofs.Removals.{one_more, all_gone, some_gone, none_gone}
+use Rattle.snap_assert.specs.Removed.{is_among}
+use Rattle.snap_assert.proofs.Keeping.{kept_removed_each, kept_one_more, among_at}
+use Rattle.snap_assert.proofs.Removals.{one_more, all_gone}
 use Rattle.snap_assert.proofs.removal.remove_files.Goals as goal
 
 pub loop-path-preserved : goal.loop-path-preserved
@@ -9,16 +11,23 @@ loop-path-preserved g c = record {
   count = c.in-Ok-remove.ensures.cause ∙ c.loop-path.invariant.count;
 }
 
-pub returns-in_default-clause-err : goal.returns-in_default-clause-err
-returns-in_default-clause-err g c = λ m e. none_gone c.args.paths.now c.loop-path.path-index m _ (c.loop-path.invariant.gone m e)
+pub returns-in_default-clause-kept : goal.returns-in_default-clause-kept
+returns-in_default-clause-kept g c = λ m e. kept_removed_each c.args.paths.now c.loop-path.path-index m _ (c.loop-path.invariant.gone m e)
 
-pub returns-in-Err-Failed-clause-err : goal.returns-in-Err-Failed-clause-err
-returns-in-Err-Failed-clause-err g c = λ m e.
-    some_gone c.args.paths.now c.loop-path.path-index c.path-item.result m _ c.loop-path-test.true c.path-item.is (c.in-Err-Failed.ensures.unknown _ (c.loop-path.invariant.gone m e))
+pub returns-in-Err-Failed-clause-kept : goal.returns-in-Err-Failed-clause-kept
+returns-in-Err-Failed-clause-kept g c = λ m e.
+    kept_one_more c.args.paths.now c.loop-path.path-index c.path-item.result m _ _ c.loop-path-test.true c.path-item.is (c.loop-path.invariant.gone m e) c.in-Err-Failed.ensures.stopped
 
-pub returns-in-Err-OutOfMemory-clause-err : goal.returns-in-Err-OutOfMemory-clause-err
-returns-in-Err-OutOfMemory-clause-err g c = λ m e.
-    some_gone c.args.paths.now c.loop-path.path-index c.path-item.result m _ c.loop-path-test.true c.path-item.is (c.in-Err-OutOfMemory.ensures.unknown _ (c.loop-path.invariant.gone m e))
+pub returns-in-Err-Failed-clause-named : goal.returns-in-Err-Failed-clause-named
+returns-in-Err-Failed-clause-named g c =
+    ap (λ q. is_among c.args.paths.now q) c.in-Ok.ensures ∙ among_at c.args.paths.now c.loop-path.path-index c.path-item.result c.loop-path-test.true c.path-item.is
+
+pub returns-in-Err-OutOfMemory-clause-kept : goal.returns-in-Err-OutOfMemory-clause-kept
+returns-in-Err-OutOfMemory-clause-kept g c = λ m e.
+    kept_one_more c.args.paths.now c.loop-path.path-index c.path-item.result m _ _ c.loop-path-test.true c.path-item.is (c.loop-path.invariant.gone m e) c.in-Err-OutOfMemory.ensures.stopped
+
+pub returns-clause-kept : goal.returns-clause-kept
+returns-clause-kept g c = λ m e. kept_removed_each c.args.paths.now _ m _ (c.loop-path.invariant.gone m e)
 
 pub returns-clause-ok : goal.returns-clause-ok
 returns-clause-ok g c = λ m e. c.loop-path.invariant.gone m e ∙ ap Some (all_gone c.args.paths.now _ m c.loop-path-test.false)

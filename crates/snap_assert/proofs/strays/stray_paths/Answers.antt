@@ -3,11 +3,17 @@ use Rattle.std.specs.List.{filter}
 use Rattle.std.specs.Str.{chars}
 use Rattle.snap_path.specs.Paths.{joined}
 use Rattle.snap_assert.specs.Steps.{is_stray}
-use Rattle.snap_assert.proofs.StrayPaths.{in_any_order}
+use Rattle.snap_assert.proofs.StrayPaths.{in_any_order, all_stray}
 use Rattle.snap_assert.proofs.strays.stray_paths.Goals as goal
 
 pub returns-in-Ok-sort-clause-strays : goal.returns-in-Ok-sort-clause-strays
 returns-in-Ok-sort-clause-strays g c = λ m file folder told.
     let last = chars c.in-Some.file.now in
     in_any_order c.args.path.now c.args.folder.now last m _ _ _ file folder (sym c.in-Some.ensures) (c.in-Ok.ensures.names m told)
+    (c.in-Ok-strays_among.ensures ∙ ap (λ names. map (joined c.args.folder.now) (filter (is_stray last) names)) c.as_slice.ensures) c.sort.ensures.permutation
+
+pub returns-in-Ok-sort-clause-all : goal.returns-in-Ok-sort-clause-all
+returns-in-Ok-sort-clause-all g c = λ file folder.
+    let last = chars c.in-Some.file.now in
+    all_stray c.args.path.now c.args.folder.now last _ _ _ file folder (sym c.in-Some.ensures)
     (c.in-Ok-strays_among.ensures ∙ ap (λ names. map (joined c.args.folder.now) (filter (is_stray last) names)) c.as_slice.ensures) c.sort.ensures.permutation

@@ -1,5 +1,0 @@
-use Rattle.snap_assert.proofs.Statuses.{none_fails}
-use Rattle.snap_assert.proofs.laws.nothing_fails_in_place.Goals as goal
-
-pub returns : goal.returns
-returns c = none_fails

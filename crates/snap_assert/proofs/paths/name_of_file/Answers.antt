@@ -1,7 +1,0 @@
-use Rattle.std.proofs.Common.{◌∙◌, ap, unwrap_or, [], refl}
-use Rattle.snap_content.proofs.Ascii.{chars-ascii}
-use Rattle.snap_path.specs.Paths.{name_of}
-use Rattle.snap_assert.proofs.paths.name_of_file.Goals as goal
-
-pub returns-in-None : goal.returns-in-None
-returns-in-None c = chars-ascii [] refl ∙ ap (λ o. unwrap_or o []) (c.in-None.ensures ∙ ap name_of c.file.ensures)

@@ -1,0 +1,70 @@
+-- What an assertion leaves as it was, whatever it answers.
+use Rattle.std.specs.Prelude.{◌≡◌, ◌⊎◌, ◌||◌, ℕ, Bool, true, false, List, Option, None, Some, Result, Ok, Err}
+use Rattle.std.specs.FinMap.{get}
+use Rattle.std.specs.Str.{bytes_eq}
+use Rattle.snap_outside.specs.Files.{Files}
+use Rattle.snap_path.specs.Paths.{parent_of}
+use Rattle.snap_assert.specs.Steps.{is_stray, pending_path}
+use Rattle.snap_settings.specs.declared.config.Update.{Update}
+use Rattle.snap_settings.specs.declared.config.Update.TheVariants.{InPlace, NewFile, NoUpdate}
+use Rattle.snap_assert.specs.declared.error.AssertError.{AssertError}
+use Rattle.snap_assert.specs.declared.error.AssertError.TheVariants.{FileIo}
+
+-- the one path that the mode writes
+abbrev pub is_written : Update → List ℕ → List ℕ → Bool
+is_written InPlace path q = bytes_eq q path
+is_written NewFile path q = bytes_eq q (pending_path path)
+is_written NoUpdate path q = false
+
+-- what waits for a review, which goes in each mode
+abbrev pub is_waiting : List ℕ → List ℕ → Bool
+is_waiting path q = bytes_eq q (pending_path path) || is_stray path q
+
+abbrev pub may_change : Update → List ℕ → List ℕ → Bool
+may_change mode path q = is_written mode path q || is_waiting path q
+
+abbrev pub IsKeptOrGone : Option (List ℕ) → Option (List ℕ) → Type 0
+IsKeptOrGone before now = (now ≡ before) ⊎ (now ≡ None)
+
+-- now is known: a file that the first test leaves out is as before or gone, and one that the second leaves out as before
+pub record Keeps (written changed : List ℕ → Bool) (m : Files) (now : Option Files) : Type 0 where
+  pub files : Files
+  pub told : now ≡ Some files
+  pub unwritten : (q : List ℕ) → written q ≡ false → IsKeptOrGone (get m q) (get files q)
+  pub others : (q : List ℕ) → changed q ≡ false → get files q ≡ get m q
+
+abbrev pub is_none : List ℕ → Bool
+is_none q = false
+
+-- the file at the path alone may be written, or may be removed
+abbrev pub IsWrittenAlone : List ℕ → Option Files → Option Files → Type 0
+IsWrittenAlone path files files' = (m : Files) → files ≡ Some m → Keeps (λ q. bytes_eq q path) (λ q. bytes_eq q path) m files'
+
+abbrev pub IsTakenAlone : List ℕ → Option Files → Option Files → Type 0
+IsTakenAlone path files files' = (m : Files) → files ≡ Some m → Keeps is_none (λ q. bytes_eq q path) m files'
+
+-- an assertion at the path writes no file but the one of its mode, and removes none but what waits there
+abbrev pub KeptBy : Update → List ℕ → Option Files → Option Files → Type 0
+KeptBy mode path files files' = (m : Files) → files ≡ Some m → Keeps (is_written mode path) (may_change mode path) m files'
+
+-- the paths at which an assertion asks something of the store: that of its snapshot, its folder, and what it may change
+abbrev pub IsOwn : Update → List ℕ → List ℕ → Type 0
+IsOwn mode path named = (named ≡ path) ⊎ ((named ≡ parent_of path) ⊎ (may_change mode path named ≡ true))
+
+-- a fault names one of these
+abbrev pub FaultIsOwn : Update → List ℕ → AssertError → Type 0
+FaultIsOwn mode path (FileIo named) = IsOwn mode path named
+FaultIsOwn mode path _ = Unit {0}
+
+abbrev pub NamesOwn : {T : Type 0} → Update → List ℕ → Result T AssertError → Type 0
+NamesOwn mode path (Ok value) = Unit {0}
+NamesOwn mode path (Err error) = FaultIsOwn mode path error
+
+-- a fault names this path
+abbrev pub FaultIsAt : List ℕ → AssertError → Type 0
+FaultIsAt path (FileIo named) = named ≡ path
+FaultIsAt path _ = Unit {0}
+
+abbrev pub NamesOnly : {T : Type 0} → List ℕ → Result T AssertError → Type 0
+NamesOnly path (Ok value) = Unit {0}
+NamesOnly path (Err error) = FaultIsAt path error

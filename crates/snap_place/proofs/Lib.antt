@@ -1,0 +1,2 @@
+pub mod FilePaths
+mod LastPart

@@ -1,0 +1,5 @@
+mod Cutting
+pub mod Requesting
+mod RequestMade
+mod Selected
+mod RedactionsRead

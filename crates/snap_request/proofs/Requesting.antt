@@ -1,0 +1,67 @@
+-- What makes a tree a request.
+use Rattle.std.proofs.Common.{◌≡◌, ℕ, List, Bool, true, false, cond, drop, Option, None, Some, refl, sym, ap, ◌∙◌, codes}
+use Rattle.snap_content.specs.Plain as p
+use Rattle.snap_content.specs.Plain.{Plain, dict, Entries}
+use Rattle.snap_content.specs.Lines.{document_of}
+use Rattle.snap_content.specs.Readable.{IsReadable}
+use Rattle.snap_plain.proofs.Injective.{texts_same}
+use Rattle.std.specs.Str.{chars}
+use Rattle.snap_store.specs.Fields.{last_value, text_value, line_value}
+use Rattle.snap_place.specs.Place.{names_file}
+use Rattle.snap_request.specs.Requests.{RequestView, Spells, ReadsAs, needed, request_keys, redactions_from, request_from, request_in, is_keyed}
+
+pub record IsNeeded {A B : Type 0} (held : Option A) (made : A → Option B) (answer : B) : Type 0 where
+  pub value : A
+  pub is : held ≡ Some value
+  pub gives : made value ≡ Some answer
+
+needed_some : {A B : Type 0} (held : Option A) (made : A → Option B) (answer : B) → needed held made ≡ Some answer → IsNeeded held made answer
+needed_some None made answer e = absurd (cc)
+needed_some (Some value) made answer e = record { value = value; is = refl; gives = e }
+
+chosen_some : (b : Bool) (o : Option RequestView) (r : RequestView) → cond b o None ≡ Some r → o ≡ Some r
+chosen_some true o r e = e
+chosen_some false o r e = absurd (cc)
+
+file_chosen : (b : Bool) (r s : RequestView) → names_file r.file ≡ b → cond b (Some r) None ≡ Some s → names_file s.file ≡ true
+file_chosen true r s h e = let same : r ≡ s = cc in ap (λ x. names_file x.file) (sym same) ∙ h
+file_chosen false r s h e = absurd (cc)
+
+from_entries_file : (es : Entries) (r : RequestView) → request_from es ≡ Some r → names_file r.file ≡ true
+from_entries_file es r e =
+    let a = needed_some (text_value (last_value (codes "module") es)) _ r e in
+    let b = needed_some (text_value (last_value (codes "file") es)) _ r a.gives in
+    let c = needed_some (line_value (last_value (codes "line") es)) _ r b.gives in
+    let d = needed_some (text_value (last_value (codes "name") es)) _ r c.gives in
+    let f = needed_some (text_value (last_value (codes "expr") es)) _ r d.gives in
+    let g = needed_some (last_value (codes "value") es) _ r f.gives in
+    let h = needed_some (redactions_from (last_value (codes "redactions") es)) _ r g.gives in
+    file_chosen (names_file b.value) _ r refl h.gives
+
+-- the file of a request is the path of a file
+pub file_named : (tree : Plain) (r : RequestView) → request_in tree ≡ Some r → names_file r.file ≡ true
+file_named p.null r e = absurd (cc)
+file_named (p.bool b) r e = absurd (cc)
+file_named (p.int z) r e = absurd (cc)
+file_named (p.text s) r e = absurd (cc)
+file_named (p.list items) r e = absurd (cc)
+file_named (p.dict es) r e = from_entries_file es r (chosen_some (is_keyed request_keys es) (request_from es) r e)
+
+same_request : (a b : RequestView) → Some a ≡ Some b → a ≡ b
+same_request a b e = cc
+
+-- a document spells one request at most
+pub one_request : (document : List ℕ) (a b : RequestView) → Spells document a → Spells document b → b ≡ a
+one_request document a b s t =
+    let trees : s.tree ≡ t.tree = texts_same s.tree t.tree s.readable t.readable (ap (drop 4) (sym s.printed ∙ t.printed)) in
+    same_request b a (sym t.request_is ∙ ap request_in (sym trees) ∙ s.request_is)
+
+pub reads_as : (document : List ℕ) (r : RequestView) → Spells document r → ReadsAs document r
+reads_as document r s = record { spelled = s; only = λ other t. one_request document r other s t }
+
+-- where no request is in the tree that was read, no request is spelled
+pub no_request_read : (document : List ℕ) (tree : Plain) → IsReadable tree → chars document ≡ document_of tree → request_in tree ≡ None → (r : RequestView) → Spells document r → ⊥
+no_request_read document tree readable printed none r s =
+    let trees : s.tree ≡ tree = texts_same s.tree tree s.readable readable (ap (drop 4) (sym s.printed ∙ printed)) in
+    let clash = sym s.request_is ∙ ap request_in trees ∙ none in
+    cc clash

@@ -1,0 +1,3 @@
+pub mod Requests
+pub mod RequestOf
+pub mod Cut

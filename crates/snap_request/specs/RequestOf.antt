@@ -1,0 +1,16 @@
+-- What a request is seen as.
+use Rattle.snap_content.specs.View.{tree}
+use Rattle.snap_settings.specs.Redactions.{redactions_of}
+use Rattle.snap_request.specs.Requests.{RequestView}
+use Rattle.snap_request.specs.declared.request.Request.{Request}
+
+abbrev pub request_of : Request → RequestView
+request_of request = record {
+  module_name = request.module_name;
+  file = request.file;
+  line = request.line;
+  name = request.name;
+  expr = request.expr;
+  value = tree request.value;
+  redactions = redactions_of request.redactions;
+}

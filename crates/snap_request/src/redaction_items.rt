@@ -1,0 +1,105 @@
+//! The redactions of a request.
+ghost use Rattle.std.specs.Prelude.{◌≡◌, IfOk, codes, count_by, option_map};
+ghost use Rattle.std.specs.Str.{chars};
+ghost use Rattle.snap_content.specs.Plain.{Plain, dict, Plains, Entries, content_of, trees_made, pairs_made};
+ghost use Rattle.snap_content.specs.View.{tree, item_trees, pair_trees};
+ghost use Rattle.snap_select.specs.Selected.{selected};
+ghost use Rattle.snap_select.specs.Selectors.{segments_of};
+ghost use Rattle.snap_store.specs.Fields.{last_value};
+ghost use Rattle.snap_settings.specs.Redactions.{redaction_of, redactions_of};
+ghost use Rattle.snap_request.specs.Requests.{is_keyed, holds_key, redaction_keys, redaction_from, redaction_in, redactions_in, redactions_from};
+
+use crate::request::count_of_key;
+use snap_content::{Content, OutOfMemory};
+use snap_select::{Redaction, SelectError, Selector};
+use snap_settings::redactions::Redactions;
+use snap_store::fields::{text_named, value_named};
+use std::alloc::Global;
+
+/// The redactions that the pairs of a request hold; none where what stands there are no redactions.
+pub fn redactions_of_pairs(
+    alloc: Global,
+    pairs: &[(Content, Content)],
+) -> Result<Option<Redactions>, OutOfMemory>
+    ensures { (entries : Entries) → pair_trees pairs.now ≡ pairs_made entries
+        → IfOk result (λ found. option_map redactions_of found ≡ redactions_from (last_value (codes "redactions") entries)) }
+{
+    match value_named(pairs, "redactions") {
+        None => Ok(Some(Redactions::new(alloc))),
+        Some(Content::Seq(items)) => read_redactions(alloc, items.as_slice()),
+        Some(_) => Ok(None),
+    }
+}
+
+fn read_redactions(alloc: Global, items: &[Content]) -> Result<Option<Redactions>, OutOfMemory>
+    ensures { (plains : Plains) → item_trees items.now ≡ trees_made plains → IfOk result (λ found. option_map redactions_of found ≡ redactions_in plains) }
+{
+    let mut redactions = Redactions::new(alloc);
+    for item in items {
+        let Some((selector, redaction)) = read_redaction(alloc, item)? else {
+            return Ok(None);
+        };
+        redactions.push(selector, redaction)?;
+    }
+    Ok(Some(redactions))
+}
+
+/// The redaction that a tree is, where a reader made it.
+fn read_redaction(
+    alloc: Global,
+    content: &Content,
+) -> Result<Option<(Selector<'static>, Redaction)>, OutOfMemory>
+    ensures { (plain : Plain) → tree content.now ≡ content_of plain → IfOk result (λ found. option_map redaction_of found ≡ redaction_in plain) }
+{
+    match content {
+        Content::Map(pairs) => redaction_of_pairs(alloc, pairs.as_slice()),
+        _ => Ok(None),
+    }
+}
+
+fn redaction_of_pairs(
+    alloc: Global,
+    pairs: &[(Content, Content)],
+) -> Result<Option<(Selector<'static>, Redaction)>, OutOfMemory>
+    ensures { (entries : Entries) → pair_trees pairs.now ≡ pairs_made entries → IfOk result (λ found. option_map redaction_of found ≡ redaction_in (dict entries)) }
+{
+    if !are_keyed(pairs) {
+        return Ok(None);
+    }
+    let Some(at) = text_named(pairs, "at") else {
+        return Ok(None);
+    };
+    let Some(selector) = read_selector(alloc, at)? else {
+        return Ok(None);
+    };
+    let Some(put) = value_named(pairs, "put") else {
+        return Ok(None);
+    };
+    let redaction = Redaction::from_content(put.try_clone(alloc)?);
+    Ok(Some((selector, redaction)))
+}
+
+/// Whether the keys are those of a redaction, each once.
+fn are_keyed(pairs: &[(Content, Content)]) -> bool
+    ensures { (entries : Entries) → pair_trees pairs.now ≡ pairs_made entries → result ≡ is_keyed redaction_keys entries }
+{
+    pairs.len() == held_keys(pairs)
+}
+
+/// How many keys of a redaction are among the pairs.
+fn held_keys(pairs: &[(Content, Content)]) -> usize
+    ensures { (entries : Entries) → pair_trees pairs.now ≡ pairs_made entries → result ≡ count_by (holds_key entries) redaction_keys }
+{
+    count_of_key(pairs, "at") + count_of_key(pairs, "put")
+}
+
+/// The selector that a text is, if it is one.
+fn read_selector(alloc: Global, text: &str) -> Result<Option<Selector<'static>>, OutOfMemory>
+    ensures { IfOk result (λ found. option_map segments_of found ≡ selected (chars text.now)) }
+{
+    match Selector::parse(alloc, text) {
+        Ok(selector) => Ok(Some(selector.make_static(alloc)?)),
+        Err(SelectError::Parse(_)) => Ok(None),
+        Err(SelectError::OutOfMemory) => Err(OutOfMemory),
+    }
+}

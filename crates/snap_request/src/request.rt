@@ -1,0 +1,162 @@
+//! A request: what a document of a stream asks for.
+ghost use Rattle.std.specs.Prelude.{◌≡◌, List, ℕ, IfOk, IsErrOf, IsTrue, option_map, count_by, ◌≤◌, if◌then◌else◌};
+ghost use Rattle.std.specs.Str.{chars};
+ghost use Rattle.std.specs.Char.{is_ascii};
+ghost use Rattle.std.specs.List.{list_all};
+ghost use Rattle.snap_content.specs.Plain.{Plain, dict, Entries, content_of, pairs_made};
+ghost use Rattle.snap_content.specs.View.{tree, pair_trees};
+ghost use Rattle.snap_request.specs.Requests.{RequestView, Spells, ReadsAs, is_keyed, holds_key, request_keys, request_in};
+ghost use Rattle.snap_request.specs.RequestOf.{request_of};
+
+use crate::redaction_items::redactions_of_pairs;
+use snap_content::{Content, Error, OutOfMemory, Text};
+use snap_emit::yaml;
+use snap_place::file_path::is_file_path;
+use snap_settings::redactions::Redactions;
+use snap_store::fields::{line_named, text_named, value_named};
+use std::alloc::Global;
+
+/// A tree that is to be asserted, with its name and its place.
+#[derive(Drop)]
+pub struct Request {
+    pub module_name: Text,
+    pub file: Text,
+    pub line: u32,
+    pub name: Text,
+    pub expr: Text,
+    pub value: Content,
+    pub redactions: Redactions,
+}
+
+/// Why a document is not read.
+#[derive(Clone, Copy, Debug, PartialEq, Eq)]
+pub enum RequestError {
+    NoRequest,
+    OutOfMemory,
+}
+
+impl From<OutOfMemory> for RequestError {
+    ghost use Rattle.std.specs.Prelude.{◌≡◌};
+    ghost use Rattle.snap_request.specs.declared.request.RequestError.TheVariants.{OutOfMemory};
+
+    ghost from_gives = { λ _ e. e ≡ OutOfMemory };
+
+    fn from(_error: OutOfMemory) -> RequestError {
+        RequestError::OutOfMemory
+    }
+}
+
+/// The request that a map of these pairs is, if it is one.
+fn request_of_pairs(
+    alloc: Global,
+    pairs: &[(Content, Content)],
+) -> Result<Option<Request>, OutOfMemory>
+    ensures { (entries : Entries) → pair_trees pairs.now ≡ pairs_made entries → IfOk result (λ found. option_map request_of found ≡ request_in (dict entries)) }
+{
+    if !are_keyed(pairs) {
+        return Ok(None);
+    }
+    let Some(module_name) = text_named(pairs, "module") else {
+        return Ok(None);
+    };
+    let Some(file) = text_named(pairs, "file") else {
+        return Ok(None);
+    };
+    let Some(line) = line_named(pairs, "line") else {
+        return Ok(None);
+    };
+    let Some(name) = text_named(pairs, "name") else {
+        return Ok(None);
+    };
+    let Some(expr) = text_named(pairs, "expr") else {
+        return Ok(None);
+    };
+    let Some(value) = value_named(pairs, "value") else {
+        return Ok(None);
+    };
+    if !is_file_path(file) {
+        return Ok(None);
+    }
+    let Some(redactions) = redactions_of_pairs(alloc, pairs)? else {
+        return Ok(None);
+    };
+    Ok(Some(Request {
+        module_name: Text::from_str(alloc, module_name)?,
+        file: Text::from_str(alloc, file)?,
+        line,
+        name: Text::from_str(alloc, name)?,
+        expr: Text::from_str(alloc, expr)?,
+        value: value.try_clone(alloc)?,
+        redactions,
+    }))
+}
+
+/// One where the key is among the pairs, else none.
+pub(crate) fn count_of_key(pairs: &[(Content, Content)], name: &str) -> usize
+    requires { IsTrue (list_all is_ascii name.now) }
+    ensures count { (entries : Entries) → pair_trees pairs.now ≡ pairs_made entries → result ≡ (if holds_key entries name.now then 1 else 0) }
+    ensures small { result ≤ 1 }
+{
+    match value_named(pairs, name) {
+        Some(_) => 1,
+        None => 0,
+    }
+}
+
+/// How many keys of a request are among the pairs.
+fn held_keys(pairs: &[(Content, Content)]) -> usize
+    ensures { (entries : Entries) → pair_trees pairs.now ≡ pairs_made entries → result ≡ count_by (holds_key entries) request_keys }
+{
+    let place = count_of_key(pairs, "module")
+        + count_of_key(pairs, "file")
+        + count_of_key(pairs, "line");
+    let tree = count_of_key(pairs, "name")
+        + count_of_key(pairs, "expr")
+        + count_of_key(pairs, "value");
+    place + tree + count_of_key(pairs, "redactions")
+}
+
+/// Whether there are as many pairs as keys of a request among them.
+fn are_keyed(pairs: &[(Content, Content)]) -> bool
+    ensures { (entries : Entries) → pair_trees pairs.now ≡ pairs_made entries → result ≡ is_keyed request_keys entries }
+{
+    pairs.len() == held_keys(pairs)
+}
+
+/// The request that a tree is, where a reader made it.
+fn request_of_content(alloc: Global, content: &Content) -> Result<Option<Request>, OutOfMemory>
+    ensures { (plain : Plain) → tree content.now ≡ content_of plain → IfOk result (λ found. option_map request_of found ≡ request_in plain) }
+{
+    let Content::Map(pairs) = content else {
+        return Ok(None);
+    };
+    request_of_pairs(alloc, pairs.as_slice())
+}
+
+/// Reads a document. It is refused exactly where it is no printed text of a request with simple keys.
+pub fn read_request(alloc: Global, document: &[u8]) -> Result<Request, RequestError>
+    ensures ok { IfOk result (λ request. ReadsAs document.now (request_of request)) }
+    ensures refused { IsErrOf result RequestError.NoRequest → (r : RequestView) → Spells document.now r → ⊥ }
+{
+    let Ok(text) = str::from_utf8(document) else {
+        return Err(RequestError::NoRequest);
+    };
+    match yaml::parse_str(alloc, text, &Text::empty()) {
+        Ok(content) => match request_of_content(alloc, &content) {
+            Ok(Some(request)) => Ok(request),
+            Ok(None) => Err(RequestError::NoRequest),
+            Err(_) => Err(RequestError::OutOfMemory),
+        },
+        Err(error) => Err(refusal_of(&error)),
+    }
+}
+
+/// What the reader's error means for a document. Want of memory is never taken for a text that is no request.
+fn refusal_of(error: &Error) -> RequestError
+    ensures { result ≡ RequestError.NoRequest → error.now ≡ Error.OutOfMemory → ⊥ }
+{
+    match error {
+        Error::OutOfMemory => RequestError::OutOfMemory,
+        _ => RequestError::NoRequest,
+    }
+}

@@ -1,0 +1,44 @@
+-- A run without faults over spelled requests ends well.
+use Rattle.std.specs.Prelude.{◌≡◌, ℕ, List, [], ◌∷◌, ◌++◌, Option, refl}
+use Rattle.std.proofs.Common.{inl, inr, subst, arith}
+use Rattle.snap_outside.specs.Causes.{Rose}
+use Rattle.snap_outside.specs.Files.{Files}
+use Rattle.snap_request.specs.Requests.{RequestView, Spells}
+use Rattle.snap_run.specs.Answers.{RunWords}
+use Rattle.snap_run.specs.Runs.{StopsAt}
+use Rattle.snap_run.specs.StatusOf.{status_at}
+use Rattle.snap_run.specs.Status.{RunsTo, AreSpelled, IsSteady, EndsWell}
+use Rattle.snap_run.specs.declared.documents.DocumentError.{DocumentError}
+use Rattle.snap_run.specs.declared.documents.DocumentError.TheVariants as error
+use Rattle.snap_run.specs.declared.status.Status.{Status}
+use Rattle.snap_run.specs.declared.status.Status.TheVariants.{AllPassed, SomeFailed, BadWords, BadRequest, Refused, FileIo, ReadFault, WriteFault, OutOfMemory, InputTooLong}
+
+spelled_at : (done : List (List ℕ)) (d : List ℕ) (later : List (List ℕ)) → AreSpelled (done ++ d ∷ later) → (r : RequestView) × Spells d r
+spelled_at [] d later h = h.0
+spelled_at (x ∷ done) d later h = spelled_at done d later h.1
+
+pub not_rose : (n m : ℕ) → IsSteady n m → Rose n m → ⊥
+not_rose n m h r = absurd (omega (arith, r.rose, h.same, h.below_last))
+
+no_request : (words : RunWords) (e : DocumentError) (n k : ℕ) (d : List ℕ) (f g : Option Files) (w v : Option (List ℕ)) → BadRequest k ≡ status_at n e → StopsAt words e d f g w v → (r : RequestView) → Spells d r → ⊥
+no_request words error.NoRequest n k d f g w v e s r h = s.2 r h
+no_request words (error.FileIo p) n k d f g w v e s r h = cc
+no_request words error.WriteFault n k d f g w v e s r h = cc
+no_request words error.OutOfMemory n k d f g w v e s r h = cc
+
+-- what no fault leaves of the statuses
+pub ends_well : (status : Status) (said : RunWords) (docs : List (List ℕ)) (f g : Option Files) (w v : Option (List ℕ)) → AreSpelled docs → RunsTo status said docs f g w v
+    → (status ≡ BadWords → ⊥) → ((n : ℕ) (p : List ℕ) → status ≡ FileIo n p → ⊥) → (status ≡ ReadFault → ⊥) → (status ≡ WriteFault → ⊥) → (status ≡ InputTooLong → ⊥) → EndsWell status
+ends_well AllPassed said docs f g w v spelled run a b c d e = inl refl
+ends_well SomeFailed said docs f g w v spelled run a b c d e = inr (inl refl)
+ends_well OutOfMemory said docs f g w v spelled run a b c d e = inr (inr refl)
+ends_well BadWords said docs f g w v spelled run a b c d e = absurd (a refl)
+ends_well (FileIo n p) said docs f g w v spelled run a b c d e = absurd (b n p refl)
+ends_well ReadFault said docs f g w v spelled run a b c d e = absurd (c refl)
+ends_well WriteFault said docs f g w v spelled run a b c d e = absurd (d refl)
+ends_well InputTooLong said docs f g w v spelled run a b c d e = absurd (e refl)
+ends_well (Refused n kind) said docs f g w v spelled run a b c d e = absurd run
+ends_well (BadRequest n) said docs f g w v spelled run a b c d e =
+    let s = run.stops in
+    let at = spelled_at s.done s.document s.later (subst AreSpelled s.cut spelled) in
+    absurd (no_request said run.stop.error run.stop.document n s.document s.between g s.sent v run.status_is s.stops at.0 at.1)

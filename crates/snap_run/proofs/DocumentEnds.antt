@@ -1,0 +1,154 @@
+-- What one document leaves.
+use Rattle.std.proofs.Common.{◌≡◌, ◌⊎◌, ◌&&◌, not, inl, inr, ℕ, List, [], ◌∷◌, ◌++◌, Option, Some, refl, sym, ap, ◌∙◌, subst, Result, Ok, Err, encode_utf8_all}
+use Rattle.std.proofs.lemmas.List.{append-nil}
+use Rattle.std.specs.FinMap.{empty, get}
+use Rattle.snap_outside.specs.Causes.{Rose}
+use Rattle.snap_outside.specs.Files.{Files}
+use Rattle.snap_outside.specs.Streams.{HoldsFront}
+use Rattle.snap_settings.specs.Settings.{SettingsView}
+use Rattle.snap_place.specs.Place.{PlaceView}
+use Rattle.snap_assert.specs.Judging.{May}
+use Rattle.snap_assert.specs.Session.{empty_session}
+use Rattle.snap_assert.specs.Steps.{Asked, asked_of, verdict_of, is_failure}
+use Rattle.snap_assert.specs.Assertions.{Assertion, assertion_of, asked_in}
+use Rattle.snap_request.specs.Requests.{RequestView, ReadsAs}
+use Rattle.snap_run.specs.Answers.{RunWords, place_by, settings_by, asked_by, assertion_by, line_text, line_of}
+use Rattle.snap_assert.specs.Kept.{KeptBy, IsOwn, FaultIsOwn}
+use Rattle.snap_assert.specs.Outcomes.{IsAnswered, ErrorCause, left_by}
+use Rattle.snap_run.specs.Runner.{words_of}
+use Rattle.snap_run.specs.Runs.{Ran, AssertionStops, StopsAt, IsInWork, MemoryFails, LineFails, IsDocumentAnswered, StoreCount}
+use Rattle.snap_settings.specs.declared.config.Update.{Update}
+use Rattle.snap_run.specs.declared.documents.DocumentError.{DocumentError}
+use Rattle.snap_run.specs.declared.documents.DocumentError.TheVariants.{NoRequest, FileIo, WriteFault, OutOfMemory}
+use Rattle.snap_assert.specs.declared.error.AssertError.{AssertError}
+use Rattle.snap_assert.specs.declared.error.AssertError.TheVariants as refusal
+use Rattle.snap_assert.specs.declared.outcome.Outcome.{Outcome}
+use Rattle.snap_assert.specs.declared.outcome.Verdict.{Verdict}
+use Rattle.snap_run.specs.declared.runner.Runner.{Runner}
+use Rattle.snap_assert.proofs.Keeping.{step_keeps}
+
+-- a document that comes to no answer stops the run with nothing written
+pub stops_at : (words : RunWords) (error : DocumentError) (document : List ℕ) (f g : Option Files) (w v : Option (List ℕ)) → v ≡ w → AssertionStops words error document f g → StopsAt words error document f g w v
+stops_at words NoRequest document f g w v e s = (s.0, e, s.1)
+stops_at words (FileIo path) document f g w v e s = (e, s)
+stops_at words WriteFault document f g w v e s = absurd s
+stops_at words OutOfMemory document f g w v e s = (e, s)
+
+pub unchanged_before : (words : RunWords) (document : List ℕ) (f g : Option Files) → g ≡ f → MemoryFails words document f g
+unchanged_before words document f g e = inl e
+
+-- a document was answered, and nothing was said of it
+pub answered_in_work : (words : RunWords) (document : List ℕ) (outcome : Outcome) (f g : Option Files) → IsDocumentAnswered words document outcome f g → MemoryFails words document f g
+answered_in_work words document outcome f g d = inr (record {
+  request = d.answer.request;
+  reads = d.reads;
+  kept = λ m told. step_keeps words.update words.force_update (asked_by words.workspace d.answer.request) d.answer.passed m g (d.stands m told);
+})
+
+-- what new settings and the place of a request ask is what the request asks
+pub asked_is : (settings : SettingsView) (place : PlaceView) (workspace : List ℕ) (r : RequestView) → settings ≡ settings_by r → place ≡ place_by workspace r
+    → asked_of settings place r.name r.value ≡ asked_by workspace r
+asked_is settings place workspace r new is = ap (λ s. asked_of s place r.name r.value) new ∙ ap (λ p. asked_of (settings_by r) p r.name r.value) is
+
+pub assertion_is : (settings : SettingsView) (place : PlaceView) (workspace : List ℕ) (r : RequestView) → settings ≡ settings_by r → place ≡ place_by workspace r
+    → assertion_of settings place r.name r.value ≡ assertion_by workspace r
+assertion_is settings place workspace r new is =
+    ap (λ s. assertion_of s place r.name r.value) new ∙ ap (λ p. assertion_of (settings_by r) p r.name r.value) is
+
+one_verdict : (answer : Result Verdict AssertError) (a b : Verdict) → answer ≡ Ok a → answer ≡ Ok b → a ≡ b
+one_verdict answer a b is also = cc
+
+pub document_answered : (runner : Runner) (document : List ℕ) (r : RequestView) (assertion : Assertion) (outcome : Outcome) (f g : Option Files)
+    → ReadsAs document r → assertion ≡ assertion_by runner.workspace r → IsAnswered runner.config assertion outcome f g empty_session empty_session
+    → IsDocumentAnswered (words_of runner) document outcome f g
+document_answered runner document r assertion outcome f g reads is x =
+    let says : verdict_of runner.config.update x.passed ≡ outcome.verdict =
+    one_verdict (left_by runner.config assertion x.passed empty empty_session).answer (verdict_of runner.config.update x.passed) outcome.verdict refl (x.verdict empty) in
+    record {
+      answer = record { request = r; passed = x.passed };
+      reads = reads;
+      verdict = sym says;
+      fails = x.fails ∙ ap (λ v. is_failure v && not runner.config.force_pass) (sym says);
+      path = x.path ∙ ap (λ a. (asked_in a empty_session).path) is;
+      allowed = λ m e. subst (λ a. May x.passed (get m (asked_in a empty_session).path) (asked_in a empty_session).tree) is (x.allowed m e);
+      stands = λ m e. x.stands m e ∙ ap (λ a. Some (left_by runner.config a x.passed m empty_session).files) is;
+    }
+
+pub document_in_work : (runner : Runner) (document : List ℕ) (r : RequestView) (asked : Asked) (f g : Option Files)
+    → ReadsAs document r → asked ≡ asked_by runner.workspace r → KeptBy runner.config.update asked.path f g → IsInWork (words_of runner) document f g
+document_in_work runner document r asked f g reads is kept =
+    record { request = r; reads = reads; kept = subst (λ a. KeptBy runner.config.update a.path f g) is kept }
+
+line_is : (words : RunWords) (document : List ℕ) (outcome : Outcome) (line bytes : List ℕ) (f g : Option Files) (d : IsDocumentAnswered words document outcome f g)
+    → line ≡ line_text outcome.verdict outcome.path → bytes ≡ encode_utf8_all line → bytes ≡ line_of words d.answer
+line_is words document outcome line bytes f g d told encoded =
+    encoded ∙ ap encode_utf8_all (told ∙ ap (λ v. line_text v outcome.path) d.verdict ∙ ap (λ p. line_text (verdict_of words.update d.answer.passed) p) d.path)
+
+-- a document was answered, and its line is written
+pub document_ran : (words : RunWords) (document : List ℕ) (outcome : Outcome) (line bytes : List ℕ) (f g : Option Files) (w v : Option (List ℕ)) (d : IsDocumentAnswered words document outcome f g)
+    → line ≡ line_text outcome.verdict outcome.path → bytes ≡ encode_utf8_all line → ((x : List ℕ) → w ≡ Some x → v ≡ Some (x ++ bytes)) → Ran words (document ∷ []) (d.answer ∷ []) f g w v
+document_ran words document outcome line bytes f g w v d told encoded wrote = record {
+  reads = (d.reads, tt);
+  allowed = λ m e. (d.allowed m e, tt);
+  stands = d.stands;
+  lines = λ x e. wrote x e ∙ ap (λ b. Some (x ++ b)) (line_is words document outcome line bytes f g d told encoded ∙ sym (append-nil (line_of words d.answer)));
+}
+
+-- a document was answered, and a part of its line is written
+pub line_fails : (words : RunWords) (document : List ℕ) (outcome : Outcome) (line bytes : List ℕ) (f g : Option Files) (w v : Option (List ℕ)) (d : IsDocumentAnswered words document outcome f g)
+    → line ≡ line_text outcome.verdict outcome.path → bytes ≡ encode_utf8_all line → ((x : List ℕ) → w ≡ Some x → HoldsFront bytes x v) → LineFails words document f g w v
+line_fails words document outcome line bytes f g w v d told encoded wrote = record {
+  answer = d.answer;
+  reads = d.reads;
+  allowed = d.allowed;
+  stands = d.stands;
+  line = λ x e. subst (λ b. HoldsFront b x v) (line_is words document outcome line bytes f g d told encoded) (wrote x e);
+}
+
+-- the store failed in the work on a path, or memory was wanting
+record IsFault (before now : ℕ) (mode : Update) (path : List ℕ) (error : DocumentError) : Type 0 where
+  named : List ℕ
+  is : error ≡ FileIo named
+  own : IsOwn mode path named
+  rose : Rose before now
+
+record IsWant (before now : ℕ) (error : DocumentError) : Type 0 where
+  is : error ≡ OutOfMemory
+  same : now ≡ before
+
+refused_by : (before now : ℕ) (mode : Update) (path : List ℕ) (refused : AssertError) (error : DocumentError) → ErrorCause before now refused → FaultIsOwn mode path refused
+    → ((path : List ℕ) → refused ≡ refusal.FileIo path → error ≡ FileIo path) → (refused ≡ refusal.OutOfMemory → error ≡ OutOfMemory) → IsFault before now mode path error ⊎ IsWant before now error
+refused_by before now mode path refusal.OutOfMemory error cause own file memory = inr (record { is = memory refl; same = cause })
+refused_by before now mode path (refusal.FileIo named) error cause own file memory = inl (record { named = named; is = file named refl; own = own; rose = cause })
+refused_by before now mode path refusal.NameClash error cause own file memory = absurd cause
+refused_by before now mode path refusal.DoctestNeedsName error cause own file memory = absurd cause
+refused_by before now mode path (refusal.DuplicateDiffers key kept new) error cause own file memory = absurd cause
+refused_by before now mode path refusal.NamesExhausted error cause own file memory = absurd cause
+refused_by before now mode path refusal.InlineDuplicate error cause own file memory = absurd cause
+refused_by before now mode path refusal.BadExtension error cause own file memory = absurd cause
+refused_by before now mode path refusal.JsonKey error cause own file memory = absurd cause
+
+-- a document whose assertion is refused
+pub refused_stops : (runner : Runner) (document : List ℕ) (r : RequestView) (asked : Asked) (f g : Option Files) (before now : ℕ) (refused : AssertError) (error : DocumentError)
+    → ErrorCause before now refused → FaultIsOwn runner.config.update asked.path refused
+    → ((path : List ℕ) → refused ≡ refusal.FileIo path → error ≡ FileIo path) → (refused ≡ refusal.OutOfMemory → error ≡ OutOfMemory)
+    → ReadsAs document r → asked ≡ asked_by runner.workspace r → KeptBy runner.config.update asked.path f g → AssertionStops (words_of runner) error document f g
+unfolding document_in_work
+refused_stops runner document r asked f g before now refused error cause own file memory reads is kept = ends (refused_by before now runner.config.update asked.path refused error cause own file memory)
+  where
+    work : IsInWork (words_of runner) document f g
+    work = document_in_work runner document r asked f g reads is kept
+
+    ends : IsFault before now runner.config.update asked.path error ⊎ IsWant before now error → AssertionStops (words_of runner) error document f g
+    ends (inl h) = subst (λ e. AssertionStops (words_of runner) e document f g) (sym h.is)
+        (record { work = work; own = subst (λ a. IsOwn runner.config.update a.path h.named) is h.own })
+    ends (inr h) = subst (λ e. AssertionStops (words_of runner) e document f g) (sym h.is) (inr work)
+
+pub refused_count : (T : Type 0) (before now : ℕ) (mode : Update) (path : List ℕ) (refused : AssertError) (error : DocumentError)
+    → ErrorCause before now refused → FaultIsOwn mode path refused
+    → ((path : List ℕ) → refused ≡ refusal.FileIo path → error ≡ FileIo path) → (refused ≡ refusal.OutOfMemory → error ≡ OutOfMemory) → StoreCount {T = T} before now (Err error)
+refused_count T before now mode path refused error cause own file memory = ends (refused_by before now mode path refused error cause own file memory)
+  where
+    ends : IsFault before now mode path error ⊎ IsWant before now error → StoreCount {T = T} before now (Err error)
+    ends (inl h) = subst (λ e. StoreCount {T = T} before now (Err e)) (sym h.is) h.rose
+    ends (inr h) = subst (λ e. StoreCount {T = T} before now (Err e)) (sym h.is) h.same

@@ -1,0 +1,7 @@
+mod Stepping
+mod Statuses
+mod Completeness
+mod DocumentEnds
+mod RunEnds
+mod RunKept
+mod Messages

@@ -1,0 +1,97 @@
+-- What the program's run comes to.
+use Rattle.std.proofs.Common.{◌≡◌, ◌≤◌, ◌+◌, ℕ, Bool, true, false, List, Option, None, Some, refl, sym, ap, ◌∙◌, subst, inl, inr, length, arith}
+use Rattle.snap_outside.specs.Files.{Files}
+use Rattle.snap_run.specs.Answers.{RunWords, words_mean}
+use Rattle.snap_request.specs.Cut.{documents}
+use Rattle.snap_run.specs.Runner.{words_of}
+use Rattle.snap_run.specs.Runs.{Stops}
+use Rattle.snap_run.specs.Status.{RunCause, Ended, RunsTo, RunsBy, RunsFrom, LengthCause, SourceCause, SinkCause, StoreCause, AreSpelled, IsSteady, EndsWell}
+use Rattle.snap_run.specs.StatusOf.{status_at, status_of}
+use Rattle.snap_stream.specs.Streams.{TakesExactly}
+use Rattle.snap_run.specs.declared.documents.DocumentError.{DocumentError}
+use Rattle.snap_run.specs.declared.documents.DocumentError.TheVariants as error
+use Rattle.snap_run.specs.declared.documents.Stop.{Stop}
+use Rattle.snap_run.specs.declared.runner.Runner.{Runner}
+use Rattle.snap_run.specs.declared.status.Status.{Status}
+use Rattle.snap_run.specs.declared.status.Status.TheVariants.{AllPassed, SomeFailed, BadWords, ReadFault, OutOfMemory, InputTooLong}
+use Rattle.snap_run.proofs.Statuses.{before_all}
+use Rattle.snap_run.proofs.Completeness.{ends_well, not_rose}
+use Rattle.snap_stream.proofs.Pieces.{exactly_long}
+
+-- where the run stops before any document nothing is changed
+pub bad_words : (words : Option RunWords) (left : Option (List ℕ)) (f : Option Files) (w : Option (List ℕ)) → RunsFrom BadWords words left f f w w
+bad_words None left f w = before_all BadWords None left f f w w (λ docs. (refl, refl))
+bad_words (Some said) left f w = before_all BadWords (Some said) left f f w w (λ docs. (refl, refl))
+
+pub no_memory : (words : Option RunWords) (left : Option (List ℕ)) (f : Option Files) (w : Option (List ℕ)) → RunsFrom OutOfMemory words left f f w w
+no_memory None left f w = before_all OutOfMemory None left f f w w (λ docs. (refl, refl))
+no_memory (Some said) left f w = before_all OutOfMemory (Some said) left f f w w (λ docs. inl (refl, refl))
+
+pub read_fault : (words : Option RunWords) (left : Option (List ℕ)) (f : Option Files) (w : Option (List ℕ)) → RunsFrom ReadFault words left f f w w
+read_fault None left f w = before_all ReadFault None left f f w w (λ docs. (refl, refl))
+read_fault (Some said) left f w = before_all ReadFault (Some said) left f f w w (λ docs. (refl, refl))
+
+pub too_long : (words : Option RunWords) (left : Option (List ℕ)) (f : Option Files) (w : Option (List ℕ)) → RunsFrom InputTooLong words left f f w w
+too_long None left f w = before_all InputTooLong None left f f w w (λ docs. (refl, refl))
+too_long (Some said) left f w = before_all InputTooLong (Some said) left f f w w (λ docs. (refl, refl))
+
+said_is : (words : Option RunWords) (runner : Runner) (said : RunWords) → words ≡ Some said → words_of runner ≡ said → words ≡ Some (words_of runner)
+said_is words runner said is same = is ∙ ap Some (sym same)
+
+-- the status of a run that came to its end
+abbrev ended_status : Bool → Status
+ended_status true = SomeFailed
+ended_status false = AllPassed
+
+ended_runs : (fails : Bool) (said : RunWords) (docs : List (List ℕ)) (f g : Option Files) (w v : Option (List ℕ)) → Ended fails said docs f g w v → RunsTo (ended_status fails) said docs f g w v
+ended_runs true said docs f g w v e = e
+ended_runs false said docs f g w v e = e
+
+-- the run came to its end
+pub finished : (fails found : Bool) (words : Option RunWords) (runner : Runner) (said : RunWords) (bytes : List ℕ) (left : Option (List ℕ)) (f g : Option Files) (w v : Option (List ℕ))
+    → found ≡ fails → words ≡ Some said → words_of runner ≡ said → ((xs : List ℕ) → left ≡ Some xs → bytes ≡ xs)
+    → Ended found (words_of runner) (documents bytes) f g w v
+    → RunsFrom (ended_status fails) words left f g w v
+finished fails found words runner said bytes left f g w v found_is is same told ended =
+    let Runs : Option RunWords → Type 0 = λ o. RunsFrom (ended_status fails) o left f g w v in
+    subst Runs (sym (said_is words runner said is same)) (record {
+      input = bytes;
+      told = told;
+      runs = ended_runs fails (words_of runner) (documents bytes) f g w v (subst (λ b. Ended b (words_of runner) (documents bytes) f g w v) found_is ended);
+    })
+
+stopped_at : (n : ℕ) (e : DocumentError) (stop : Stop) (said : RunWords) (docs : List (List ℕ)) (f g : Option Files) (w v : Option (List ℕ)) → status_at n e ≡ status_of stop → Stops said docs stop f g w v
+    → RunsTo (status_at n e) said docs f g w v
+stopped_at n error.NoRequest stop said docs f g w v is s = record { stop = stop; status_is = is; stops = s }
+stopped_at n (error.FileIo path) stop said docs f g w v is s = record { stop = stop; status_is = is; stops = s }
+stopped_at n error.WriteFault stop said docs f g w v is s = record { stop = stop; status_is = is; stops = s }
+stopped_at n error.OutOfMemory stop said docs f g w v is s = inr (record { stop = stop; status_is = is; stops = s })
+
+-- the run stopped at a document
+pub stopped : (status : Status) (words : Option RunWords) (runner : Runner) (stop : Stop) (said : RunWords) (bytes : List ℕ) (left : Option (List ℕ)) (f g : Option Files) (w v : Option (List ℕ))
+    → status ≡ status_of stop → words ≡ Some said → words_of runner ≡ said → ((xs : List ℕ) → left ≡ Some xs → bytes ≡ xs)
+    → Stops (words_of runner) (documents bytes) stop f g w v
+    → RunsFrom status words left f g w v
+stopped status words runner stop said bytes left f g w v status_is is same told s =
+    let Runs : Option RunWords → Type 0 = λ o. RunsFrom status o left f g w v in
+    let To : Status → Type 0 = λ x. RunsTo x (words_of runner) (documents bytes) f g w v in
+    subst Runs (sym (said_is words runner said is same)) (record {
+      input = bytes;
+      told = told;
+      runs = subst To (sym status_is) (stopped_at stop.document stop.error stop (words_of runner) (documents bytes) f g w v refl s);
+    })
+
+-- without faults, a run over documents that spell requests ends well
+pub complete : (status : Status) (words : List (List ℕ)) (limit : ℕ) (left left' : Option (List ℕ)) (sb sn kb kn fb fn : ℕ) (f g : Option Files) (w v : Option (List ℕ))
+    → RunCause words status → RunsFrom status (words_mean words) left f g w v → LengthCause limit left left' status → SourceCause sb sn status → SinkCause kb kn status → StoreCause fb fn status
+    → (input : List ℕ) (said : RunWords) → left ≡ Some input → words_mean words ≡ Some said → AreSpelled (documents input) → length input ≤ limit
+    → IsSteady sb sn → IsSteady kb kn → IsSteady fb fn → EndsWell status
+complete status words limit left left' sb sn kb kn fb fn f g w v by_words run by_length by_source by_sink by_store input said told is spelled within source sink store =
+    let spelled_run : AreSpelled (documents run.input) = subst (λ x. AreSpelled (documents x)) (sym (run.told input told)) spelled in
+    let To : Option RunWords → Type 0 = λ o. RunsBy status o (documents run.input) f g w v in
+    ends_well status said (documents run.input) f g w v spelled_run (subst To is run.runs)
+    (λ e. let none : words_mean words ≡ None = subst (RunCause words) e by_words in let clash = sym none ∙ is in cc clash)
+    (λ n p e. not_rose fb fn store (subst (StoreCause fb fn) e by_store))
+    (λ e. not_rose sb sn source (subst (SourceCause sb sn) e by_source))
+    (λ e. not_rose kb kn sink (subst (SinkCause kb kn) e by_sink))
+    (λ e. let long : TakesExactly (limit + 1) left left' = subst (LengthCause limit left left') e by_length in absurd (omega (arith, exactly_long (limit + 1) left left' input long told, within)))

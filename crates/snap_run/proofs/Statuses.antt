@@ -1,0 +1,27 @@
+-- Statuses before any document is run, and runs in place.
+use Rattle.std.proofs.Common.{◌≡◌, ◌||◌, ◌&&◌, ℕ, Bool, true, false, not, List, [], ◌∷◌, Option, None, Some, refl, ap, ◌∙◌}
+use Rattle.snap_outside.specs.Files.{Files}
+use Rattle.snap_run.specs.Answers.{Answer, RunWords, some_fails}
+use Rattle.snap_assert.specs.Steps.{verdict_of, is_failure}
+use Rattle.snap_run.specs.Status.{RunsBy, RunsFrom}
+use Rattle.snap_settings.specs.declared.config.Update.{Update}
+use Rattle.snap_settings.specs.declared.config.Update.TheVariants.{InPlace}
+use Rattle.snap_run.specs.declared.status.Status.{Status}
+
+-- some bytes are those that are left, where these are told
+input_of : (left : Option (List ℕ)) → (input : List ℕ) × ((xs : List ℕ) → left ≡ Some xs → input ≡ xs)
+input_of None = ([], λ xs e. cc)
+input_of (Some y) = (y, λ xs e. cc)
+
+pub before_all : (status : Status) (words : Option RunWords) (left : Option (List ℕ)) (f g : Option Files) (w v : Option (List ℕ)) → ((docs : List (List ℕ)) → RunsBy status words docs f g w v) → RunsFrom status words left f g w v
+before_all status words left f g w v h = let i = input_of left in record { input = i.0; told = i.1; runs = h _ }
+
+-- in place no answer fails
+pub no_failure : (mode : Update) (passed : Bool) → mode ≡ InPlace → is_failure (verdict_of mode passed) ≡ false
+no_failure mode true h = refl
+no_failure mode false h = ap (λ m. is_failure (verdict_of m false)) h
+
+pub none_fails : (words : RunWords) (answers : List Answer) → words.update ≡ InPlace → some_fails words answers ≡ false
+none_fails words [] h = refl
+none_fails words (a ∷ more) h =
+    ap (λ b. (b && not words.force_pass) || some_fails words more) (no_failure words.update a.passed h) ∙ none_fails words more h

@@ -1,0 +1,1 @@
+use Rattle.snap_run.proofs.arguments.texts_of.Goals as goal

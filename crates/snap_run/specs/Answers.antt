@@ -1,0 +1,143 @@
+-- The answers of a run: its requests in turn, what they leave and the lines that tell of them.
+use Rattle.std.specs.Prelude.{◌&&◌, ◌||◌, ℕ, Bool, true, false, not, List, [], ◌∷◌, ◌++◌, codes, encode_utf8_all, Option, None, Some, if◌then◌else◌}
+use Rattle.std.specs.Str.{bytes_eq}
+use Rattle.std.specs.FinMap.{get}
+use Rattle.snap_content.specs.Spell.{spell_text}
+use Rattle.snap_outside.specs.Files.{Files}
+use Rattle.snap_settings.specs.Settings.{SettingsView, new_settings}
+use Rattle.snap_place.specs.Place.{PlaceView}
+use Rattle.snap_assert.specs.Judging.{May}
+use Rattle.snap_assert.specs.Session.{empty_session}
+use Rattle.snap_assert.specs.Steps.{Asked, asked_of, verdict_of, is_failure}
+use Rattle.snap_assert.specs.Assertions.{Assertion, assertion_of, assertion_step}
+use Rattle.snap_request.specs.Requests.{RequestView}
+use Rattle.snap_run.specs.declared.usage.TheConstants.{USAGE, VERSION}
+use Rattle.snap_settings.specs.declared.config.Flags.{Flags}
+use Rattle.snap_settings.specs.declared.config.Update.{Update}
+use Rattle.snap_settings.specs.declared.config.Update.TheVariants.{InPlace, NewFile, NoUpdate}
+use Rattle.snap_assert.specs.declared.outcome.Verdict.{Verdict}
+use Rattle.snap_assert.specs.declared.outcome.Verdict.TheVariants.{Passed, Updated, Pending, Rejected}
+
+-- what the words of a run say
+pub record RunWords : Type 0 where
+  pub workspace : List ℕ
+  pub update : Update
+  pub force_update : Bool
+  pub force_pass : Bool
+
+-- the modes
+abbrev pub mode_of : List ℕ → Option Update
+mode_of word =
+    if bytes_eq word (codes "inplace") then Some InPlace
+    else if bytes_eq word (codes "new") then Some NewFile
+    else if bytes_eq word (codes "no") then Some NoUpdate
+    else None
+
+abbrev pub flags_of : Bool → Bool → Flags
+flags_of force_update force_pass = record { force_update = force_update; force_pass = force_pass }
+
+abbrev pub is_force : List ℕ → Bool
+is_force word = bytes_eq word (codes "--force")
+
+abbrev pub is_force_pass : List ℕ → Bool
+is_force_pass word = bytes_eq word (codes "--force-pass")
+
+abbrev pub one_flag : List ℕ → Option Flags
+one_flag word = if is_force word then Some (flags_of true false) else if is_force_pass word then Some (flags_of false true) else None
+
+-- none, one, or both in either order
+abbrev pub flags_mean : List (List ℕ) → Option Flags
+flags_mean [] = Some (flags_of false false)
+flags_mean (word ∷ []) = one_flag word
+flags_mean (first ∷ second ∷ []) =
+    if (is_force first && is_force_pass second) || (is_force second && is_force_pass first) then Some (flags_of true true) else None
+flags_mean (first ∷ second ∷ third ∷ more) = None
+
+abbrev pub words_at : List ℕ → Update → Flags → RunWords
+words_at workspace update flags = record { workspace = workspace; update = update; force_update = flags.force_update; force_pass = flags.force_pass }
+
+abbrev pub said_of : List ℕ → Option Update → Option Flags → Option RunWords
+said_of workspace (Some mode) (Some flags) = Some (words_at workspace mode flags)
+said_of workspace (Some mode) None = None
+said_of workspace None flags = None
+
+-- the words that are built: `run`, a mode, a workspace and flags
+abbrev pub words_mean : List (List ℕ) → Option RunWords
+words_mean (command ∷ mode ∷ workspace ∷ flags) = if bytes_eq command (codes "run") then said_of workspace (mode_of mode) (flags_mean flags) else None
+words_mean _ = None
+
+-- the text that a word asks for, where it stands alone
+abbrev pub text_asked : List (List ℕ) → Option (List ℕ)
+text_asked (word ∷ []) = if bytes_eq word (codes "--help") then Some USAGE.now else if bytes_eq word (codes "--version") then Some VERSION.now else None
+text_asked _ = None
+
+-- a request is made in the workspace, with no function
+abbrev pub place_by : List ℕ → RequestView → PlaceView
+place_by workspace request = record {
+  workspace = workspace;
+  function = [];
+  module_name = request.module_name;
+  file = request.file;
+  line = request.line;
+  expr = request.expr;
+}
+
+-- and with new settings but for its redactions
+abbrev pub settings_by : RequestView → SettingsView
+settings_by request = record new_settings { redactions = request.redactions }
+
+abbrev pub asked_by : List ℕ → RequestView → Asked
+asked_by workspace request = asked_of (settings_by request) (place_by workspace request) request.name request.value
+
+abbrev pub assertion_by : List ℕ → RequestView → Assertion
+assertion_by workspace request = assertion_of (settings_by request) (place_by workspace request) request.name request.value
+
+-- a request, and whether it passed
+pub record Answer : Type 0 where
+  pub request : RequestView
+  pub passed : Bool
+
+abbrev pub requests_of : List Answer → List RequestView
+requests_of [] = []
+requests_of (a ∷ more) = a.request ∷ requests_of more
+
+-- the files after one answer; no request opens a block, so nothing is remembered from one to the next
+abbrev pub step_of : RunWords → Answer → Files → Files
+step_of words a files = (assertion_step words.update words.force_update (assertion_by words.workspace a.request) a.passed files empty_session).files
+
+-- whether a request may pass is decided by the file that stands at its path at that moment
+abbrev pub IsAllowed : RunWords → Answer → Files → Type 0
+IsAllowed words a files = May a.passed (get files (asked_by words.workspace a.request).path) (asked_by words.workspace a.request).tree
+
+abbrev pub AreAllowed : RunWords → List Answer → Files → Type 0
+AreAllowed words [] files = Unit {0}
+AreAllowed words (a ∷ more) files = IsAllowed words a files × AreAllowed words more (step_of words a files)
+
+abbrev pub files_after : RunWords → List Answer → Files → Files
+files_after words [] files = files
+files_after words (a ∷ more) files = files_after words more (step_of words a files)
+
+abbrev pub word_of : Verdict → List ℕ
+word_of Passed = codes "passed "
+word_of Updated = codes "updated "
+word_of Pending = codes "pending "
+word_of Rejected = codes "rejected "
+
+-- the line that tells of an answer: the verdict, and the path as a scalar is spelled
+abbrev pub line_text : Verdict → List ℕ → List ℕ
+line_text verdict path = word_of verdict ++ (spell_text path ++ 10 ∷ [])
+
+abbrev pub line_of : RunWords → Answer → List ℕ
+line_of words a = encode_utf8_all (line_text (verdict_of words.update a.passed) (asked_by words.workspace a.request).path)
+
+abbrev pub lines_of : RunWords → List Answer → List ℕ
+lines_of words [] = []
+lines_of words (a ∷ more) = line_of words a ++ lines_of words more
+
+-- whether one of the answers fails
+abbrev pub answer_fails : RunWords → Answer → Bool
+answer_fails words a = is_failure (verdict_of words.update a.passed) && not words.force_pass
+
+abbrev pub some_fails : RunWords → List Answer → Bool
+some_fails words [] = false
+some_fails words (a ∷ more) = answer_fails words a || some_fails words more

@@ -1,0 +1,9 @@
+pub mod Answers
+pub mod Runner
+pub mod Runs
+pub mod RunKept
+pub mod StatusOf
+pub mod Status
+pub mod Describe
+pub mod Arguments
+pub mod Program

@@ -1,0 +1,40 @@
+-- What the system sees of a run.
+use Rattle.std.specs.Prelude.{◌≡◌, ◌⊎◌, ℕ, List, [], ◌∷◌, ◌++◌, Option, None, Some, encode_utf8_all}
+use Rattle.snap_outside.specs.Files.{Files}
+use Rattle.snap_outside.specs.Streams.{HoldsFront}
+use Rattle.snap_run.specs.Answers.{words_mean, text_asked}
+use Rattle.snap_run.specs.Describe.{code_of, description}
+use Rattle.snap_run.specs.Status.{WordsCause, IsTold, RunsFrom, IsSteady}
+use Rattle.snap_run.specs.declared.status.Status.{Status}
+use Rattle.snap_run.specs.declared.status.Status.TheVariants.{AllPassed, SomeFailed, OutOfMemory}
+
+-- what a status says to standard error: nothing where all was answered, and else a line
+abbrev pub message : Status → List ℕ
+message AllPassed = []
+message SomeFailed = []
+message status = encode_utf8_all (description status ++ 10 ∷ [])
+
+-- the message was written, or nothing where there was no memory for it, or a part of its front where the sink failed
+pub record IsSaid (status : Status) (before now : ℕ) (written written' : Option (List ℕ)) : Type 0 where
+  pub front : (w : List ℕ) → written ≡ Some w → HoldsFront (message status) w written'
+  pub whole : (w : List ℕ) → written ≡ Some w → IsSteady before now → (written' ≡ Some (w ++ message status)) ⊎ (written' ≡ Some w)
+
+-- the run of these words ended with this status
+pub record IsRunOf (words : List (List ℕ)) (status : Status) (left : Option (List ℕ)) (files files' : Option Files) (written written' : Option (List ℕ)) : Type 0 where
+  pub words_cause : WordsCause words status
+  pub told : (text : List ℕ) → text_asked words ≡ Some text → IsTold text status written written'
+  pub runs : text_asked words ≡ None → RunsFrom status (words_mean words) left files files' written written'
+
+-- there was no memory for the words, and nothing was begun
+pub record IsNotBegun (status : Status) (files files' : Option Files) (written written' : Option (List ℕ)) : Type 0 where
+  pub memory : status ≡ OutOfMemory
+  pub files_same : files' ≡ files
+  pub written_same : written' ≡ written
+
+-- how the program ended: with the exit status of one status, which is that of the run of its words
+pub record Ends (code : ℕ) (words : List (List ℕ)) (left : Option (List ℕ)) (files files' : Option Files) (written written' : Option (List ℕ))
+    (before now : ℕ) (errors errors' : Option (List ℕ)) : Type 0 where
+  pub status : Status
+  pub code_is : code ≡ code_of status
+  pub run : IsRunOf words status left files files' written written' ⊎ IsNotBegun status files files' written written'
+  pub said : IsSaid status before now errors errors'

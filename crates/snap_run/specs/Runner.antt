@@ -1,0 +1,17 @@
+-- What the documents of a run share.
+use Rattle.std.specs.Prelude.{◌≡◌, false}
+use Rattle.snap_run.specs.Answers.{RunWords}
+use Rattle.snap_run.specs.declared.runner.Runner.{Runner}
+
+abbrev pub words_of : Runner → RunWords
+words_of runner = record {
+  workspace = runner.workspace;
+  update = runner.config.update;
+  force_update = runner.config.force_update;
+  force_pass = runner.config.force_pass;
+}
+
+-- no flag that is not built
+pub record IsReady (runner : Runner) : Type 0 where
+  pub loose : runner.config.require_full_match ≡ false
+  pub no_blocks : runner.config.literal ≡ false

@@ -1,0 +1,110 @@
+-- What a run over many documents leaves, and where it stops.
+use Rattle.std.specs.Prelude.{◌≡◌, ◌⊎◌, ℕ, ◌+◌, List, ◌∷◌, ◌++◌, [], Bool, length, Option, Some, Result, Ok, Err}
+use Rattle.snap_outside.specs.Causes.{Rose}
+use Rattle.snap_outside.specs.Files.{Files}
+use Rattle.snap_outside.specs.Streams.{HoldsFront}
+use Rattle.snap_request.specs.Requests.{RequestView, Spells, ReadsAs, Reads}
+use Rattle.snap_run.specs.Answers.{Answer, RunWords, asked_by, IsAllowed, step_of, line_of, requests_of, AreAllowed, files_after, lines_of, answer_fails}
+use Rattle.snap_assert.specs.Steps.{verdict_of}
+use Rattle.snap_assert.specs.Kept.{KeptBy, IsOwn}
+use Rattle.snap_assert.specs.declared.outcome.Outcome.{Outcome}
+use Rattle.snap_run.specs.declared.documents.DocumentError.{DocumentError}
+use Rattle.snap_run.specs.declared.documents.DocumentError.TheVariants.{NoRequest, FileIo, WriteFault, OutOfMemory}
+use Rattle.snap_run.specs.declared.documents.Stop.{Stop}
+
+-- these documents were run with these answers: each was read as its answer's request, and where the store and the
+-- sink tell, each pass is allowed, the files are those after all steps, and the lines are written
+pub record Ran (words : RunWords) (documents : List (List ℕ)) (answers : List Answer) (files files' : Option Files) (written written' : Option (List ℕ)) : Type 0 where
+  pub reads : Reads documents (requests_of answers)
+  pub allowed : (m : Files) → files ≡ Some m → AreAllowed words answers m
+  pub stands : (m : Files) → files ≡ Some m → files' ≡ Some (files_after words answers m)
+  pub lines : (w : List ℕ) → written ≡ Some w → written' ≡ Some (w ++ lines_of words answers)
+
+-- the same of one document, and whether its answer fails
+pub record RanOne (words : RunWords) (document : List ℕ) (fails : Bool) (files files' : Option Files) (written written' : Option (List ℕ)) : Type 0 where
+  pub answer : Answer
+  pub ran : Ran words (document ∷ []) (answer ∷ []) files files' written written'
+  pub failing : answer_fails words answer ≡ fails
+
+-- the document's request was in work: what no assertion at its path may change is as before
+pub record IsInWork (words : RunWords) (document : List ℕ) (files files' : Option Files) : Type 0 where
+  pub request : RequestView
+  pub reads : ReadsAs document request
+  pub kept : KeptBy words.update (asked_by words.workspace request).path files files'
+
+-- the store failed in that work at one of the request's own paths
+pub record FileFails (words : RunWords) (document named : List ℕ) (files files' : Option Files) : Type 0 where
+  pub work : IsInWork words document files files'
+  pub own : IsOwn words.update (asked_by words.workspace work.request).path named
+
+-- the document was run, and a part of its line is written
+pub record LineFails (words : RunWords) (document : List ℕ) (files files' : Option Files) (written written' : Option (List ℕ)) : Type 0 where
+  pub answer : Answer
+  pub reads : ReadsAs document answer.request
+  pub allowed : (m : Files) → files ≡ Some m → IsAllowed words answer m
+  pub stands : (m : Files) → files ≡ Some m → files' ≡ Some (step_of words answer m)
+  pub line : (w : List ℕ) → written ≡ Some w → HoldsFront (line_of words answer) w written'
+
+-- memory was wanting: before anything was changed, or in the work on the document's request
+abbrev pub MemoryFails : RunWords → List ℕ → Option Files → Option Files → Type 0
+MemoryFails words document files files' = (files' ≡ files) ⊎ IsInWork words document files files'
+
+-- the document was read as a request, and that was answered
+pub record IsDocumentAnswered (words : RunWords) (document : List ℕ) (outcome : Outcome) (files files' : Option Files) : Type 0 where
+  pub answer : Answer
+  pub reads : ReadsAs document answer.request
+  pub verdict : outcome.verdict ≡ verdict_of words.update answer.passed
+  pub fails : outcome.fails ≡ answer_fails words answer
+  pub path : outcome.path ≡ (asked_by words.workspace answer.request).path
+  pub allowed : (m : Files) → files ≡ Some m → IsAllowed words answer m
+  pub stands : (m : Files) → files ≡ Some m → files' ≡ Some (step_of words answer m)
+
+-- what stands where a document comes to no answer
+abbrev pub AssertionStops : RunWords → DocumentError → List ℕ → Option Files → Option Files → Type 0
+AssertionStops words NoRequest document files files' = (files' ≡ files) × ((r : RequestView) → Spells document r → ⊥)
+AssertionStops words (FileIo named) document files files' = FileFails words document named files files'
+AssertionStops words WriteFault document files files' = ⊥
+AssertionStops words OutOfMemory document files files' = MemoryFails words document files files'
+
+-- what stands where a document stops the run
+abbrev pub StopsAt : RunWords → DocumentError → List ℕ → Option Files → Option Files → Option (List ℕ) → Option (List ℕ) → Type 0
+StopsAt words NoRequest document files files' written written' = (files' ≡ files) × (written' ≡ written) × ((r : RequestView) → Spells document r → ⊥)
+StopsAt words (FileIo named) document files files' written written' = (written' ≡ written) × FileFails words document named files files'
+StopsAt words WriteFault document files files' written written' = LineFails words document files files' written written'
+StopsAt words OutOfMemory document files files' written written' = (written' ≡ written) × MemoryFails words document files files'
+
+-- the documents before it were run, and this one stops the run
+pub record Stops (words : RunWords) (documents : List (List ℕ)) (stop : Stop) (files files' : Option Files) (written written' : Option (List ℕ)) : Type 0 where
+  pub done : List (List ℕ)
+  pub document : List ℕ
+  pub later : List (List ℕ)
+  pub cut : documents ≡ done ++ document ∷ later
+  pub number : stop.document ≡ length done + 1
+  pub answers : List Answer
+  pub between : Option Files
+  pub sent : Option (List ℕ)
+  pub ran : Ran words done answers files between written sent
+  pub stops : StopsAt words stop.error document between files' sent written'
+
+-- the store's count rises only at a file fault, and the sink's only at a write fault
+abbrev pub StoreCount : {T : Type 0} → ℕ → ℕ → Result T DocumentError → Type 0
+StoreCount before now (Ok v) = now ≡ before
+StoreCount before now (Err NoRequest) = now ≡ before
+StoreCount before now (Err (FileIo path)) = Rose before now
+StoreCount before now (Err WriteFault) = now ≡ before
+StoreCount before now (Err OutOfMemory) = now ≡ before
+
+abbrev pub SinkCount : {T : Type 0} → ℕ → ℕ → Result T DocumentError → Type 0
+SinkCount before now (Ok v) = now ≡ before
+SinkCount before now (Err NoRequest) = now ≡ before
+SinkCount before now (Err (FileIo path)) = now ≡ before
+SinkCount before now (Err WriteFault) = Rose before now
+SinkCount before now (Err OutOfMemory) = now ≡ before
+
+abbrev pub StopStoreCount : {T : Type 0} → ℕ → ℕ → Result T Stop → Type 0
+StopStoreCount before now (Ok v) = now ≡ before
+StopStoreCount {T = T} before now (Err stop) = StoreCount {T = T} before now (Err stop.error)
+
+abbrev pub StopSinkCount : {T : Type 0} → ℕ → ℕ → Result T Stop → Type 0
+StopSinkCount before now (Ok v) = now ≡ before
+StopSinkCount {T = T} before now (Err stop) = SinkCount {T = T} before now (Err stop.error)

@@ -1,0 +1,115 @@
+-- What a status says of a whole run.
+use Rattle.std.specs.Prelude.{◌≡◌, ◌⊎◌, ◌≤◌, ◌<◌, ◌-◌, ◌+◌, ◌∷◌, ◌++◌, ◌^◌, ℕ, Bool, true, false, List, [], length, Option, None, Some}
+use Rattle.snap_outside.specs.Causes.{Rose}
+use Rattle.snap_outside.specs.Files.{Files}
+use Rattle.snap_outside.specs.Streams.{HoldsFront}
+use Rattle.snap_request.specs.Cut.{documents}
+use Rattle.snap_request.specs.Requests.{RequestView, Spells}
+use Rattle.snap_run.specs.Answers.{Answer, RunWords, words_mean, text_asked, some_fails}
+use Rattle.snap_run.specs.Runs.{Ran, Stops}
+use Rattle.snap_run.specs.StatusOf.{status_of}
+use Rattle.snap_stream.specs.Streams.{TakesAtMost, TakesExactly}
+use Rattle.snap_run.specs.declared.documents.Stop.{Stop}
+use Rattle.snap_run.specs.declared.status.Status.{Status}
+use Rattle.snap_run.specs.declared.status.Status.TheVariants.{AllPassed, SomeFailed, BadWords, BadRequest, Refused, FileIo, ReadFault, WriteFault, OutOfMemory, InputTooLong}
+
+-- `BadWords` exactly where the words say no run
+abbrev pub RunCause : List (List ℕ) → Status → Type 0
+RunCause words BadWords = words_mean words ≡ None
+RunCause words _ = (said : RunWords) × (words_mean words ≡ Some said)
+
+-- `BadWords` exactly where the words say no run and ask for no text
+abbrev pub WordsCause : List (List ℕ) → Status → Type 0
+WordsCause words BadWords = (words_mean words ≡ None) × (text_asked words ≡ None)
+WordsCause words _ = ((said : RunWords) × (words_mean words ≡ Some said)) ⊎ ((text : List ℕ) × (text_asked words ≡ Some text))
+
+-- a text that was asked for was written, or a part of its front where the sink failed
+abbrev pub IsTold : List ℕ → Status → Option (List ℕ) → Option (List ℕ) → Type 0
+IsTold text AllPassed written written' = (w : List ℕ) → written ≡ Some w → written' ≡ Some (w ++ text)
+IsTold text WriteFault written written' = (w : List ℕ) → written ≡ Some w → HoldsFront text w written'
+IsTold text _ written written' = ⊥
+
+abbrev pub IsUnchanged : Option Files → Option Files → Option (List ℕ) → Option (List ℕ) → Type 0
+IsUnchanged files files' written written' = (files' ≡ files) × (written' ≡ written)
+
+-- the run came to its end, and some answer fails or none does
+pub record Ended (fails : Bool) (words : RunWords) (docs : List (List ℕ)) (files files' : Option Files) (written written' : Option (List ℕ)) : Type 0 where
+  pub answers : List Answer
+  pub ran : Ran words docs answers files files' written written'
+  pub failing : some_fails words answers ≡ fails
+
+-- the run stopped at a document, with this status
+pub record Stopped (status : Status) (words : RunWords) (docs : List (List ℕ)) (files files' : Option Files) (written written' : Option (List ℕ)) : Type 0 where
+  pub stop : Stop
+  pub status_is : status ≡ status_of stop
+  pub stops : Stops words docs stop files files' written written'
+
+-- what each status says of the documents, the files and the lines
+abbrev pub RunsTo : Status → RunWords → List (List ℕ) → Option Files → Option Files → Option (List ℕ) → Option (List ℕ) → Type 0
+RunsTo AllPassed words docs files files' written written' = Ended false words docs files files' written written'
+RunsTo SomeFailed words docs files files' written written' = Ended true words docs files files' written written'
+RunsTo BadWords words docs files files' written written' = IsUnchanged files files' written written'
+RunsTo (BadRequest n) words docs files files' written written' = Stopped (BadRequest n) words docs files files' written written'
+RunsTo (Refused n kind) words docs files files' written written' = ⊥
+RunsTo (FileIo n path) words docs files files' written written' = Stopped (FileIo n path) words docs files files' written written'
+RunsTo ReadFault words docs files files' written written' = IsUnchanged files files' written written'
+RunsTo WriteFault words docs files files' written written' = Stopped WriteFault words docs files files' written written'
+RunsTo OutOfMemory words docs files files' written written' = IsUnchanged files files' written written' ⊎ Stopped OutOfMemory words docs files files' written written'
+RunsTo InputTooLong words docs files files' written written' = IsUnchanged files files' written written'
+
+-- without words of a run nothing is changed
+abbrev pub RunsBy : Status → Option RunWords → List (List ℕ) → Option Files → Option Files → Option (List ℕ) → Option (List ℕ) → Type 0
+RunsBy status None docs files files' written written' = IsUnchanged files files' written written'
+RunsBy status (Some words) docs files files' written written' = RunsTo status words docs files files' written written'
+
+-- the run is over the bytes that the source had left, where it tells them, and else over some bytes
+pub record RunsFrom (status : Status) (words : Option RunWords) (left : Option (List ℕ)) (files files' : Option Files) (written written' : Option (List ℕ)) : Type 0 where
+  pub input : List ℕ
+  pub told : (xs : List ℕ) → left ≡ Some xs → input ≡ xs
+  pub runs : RunsBy status words (documents input) files files' written written'
+
+-- the source was read to its end, within the limit
+pub record IsReadToEnd (limit : ℕ) (left left' : Option (List ℕ)) : Type 0 where
+  pub within : (xs : List ℕ) → left ≡ Some xs → length xs ≤ limit
+  pub nothing_left : (xs : List ℕ) → left ≡ Some xs → left' ≡ Some []
+
+-- by what the source gave: `InputTooLong` where that was the limit and one byte more, and a fault of a read within the
+-- limit; where a document was reached the source was read to its end within the limit
+abbrev pub LengthCause : ℕ → Option (List ℕ) → Option (List ℕ) → Status → Type 0
+LengthCause limit left left' AllPassed = IsReadToEnd limit left left'
+LengthCause limit left left' SomeFailed = IsReadToEnd limit left left'
+LengthCause limit left left' BadWords = left' ≡ left
+LengthCause limit left left' (BadRequest n) = IsReadToEnd limit left left'
+LengthCause limit left left' (Refused n kind) = IsReadToEnd limit left left'
+LengthCause limit left left' (FileIo n path) = IsReadToEnd limit left left'
+LengthCause limit left left' ReadFault = TakesAtMost limit left left'
+LengthCause limit left left' WriteFault = IsReadToEnd limit left left'
+LengthCause limit left left' OutOfMemory = Unit {0}
+LengthCause limit left left' InputTooLong = TakesExactly (limit + 1) left left'
+
+-- each object's count rises only where the status says its fault, and no other answer passes a fault over
+abbrev pub SourceCause : ℕ → ℕ → Status → Type 0
+SourceCause before now ReadFault = Rose before now
+SourceCause before now _ = now ≡ before
+
+abbrev pub SinkCause : ℕ → ℕ → Status → Type 0
+SinkCause before now WriteFault = Rose before now
+SinkCause before now _ = now ≡ before
+
+abbrev pub StoreCause : ℕ → ℕ → Status → Type 0
+StoreCause before now (FileIo n path) = Rose before now
+StoreCause before now _ = now ≡ before
+
+-- every document spells a request
+abbrev pub AreSpelled : List (List ℕ) → Type 0
+AreSpelled [] = Unit {0}
+AreSpelled (d ∷ ds) = ((r : RequestView) × Spells d r) × AreSpelled ds
+
+-- no fault: the count stands still, and not at its last value
+pub record IsSteady (before now : ℕ) : Type 0 where
+  pub same : now ≡ before
+  pub below_last : before < 2 ^ 64 - 1
+
+-- the run came to its end, unless memory was wanting
+abbrev pub EndsWell : Status → Type 0
+EndsWell status = (status ≡ AllPassed) ⊎ ((status ≡ SomeFailed) ⊎ (status ≡ OutOfMemory))

@@ -1,0 +1,73 @@
+//! One run as the system sees it: words in, lines and a message out, an exit status.
+ghost use Rattle.std.specs.Prelude.{◌≡◌, ◌⊎◌, ◌++◌, ◌∷◌, [], IfOk};
+ghost use Rattle.snap_run.specs.Describe.{code_of, description};
+ghost use Rattle.snap_run.specs.Arguments.{arguments_of, words_given};
+ghost use Rattle.snap_run.specs.Program.{IsSaid, IsRunOf, IsNotBegun, Ends};
+
+use crate::arguments::words_in;
+use crate::running::run;
+use crate::status::Status;
+use snap_content::{OutOfMemory, Text};
+use snap_outside::{Sink, Source, Store};
+use snap_stream::write_all;
+use std::alloc::Global;
+use std::env::Args;
+use std::io;
+
+/// What a status says, as a line.
+fn message(alloc: Global, status: &Status) -> Result<Text, OutOfMemory>
+    ensures { IfOk result (λ text. text ≡ description status.now ++ 10 ∷ []) }
+{
+    let mut text = status.describe(alloc)?;
+    text.push(alloc, '\n')?;
+    Ok(text)
+}
+
+/// Tells the sink of errors what a status from 2 on says, and answers the exit status.
+/// Where there is no memory for the message nothing is told, and a fault of the sink has nowhere to be told.
+pub fn conclude<E: Sink>(alloc: Global, status: &Status, errors: &mut E) -> u8
+    ensures code { result ≡ code_of status.now }
+    ensures said { IsSaid status.now (E.faults errors.old) (E.faults errors.new) (E.written errors.old) (E.written errors.new) }
+{
+    let code = status.code();
+    if code >= 2 {
+        if let Ok(text) = message(alloc, status) {
+            let _ = write_all(errors, text.as_str().as_bytes());
+        }
+    }
+    code
+}
+
+/// The status of the run that the arguments ask for.
+fn run_arguments<S: Source, K: Sink, F: Store>(
+    alloc: Global,
+    arguments: io::Result<Args<Global>>,
+    source: &mut S,
+    sink: &mut K,
+    store: &mut F,
+) -> Status
+    ensures { IsRunOf (words_given (arguments_of arguments)) result (S.left source.old) (F.files store.old) (F.files store.new) (K.written sink.old) (K.written sink.new)
+        ⊎ IsNotBegun result (F.files store.old) (F.files store.new) (K.written sink.old) (K.written sink.new) }
+{
+    match words_in(alloc, arguments) {
+        Ok(words) => run(alloc, &words, source, sink, store),
+        Err(_) => Status::OutOfMemory,
+    }
+}
+
+/// All that the program does: the run that the arguments ask for, with a message where it did not come to its end.
+/// The answer is the exit status. The first argument is the program's name.
+pub fn program<S: Source, K: Sink, E: Sink, F: Store>(
+    alloc: Global,
+    arguments: io::Result<Args<Global>>,
+    source: &mut S,
+    sink: &mut K,
+    errors: &mut E,
+    store: &mut F,
+) -> u8
+    ensures { Ends result (words_given (arguments_of arguments)) (S.left source.old) (F.files store.old) (F.files store.new)
+        (K.written sink.old) (K.written sink.new) (E.faults errors.old) (E.faults errors.new) (E.written errors.old) (E.written errors.new) }
+{
+    let status = run_arguments(alloc, arguments, source, sink, store);
+    conclude(alloc, &status, errors)
+}

@@ -1,0 +1,207 @@
+//! One document, and many in turn.
+ghost use Rattle.std.specs.Prelude.{◌≡◌, ◌<◌, ◌≤◌, ◌^◌, List, ℕ, IfOk, IfErr, length, true};
+ghost use Rattle.snap_request.specs.Cut.{documents};
+ghost use Rattle.snap_place.specs.Place.{names_file, place_of};
+ghost use Rattle.snap_request.specs.RequestOf.{request_of};
+ghost use Rattle.snap_run.specs.Runner.{IsReady, words_of};
+ghost use Rattle.snap_run.specs.Answers.{line_text, place_by};
+ghost use Rattle.snap_run.specs.Status.{Ended};
+ghost use Rattle.snap_run.specs.Runs.{RanOne, StopsAt, Stops, IsDocumentAnswered, AssertionStops, StoreCount, SinkCount, StopStoreCount, StopSinkCount};
+
+use crate::runner::Runner;
+use snap_assert::engine::assert_content;
+use snap_assert::error::AssertError;
+use snap_assert::outcome::{Outcome, Verdict};
+use snap_assert::session::Session;
+use snap_content::{OutOfMemory, Text};
+use snap_emit::spelled_text;
+use snap_outside::{Sink, Store};
+use snap_place::place::Place;
+use snap_request::cut::first_document_end;
+use snap_request::request::{Request, RequestError, read_request};
+use snap_settings::settings::Settings;
+use snap_stream::streams::write_all;
+use std::alloc::Global;
+
+/// Why a document stops a run.
+#[derive(Debug, Drop)]
+pub enum DocumentError {
+    NoRequest,
+    FileIo(Text),
+    WriteFault,
+    OutOfMemory,
+}
+
+/// The document that stops a run, counted from 1.
+#[derive(Debug, Drop)]
+pub struct Stop {
+    pub document: u64,
+    pub error: DocumentError,
+}
+
+/// The line that tells of an answer.
+fn line(alloc: Global, verdict: Verdict, path: &Text) -> Result<Text, OutOfMemory>
+    ensures { IfOk result (λ line. line ≡ line_text verdict path.now) }
+{
+    let mut line = match verdict {
+        Verdict::Passed => Text::from_ascii(alloc, "passed ")?,
+        Verdict::Updated => Text::from_ascii(alloc, "updated ")?,
+        Verdict::Pending => Text::from_ascii(alloc, "pending ")?,
+        Verdict::Rejected => Text::from_ascii(alloc, "rejected ")?,
+    };
+    line.push_text(alloc, &spelled_text(alloc, path)?)?;
+    line.push(alloc, '\n')?;
+    Ok(line)
+}
+
+/// Where the request of a document stands.
+fn place_of_request(
+    alloc: Global,
+    runner: &Runner,
+    request: &Request,
+) -> Result<Place, DocumentError>
+    requires { names_file request.now.file ≡ true }
+    ensures place { IfOk result (λ place. place_of place ≡ place_by runner.now.workspace (request_of request.now)) }
+    ensures memory { IfErr result (λ error. error ≡ DocumentError.OutOfMemory) }
+{
+    let Ok(workspace) = runner.workspace.try_clone(alloc) else {
+        return Err(DocumentError::OutOfMemory);
+    };
+    let Ok(module_name) = request.module_name.try_clone(alloc) else {
+        return Err(DocumentError::OutOfMemory);
+    };
+    let Ok(file) = request.file.try_clone(alloc) else {
+        return Err(DocumentError::OutOfMemory);
+    };
+    let Ok(expr) = request.expr.try_clone(alloc) else {
+        return Err(DocumentError::OutOfMemory);
+    };
+    match Place::new(
+        workspace,
+        Text::empty(),
+        module_name,
+        file,
+        request.line,
+        expr,
+    ) {
+        Ok(place) => Ok(place),
+        Err(_) => unreachable!(),
+    }
+}
+
+/// Why a document stops a run where its assertion comes to no answer. While a name is given and no block is open,
+/// there are no refusals but these two.
+fn error_of(error: AssertError) -> DocumentError
+    ensures file { (path : List ℕ) → error ≡ AssertError.FileIo path → result ≡ DocumentError.FileIo path }
+    ensures memory { error ≡ AssertError.OutOfMemory → result ≡ DocumentError.OutOfMemory }
+{
+    match error {
+        AssertError::FileIo(path) => DocumentError::FileIo(path),
+        _ => DocumentError::OutOfMemory,
+    }
+}
+
+/// Reads one document and makes its assertion.
+fn assert_document<F: Store>(
+    alloc: Global,
+    runner: &Runner,
+    session: &mut Session,
+    document: &[u8],
+    store: &mut F,
+) -> Result<Outcome, DocumentError>
+    requires { IsReady runner.now }
+    ensures ok { IfOk result (λ outcome. IsDocumentAnswered (words_of runner.now) document.now outcome (F.files store.old) (F.files store.new)) }
+    ensures err { IfErr result (λ error. AssertionStops (words_of runner.now) error document.now (F.files store.old) (F.files store.new)) }
+    ensures store_count { StoreCount (F.faults store.old) (F.faults store.new) result }
+{
+    let request = match read_request(alloc, document) {
+        Ok(request) => request,
+        Err(RequestError::NoRequest) => return Err(DocumentError::NoRequest),
+        Err(RequestError::OutOfMemory) => return Err(DocumentError::OutOfMemory),
+    };
+    let place = match place_of_request(alloc, runner, &request) {
+        Ok(place) => place,
+        Err(_) => return Err(DocumentError::OutOfMemory),
+    };
+    let Ok(settings) = Settings::of_redactions(alloc, request.redactions) else {
+        return Err(DocumentError::OutOfMemory);
+    };
+    let value = request.value;
+    let name = request.name;
+    match assert_content(
+        alloc,
+        session,
+        store,
+        &runner.config,
+        &settings,
+        &place,
+        Some(&name),
+        value,
+    ) {
+        Ok(outcome) => Ok(outcome),
+        Err(error) => Err(error_of(error)),
+    }
+}
+
+/// Reads one document, makes its assertion and writes its line. Whether the answer fails.
+fn run_document<K: Sink, F: Store>(
+    alloc: Global,
+    runner: &Runner,
+    session: &mut Session,
+    document: &[u8],
+    sink: &mut K,
+    store: &mut F,
+) -> Result<bool, DocumentError>
+    requires { IsReady runner.now }
+    ensures ok { IfOk result (λ fails. RanOne (words_of runner.now) document.now fails
+        (F.files store.old) (F.files store.new) (K.written sink.old) (K.written sink.new)) }
+    ensures err { IfErr result (λ error. StopsAt (words_of runner.now) error document.now
+        (F.files store.old) (F.files store.new) (K.written sink.old) (K.written sink.new)) }
+    ensures store_count { StoreCount (F.faults store.old) (F.faults store.new) result }
+    ensures sink_count { SinkCount (K.faults sink.old) (K.faults sink.new) result }
+{
+    let outcome = match assert_document(alloc, runner, session, document, store) {
+        Ok(outcome) => outcome,
+        Err(error) => return Err(error),
+    };
+    let Ok(line) = line(alloc, outcome.verdict, &outcome.path) else {
+        return Err(DocumentError::OutOfMemory);
+    };
+    match write_all(sink, line.as_str().as_bytes()) {
+        Ok(()) => Ok(outcome.fails),
+        Err(_) => Err(DocumentError::WriteFault),
+    }
+}
+
+/// Runs the documents of an input in turn, up to the first that stops the run. Whether some answer fails.
+pub fn run_documents<K: Sink, F: Store>(
+    alloc: Global,
+    runner: &Runner,
+    session: &mut Session,
+    input: &[u8],
+    sink: &mut K,
+    store: &mut F,
+) -> Result<bool, Stop>
+    requires ready { IsReady runner.now }
+    requires short { length input.now < 2 ^ 63 }
+    ensures finished { IfOk result (λ fails. Ended fails (words_of runner.now) (documents input.now)
+        (F.files store.old) (F.files store.new) (K.written sink.old) (K.written sink.new)) }
+    ensures stopped { IfErr result (λ stop. Stops (words_of runner.now) (documents input.now) stop
+        (F.files store.old) (F.files store.new) (K.written sink.old) (K.written sink.new)) }
+    ensures store_count { StopStoreCount (F.faults store.old) (F.faults store.new) result }
+    ensures sink_count { StopSinkCount (K.faults sink.old) (K.faults sink.new) result }
+{
+    let mut rest = input;
+    let mut document = 0u64;
+    let mut fails = false;
+    while !rest.is_empty() {
+        let (first, later) = rest.split_at(first_document_end(rest));
+        document += 1;
+        match run_document(alloc, runner, session, first, sink, store) {
+            Ok(failed) => fails |= failed,
+            Err(error) => return Err(Stop { document, error }),
+        }
+        rest = later;
+    }
+    Ok(fails)
+}

@@ -1,0 +1,24 @@
+//! A run over a stream of requests, and what stands between it and the system's words, streams and exit status.
+//! Until the first refusal, what a run leaves and says is that of one stated step for each request in turn:
+//! the clauses of `run` say so.
+//!
+//! In the order in which data flows: `arguments` and `words` (the command line), `runner` and `documents` (each request in
+//! turn), `running` (the whole run), `status` and `usage` (what is said of it, and of the program), `command` (the run that the
+//! arguments ask for, what standard error is told, and the exit status), `laws`.
+#![tactic(auto)]
+
+mod arguments;
+pub mod command;
+mod documents;
+pub mod laws;
+mod runner;
+pub mod running;
+pub mod status;
+#[cfg(test)]
+mod tests;
+pub mod usage;
+mod words;
+
+pub use command::program;
+pub use running::run;
+pub use status::{RefusalKind, Status};

@@ -1,0 +1,40 @@
+//! What the documents of a run share.
+ghost use Rattle.std.specs.Prelude.{◌≡◌, IfOk};
+
+use snap_content::{OutOfMemory, Text};
+use snap_settings::config::{Config, Flags, Update};
+use std::alloc::Global;
+
+/// The workspace and the mode of a run.
+#[derive(Debug, Drop)]
+pub struct Runner {
+    pub workspace: Text,
+    pub config: Config,
+}
+
+impl Runner {
+    ghost use Rattle.snap_run.specs.Answers.{words_at};
+    ghost use Rattle.snap_run.specs.Runner.{IsReady, words_of};
+
+    /// A run below this workspace, with this mode and these flags.
+    pub fn new(
+        alloc: Global,
+        workspace: &Text,
+        update: Update,
+        flags: Flags,
+    ) -> Result<Runner, OutOfMemory>
+        ensures words { IfOk result (λ runner. words_of runner ≡ words_at workspace.now update flags) }
+        ensures ready { IfOk result (λ runner. IsReady runner) }
+    {
+        let config = Config {
+            update,
+            force_update: flags.force_update,
+            require_full_match: false,
+            force_pass: flags.force_pass,
+            literal: false,
+            run_id: Text::empty(),
+        };
+        let workspace = workspace.try_clone(alloc)?;
+        Ok(Runner { workspace, config })
+    }
+}

@@ -1,0 +1,2 @@
+pub mod Redactions
+pub mod Settings

@@ -1,0 +1,88 @@
+//! Redactions, one after another.
+ghost use Rattle.std.specs.Prelude.{◌≡◌, [], ◌∷◌, ◌++◌, IfOk, IfErr, OnOk, OnErr};
+ghost use Rattle.std.specs.Str.{chars};
+ghost use Rattle.snap_content.specs.View.{tree};
+ghost use Rattle.snap_select.specs.Put.{put_of};
+ghost use Rattle.snap_select.specs.Refusal.{IsRefused};
+ghost use Rattle.snap_settings.specs.Redactions.{RedactionView, IsRedaction, AreRedactions, AreRefused, redaction_of, redacted_by};
+
+use snap_content::{Content, OutOfMemory, Text};
+use snap_select::{Redaction, SelectError, Selector};
+use std::alloc::Global;
+
+/// Redactions, each with the selector of what it replaces. They are applied in turn.
+#[derive(Debug, Drop)]
+pub struct Redactions {
+    items: Vec<(Selector<'static>, Redaction)>,
+}
+
+impl Redactions {
+    ghost use Rattle.snap_settings.specs.Redactions.{redactions_of};
+
+    /// No redactions.
+    pub fn new(alloc: Global) -> Redactions
+        ensures { redactions_of result ≡ [] }
+    {
+        Redactions {
+            items: Vec::new(alloc),
+        }
+    }
+
+    /// The redactions of these texts, in their order. The first text that is no selector is refused.
+    pub fn from_list(alloc: Global, list: Vec<(Text, Redaction)>) -> Result<Redactions, SelectError>
+        ensures ok { IfOk result (λ made. AreRedactions list.items (redactions_of made)) }
+        ensures refused { IfErr result (λ e. AreRefused list.items e) }
+    {
+        let mut made = Redactions::new(alloc);
+        for (selector, redaction) in list {
+            made.add(alloc, selector.as_str(), redaction)?;
+        }
+        Ok(made)
+    }
+
+    /// Adds a redaction at the end. After a refusal and after want of memory the redactions are as they were.
+    pub fn add(
+        &mut self,
+        alloc: Global,
+        selector: &str,
+        redaction: Redaction,
+    ) -> Result<(), SelectError>
+        ensures ok { OnOk result ((made : RedactionView) × IsRedaction (chars selector.now) (put_of redaction) made
+            × (redactions_of self.new ≡ redactions_of self.old ++ made ∷ [])) }
+        ensures refused { IfErr result (λ e. IsRefused (chars selector.now) e) }
+        ensures err { OnErr result (redactions_of self.new ≡ redactions_of self.old) }
+    {
+        let selector = Selector::parse(alloc, selector)?.make_static(alloc)?;
+        self.push(selector, redaction)?;
+        Ok(())
+    }
+
+    /// Adds a redaction at the end. After want of memory the redactions are as they were.
+    pub fn push(
+        &mut self,
+        selector: Selector<'static>,
+        redaction: Redaction,
+    ) -> Result<(), OutOfMemory>
+        ensures ok { OnOk result (redactions_of self.new ≡ redactions_of self.old ++ redaction_of (selector.entry, redaction) ∷ []) }
+        ensures err { OnErr result (redactions_of self.new ≡ redactions_of self.old) }
+    {
+        self.items.push((selector, redaction))?;
+        Ok(())
+    }
+
+    /// The tree with each redaction applied to it in turn. The one error is want of memory.
+    pub fn apply(&self, alloc: Global, content: Content) -> Result<Content, OutOfMemory>
+        ensures { IfOk result (λ made. tree made ≡ redacted_by (redactions_of self.now) (tree content)) }
+    {
+        let mut made = content;
+        for (selector, redaction) in self.items.as_slice() {
+            made = selector.redact(alloc, made, redaction)?;
+        }
+        Ok(made)
+    }
+
+    /// Where the redactions are kept.
+    pub fn allocator(&self) -> Global {
+        *self.items.allocator()
+    }
+}

@@ -1,0 +1,151 @@
+//! The settings of an assertion.
+ghost use Rattle.std.specs.Prelude.{◌≡◌, List, [], ◌∷◌, ◌++◌, IfOk, IfErr, OnOk, OnErr, is_some, option_map};
+ghost use Rattle.std.specs.Str.{chars};
+ghost use Rattle.snap_store.specs.Meta.{shown_text};
+
+use crate::redactions::Redactions;
+use snap_content::{OutOfMemory, Text};
+use snap_select::{Redaction, SelectError};
+use std::alloc::Global;
+
+/// The settings of an assertion. No call changes them yet but for the redactions.
+#[derive(Debug, Drop)]
+pub struct Settings {
+    snapshot_path: Text,
+    redactions: Redactions,
+}
+
+impl Settings {
+    ghost use Rattle.snap_select.specs.Put.{put_of};
+    ghost use Rattle.snap_select.specs.Refusal.{IsRefused};
+    ghost use Rattle.snap_settings.specs.Redactions.{RedactionView, IsRedaction, AreRedactions, AreRefused, redactions_of};
+    ghost use Rattle.snap_settings.specs.Settings.{settings_of, new_settings};
+
+    /// Trees as they are, snapshots in the folder `snapshots`, no suffix, the expression kept and the
+    /// module in front of the name.
+    pub fn new(alloc: Global) -> Result<Settings, OutOfMemory>
+        ensures { IfOk result (λ settings. settings_of settings ≡ new_settings) }
+    {
+        let snapshot_path = Text::from_ascii(alloc, "snapshots")?;
+        Ok(Settings {
+            snapshot_path,
+            redactions: Redactions::new(alloc),
+        })
+    }
+
+    /// Whether the entries of maps are sorted before they are printed.
+    pub fn sort_maps(&self) -> bool
+        ensures { result ≡ (settings_of self.now).sort_maps }
+    {
+        false
+    }
+
+    /// Whether the module stands before the name in the name of the snapshot's file.
+    pub fn prepend_module_to_snapshot(&self) -> bool
+        ensures { result ≡ (settings_of self.now).prepends_module }
+    {
+        true
+    }
+
+    /// Whether the expression stays out of the metadata.
+    pub fn omit_expression(&self) -> bool
+        ensures { result ≡ (settings_of self.now).omits_expression }
+    {
+        false
+    }
+
+    /// Whether metadata get a tree of the caller's.
+    pub fn has_info(&self) -> bool
+        ensures { result ≡ is_some (settings_of self.now).info }
+    {
+        false
+    }
+
+    /// What stands behind the name and an `@`; none where it is empty.
+    pub fn snapshot_suffix(&self) -> Option<&str>
+        ensures { option_map (λ suffix. chars suffix.now) result ≡ shown_text (settings_of self.now).suffix }
+    {
+        None
+    }
+
+    /// The file that the tree was made from.
+    pub fn input_file(&self) -> Option<&str>
+        ensures { option_map (λ path. chars path.now) result ≡ (settings_of self.now).input_file }
+    {
+        None
+    }
+
+    /// What a reviewer is told of the snapshot.
+    pub fn description(&self) -> Option<&str>
+        ensures { option_map (λ text. chars text.now) result ≡ (settings_of self.now).description }
+    {
+        None
+    }
+
+    /// The folder of snapshots, below the folder of the assertion's file.
+    pub fn snapshot_path(&self) -> &str
+        ensures { chars result.now ≡ (settings_of self.now).snapshot_path }
+    {
+        self.snapshot_path.as_str()
+    }
+
+    /// Adds a redaction at the end. After a refusal and after want of memory the settings are as they were.
+    pub fn add_redaction(
+        &mut self,
+        selector: &str,
+        replacement: Redaction,
+    ) -> Result<(), SelectError>
+        ensures ok { OnOk result ((made : RedactionView) × IsRedaction (chars selector.now) (put_of replacement) made
+            × (settings_of self.new ≡ record (settings_of self.old) { redactions = (settings_of self.old).redactions ++ made ∷ [] })) }
+        ensures refused { IfErr result (λ e. IsRefused (chars selector.now) e) }
+        ensures err { OnErr result (settings_of self.new ≡ settings_of self.old) }
+    {
+        let alloc = self.redactions.allocator();
+        self.redactions.add(alloc, selector, replacement)
+    }
+
+    /// Takes these redactions in place of all. The first text that is no selector is refused.
+    /// After a refusal and after want of memory the settings are as they were.
+    pub fn set_redactions(&mut self, redactions: Vec<(Text, Redaction)>) -> Result<(), SelectError>
+        ensures ok { OnOk result ((made : List RedactionView) × AreRedactions redactions.items made
+            × (settings_of self.new ≡ record (settings_of self.old) { redactions = made })) }
+        ensures refused { IfErr result (λ e. AreRefused redactions.items e) }
+        ensures err { OnErr result (settings_of self.new ≡ settings_of self.old) }
+    {
+        let alloc = self.redactions.allocator();
+        self.redactions = Redactions::from_list(alloc, redactions)?;
+        Ok(())
+    }
+
+    /// Takes all redactions away.
+    pub fn clear_redactions(&mut self)
+        ensures { settings_of self.new ≡ record (settings_of self.old) { redactions = [] } }
+    {
+        self.redactions = Redactions::new(self.redactions.allocator());
+    }
+
+    /// What is replaced before a tree is printed.
+    pub fn redactions(&self) -> &Redactions
+        ensures { redactions_of result.now ≡ (settings_of self.now).redactions }
+    {
+        &self.redactions
+    }
+
+    /// New settings but for the redactions.
+    pub fn of_redactions(alloc: Global, redactions: Redactions) -> Result<Settings, OutOfMemory>
+        ensures { IfOk result (λ settings. settings_of settings ≡ record new_settings { redactions = redactions_of redactions }) }
+    {
+        let snapshot_path = Text::from_ascii(alloc, "snapshots")?;
+        Ok(Settings {
+            snapshot_path,
+            redactions,
+        })
+    }
+
+    /// The same as a text.
+    pub fn snapshot_folder(&self) -> &Text
+        ensures { result.now ≡ (settings_of self.now).snapshot_path }
+    {
+        &self.snapshot_path
+    }
+}
