@@ -1,0 +1,17 @@
+use Rattle.std.proofs.Common.{◌≡◌, ◌≤◌, ◌+◌, ℕ, List, length}
+use Rattle.snap_token.specs.Place.{Place, Later, skipped_while}
+use Rattle.snap_token.specs.Characters.{is_of}
+use Rattle.snap_token.specs.Pieces.{EndsIn}
+use Rattle.snap_token.proofs.cursor.Cursor.skip_while.Given as goal
+
+abbrev pub invariant-characters : goal.invariant-characters
+invariant-characters l = record {
+  same : skipped_while (is_of l.fn.kind) l.self ≡ skipped_while (is_of l.fn.kind) l.fn.self;
+  onward : (p : Place) → Later p l.fn.self → Later p l.self;
+  within : (all : List ℕ) → EndsIn all l.fn.self.left → EndsIn all l.self.left;
+  sum : l.self.index + length l.self.left ≡ l.fn.self.index + length l.fn.self.left;
+  lighter : length l.self.left ≤ length l.fn.self.left;
+}
+
+abbrev pub decreases-characters : goal.decreases-characters
+decreases-characters l = length l.self.left

@@ -1,0 +1,19 @@
+use Rattle.std.proofs.Common.{◌≡◌, ◌≤◌, ◌+◌, length}
+use Rattle.snap_token.specs.Folding.{gap_of}
+use Rattle.snap_token.specs.Pieces.{before, EndsIn}
+use Rattle.snap_token.specs.Place.{Place, Later}
+use Rattle.snap_token.specs.Plain.{plain, plain_from}
+use Rattle.snap_token.proofs.plain.scan_plain_scalar.Given as goal
+
+abbrev pub invariant-characters : goal.invariant-characters
+invariant-characters l = record {
+  behind : EndsIn l.text.behind l.cursor.left;
+  inside : EndsIn l.fn.cursor.left l.cursor.left;
+  same : plain l.fn.indent l.fn.in_flow (gap_of l.gap (before l.text.behind l.cursor.left)) l.text.text l.cursor.left l.cursor ≡ plain_from l.fn.indent l.fn.in_flow l.fn.cursor;
+  onward : (p : Place) → Later p l.fn.cursor → Later p l.cursor;
+  sum : l.cursor.index + length l.cursor.left ≡ l.fn.cursor.index + length l.fn.cursor.left;
+  falls : length l.cursor.left + 1 ≤ length l.fn.cursor.left;
+}
+
+abbrev pub decreases-characters : goal.decreases-characters
+decreases-characters l = length l.cursor.left

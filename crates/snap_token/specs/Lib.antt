@@ -1,0 +1,9 @@
+pub mod Mark
+pub mod Place
+pub mod Characters
+pub mod Causes
+pub mod Info
+pub mod Pieces
+pub mod Folding
+pub mod Plain
+pub mod Quoted
