@@ -1,0 +1,3 @@
+pub mod Between
+pub mod Leading
+pub mod Blocks
