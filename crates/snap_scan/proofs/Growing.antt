@@ -1,0 +1,94 @@
+-- A fetch puts a token behind the held ones.
+use Rattle.std.proofs.Common.{◌≡◌, ◌≤◌, ◌++◌, ◌∷◌, [], ℕ, Bool, true, false, List, Option, Some, None, Result, Ok, Err, length, length-append, subst, sym, ap, arith, refl, if◌then◌else◌}
+use Rattle.std.specs.Prelude.{OnOk, nat_lt, not, ◌&&◌}
+use Rattle.snap_token.specs.declared.info.ScanError.{ScanError}
+use Rattle.snap_token.specs.Mark.{Mark}
+use Rattle.snap_token.specs.Place.{mark_of}
+use Rattle.snap_token.specs.Plain.{Plain, plain_from}
+use Rattle.snap_token.specs.Quoted.{Quoted, single_from, double_from}
+use Rattle.snap_token.specs.declared.token.Token.{Token}
+use Rattle.snap_token.specs.declared.token.TScalarStyle.{TScalarStyle}
+use Rattle.snap_token.specs.declared.token.TScalarStyle.TheVariants as style
+use Rattle.snap_token.specs.declared.info.ScanInfo.{ScanInfo}
+use Rattle.snap_scan.specs.declared.keys.SimpleKey.{SimpleKey}
+use Rattle.snap_scan.specs.declared.kind.TokenKind.{TokenKind}
+use Rattle.snap_scan.specs.declared.kind.TokenKind.TheVariants as k
+use Rattle.snap_scan.specs.Keys.{is_required, any_overdue}
+use Rattle.snap_scan.specs.State.{State, at, in_flow, is_key_owed, to_next}
+use Rattle.snap_scan.specs.Fetching.{Outcome, done, refused, read, IsRead, Leaves, Does, plain_read, quoted_read, read_key, value_behind, value_alone, innermost, kind_step, token_step, at_token, stream_started, step}
+
+-- what is left once a refusal is out of the question
+pub unrefused : (b : Bool) (m : Mark) (i : ScanInfo) (o : Outcome) (new : State) → Leaves (if b then refused m i else o) new → Leaves o new
+unrefused true m i o new l = absurd l
+unrefused false m i o new l = l
+
+pub unrefused-else : (b : Bool) (m : Mark) (i : ScanInfo) (o : Outcome) (new : State) → Leaves (if b then o else refused m i) new → Leaves o new
+unrefused-else true m i o new l = l
+unrefused-else false m i o new l = absurd l
+
+push-holds : (xs : List Token) (t : Token) → 1 ≤ length (xs ++ t ∷ [])
+push-holds xs t = omega (arith, length-append xs (t ∷ []))
+
+done-holds : (u new : State) → Leaves (done u) new → 1 ≤ length u.held → 1 ≤ length new.held
+done-holds u new l some = let P : State → Type 0 = λ v. 1 ≤ length v.held in subst P (sym l) some
+
+read-left : (kind : TokenKind) (u new : State) → Leaves (read kind u) new → 1 ≤ length new.held
+read-left kind u new r =
+    let long : length new.held ≡ length (u.held ++ at r.mark r.token ∷ []) = ap (λ (v : State). length v.held) r.leaves in
+    omega (arith, push-holds u.held (at r.mark r.token))
+
+read-holds : (kind : TokenKind) (b : Bool) (s new : State) → Leaves (read_key kind b s) new → 1 ≤ length new.held
+read-holds kind b s new l = read-left kind _ new (unrefused (is_key_owed s) _ _ _ new l)
+
+plain-holds : (o : Option Plain) (s new : State) → Leaves (plain_read o s) new → 1 ≤ length new.held
+plain-holds (Some r) s new l = done-holds _ new l.is (push-holds _ _)
+plain-holds None s new l = absurd l
+
+quoted-holds : (written : TScalarStyle) (o : Option Quoted) (s new : State) → Leaves (quoted_read written o s) new → 1 ≤ length new.held
+quoted-holds written (Some r) s new l = done-holds _ new l.is (push-holds _ _)
+quoted-holds written None s new l = absurd l
+
+value-holds : (key : Option SimpleKey) (s new : State) → Leaves (value_behind key s) new → 1 ≤ length new.held
+value-holds (Some key) s new l = done-holds _ new l (push-holds _ _)
+value-holds None s new l = done-holds _ new (unrefused (not (in_flow s) && not s.allowed) _ _ _ new l) (push-holds _ _)
+
+pub kind-holds : (kind : TokenKind) (s new : State) → Leaves (kind_step kind s) new → 1 ≤ length new.held
+kind-holds k.StreamEnd s new l = done-holds _ new (unrefused (is_required s.keys.key) _ _ _ new l) (push-holds _ _)
+kind-holds k.Directive s new l = read-left k.Directive _ new (unrefused (is_required s.keys.key) _ _ _ new l)
+kind-holds k.DocumentStart s new l = done-holds _ new (unrefused (is_required s.keys.key) _ _ _ new l) (push-holds _ _)
+kind-holds k.DocumentEnd s new l = done-holds _ new (unrefused (is_required s.keys.key) _ _ _ new l) (push-holds _ _)
+kind-holds k.FlowSequenceStart s new l = done-holds _ new (unrefused-else (nat_lt (length s.keys.outer) 255) _ _ _ new (unrefused (is_key_owed s) _ _ _ new l)) (push-holds _ _)
+kind-holds k.FlowMappingStart s new l = done-holds _ new (unrefused-else (nat_lt (length s.keys.outer) 255) _ _ _ new (unrefused (is_key_owed s) _ _ _ new l)) (push-holds _ _)
+kind-holds k.FlowSequenceEnd s new l = done-holds _ new (unrefused (is_required s.keys.key) _ _ _ new l) (push-holds _ _)
+kind-holds k.FlowMappingEnd s new l = done-holds _ new (unrefused (is_required s.keys.key) _ _ _ new l) (push-holds _ _)
+kind-holds k.FlowEntry s new l = done-holds _ new (unrefused (is_required s.keys.key) _ _ _ new l) (push-holds _ _)
+kind-holds k.BlockEntry s new l = done-holds _ new (unrefused (is_required s.keys.key) _ _ _ new (unrefused (not s.allowed) _ _ _ new (unrefused (in_flow s) _ _ _ new l))) (push-holds _ _)
+kind-holds k.Key s new l = done-holds _ new (unrefused (is_required s.keys.key) _ _ _ new (unrefused (not (in_flow s) && not s.allowed) _ _ _ new l)) (push-holds _ _)
+kind-holds k.Value s new l = value-holds s.keys.key s new l
+kind-holds (k.Refused info) s new l = absurd l
+kind-holds k.Alias s new l = read-holds k.Alias false s new l
+kind-holds k.Anchor s new l = read-holds k.Anchor false s new l
+kind-holds k.Tag s new l = read-holds k.Tag false s new l
+kind-holds k.Literal s new l = read-holds k.Literal true s new l
+kind-holds k.Folded s new l = read-holds k.Folded true s new l
+kind-holds k.SingleQuoted s new l = quoted-holds style.SingleQuoted (single_from s.place) s new (unrefused (is_key_owed s) _ _ _ new l)
+kind-holds k.DoubleQuoted s new l = quoted-holds style.DoubleQuoted (double_from s.place) s new (unrefused (is_key_owed s) _ _ _ new l)
+kind-holds k.Plain s new l = plain-holds (plain_from (innermost s.columns) (in_flow s) s.place) s new (unrefused (is_key_owed s) _ _ _ new l)
+
+token-holds : (s new : State) → Leaves (token_step s) new → 1 ≤ length new.held
+token-holds s new l = kind-holds _ (at_token s) new (unrefused (any_overdue (mark_of s.place) s.keys) _ _ _ new l)
+
+first-holds : (ended started : Bool) (s t new : State) → ended ≡ false
+    → Leaves (if ended then done s else (if started then token_step t else done (stream_started s))) new → 1 ≤ length new.held
+first-holds true started s t new going l = absurd (cc)
+first-holds false true s t new going l = token-holds t new l
+first-holds false false s t new going l = done-holds _ new l (push-holds _ _)
+
+-- one fetch, where StreamEnd wasn't made yet
+pub step-holds : (s new : State) → s.ended ≡ false → Leaves (step s) new → 1 ≤ length new.held
+step-holds s new going l = first-holds s.ended s.started s (to_next s.place.left s) new going l
+
+-- a call that does one fetch, where StreamEnd wasn't made yet, leaves a held token
+pub more-held : {T : Type 0} (r : Result T ScanError) (s new : State) → s.ended ≡ false → Does (step s) r new → OnOk r (1 ≤ length new.held)
+more-held (Ok x) s new going does = step-holds s new going does
+more-held (Err e) s new going does = tt

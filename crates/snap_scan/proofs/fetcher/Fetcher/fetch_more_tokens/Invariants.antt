@@ -1,0 +1,14 @@
+use Rattle.std.proofs.Common.{◌≡◌, ◌≤◌, ℕ, List, Bool, false}
+use Rattle.snap_scan.specs.State.{state_of, work, left_of, has_ended}
+use Rattle.snap_scan.specs.Sound.{IsSound}
+use Rattle.snap_scan.proofs.fetcher.Fetcher.fetch_more_tokens.Given as goal
+
+abbrev pub invariant-fetching : goal.invariant-fetching
+invariant-fetching l = record {
+  fresh : has_ended (state_of l.self) ≡ false;
+  law : left_of (state_of l.self) ≤ left_of (state_of l.fn.self);
+  sound : (ahead : Bool) (source : List ℕ) → IsSound ahead source (state_of l.fn.self) → IsSound ahead source (state_of l.self);
+}
+
+abbrev pub decreases-fetching : goal.decreases-fetching
+decreases-fetching l = work (state_of l.self)

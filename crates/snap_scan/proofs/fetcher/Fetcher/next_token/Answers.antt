@@ -1,0 +1,25 @@
+use Rattle.std.proofs.lemmas.Result.{err_from_is_err_and}
+use Rattle.snap_scan.specs.State.{state_of}
+use Rattle.snap_scan.proofs.Ending.{gives-at-end, pays}
+use Rattle.snap_scan.proofs.Order.{gives-sound}
+use Rattle.snap_scan.proofs.fetcher.Fetcher.next_token.Goals as goal
+
+pub returns-clause-none : goal.returns-clause-none
+returns-clause-none c =
+    gives-at-end c.take_first.result (state_of c.args.self.now) (state_of c.fetch_more_tokens.new.self) (state_of c.take_first.new.self)
+    c.in_ok-fetch_more_tokens.ensures.ready c.in_ok-fetch_more_tokens.ensures.done c.in_ok-fetch_more_tokens.ensures.fresh c.take_first.ensures
+
+pub returns-clause-law : goal.returns-clause-law
+returns-clause-law c =
+    pays c.take_first.result (state_of c.args.self.now) (state_of c.fetch_more_tokens.new.self) (state_of c.take_first.new.self)
+    c.in_ok-fetch_more_tokens.ensures.law c.take_first.ensures
+
+pub returns-clause-sound : goal.returns-clause-sound
+returns-clause-sound c =
+    λ ahead source is. gives-sound source c.take_first.result (state_of c.fetch_more_tokens.new.self) (state_of c.take_first.new.self)
+    (c.in_ok-fetch_more_tokens.ensures.sound ahead source is) c.take_first.ensures
+
+pub returns-in_err-fetch_more_tokens-clause-sound : goal.returns-in_err-fetch_more_tokens-clause-sound
+returns-in_err-fetch_more_tokens-clause-sound c =
+    λ ahead source is. let p = err_from_is_err_and c.from_residual.result c.from_residual.ensures.1 in
+    rw (p.1, p.2) (c.in_err-fetch_more_tokens.ensures.sound ahead source is)

@@ -1,0 +1,128 @@
+//! What the scanner makes of a text, as lines.
+use snap_content::{OutOfMemory, Text};
+use snap_scan::{Marker, ScanError, Scanner, TScalarStyle, Token, TokenType};
+use std::alloc::Global;
+
+/// A line for each token, `MARK NAME` and its fields; then `! MARK CODE` where the text is refused, and else `= MARK`,
+/// the place that the scanner has come to. A mark is its index, line and column.
+pub fn token_lines(alloc: Global, text: &str) -> Result<Text, OutOfMemory> {
+    let mut lines = Text::empty();
+    let mut scanner = Scanner::new(alloc, text);
+    add_tokens(alloc, &mut lines, &mut scanner)?;
+    match &scanner.get_error() {
+        Some(error) => add_error(alloc, &mut lines, error)?,
+        None => add_end(alloc, &mut lines, &scanner)?,
+    }
+    Ok(lines)
+}
+
+/// A line for each token that is to come.
+fn add_tokens(alloc: Global, lines: &mut Text, scanner: &mut Scanner) -> Result<(), OutOfMemory> {
+    'tokens: while let Some(token) = scanner.next() {
+        add_token(alloc, lines, &token)?;
+    }
+    Ok(())
+}
+
+/// The line of a refusal. After want of memory there are no lines.
+fn add_error(alloc: Global, lines: &mut Text, error: &ScanError) -> Result<(), OutOfMemory> {
+    let ScanError::Syntax(mark, info) = error else {
+        return Err(OutOfMemory);
+    };
+    lines.push_str(alloc, "! ")?;
+    add_mark(alloc, lines, *mark)?;
+    let code = format!(in alloc; " {info:?}\n")?;
+    lines.push_str(alloc, code.as_str())
+}
+
+/// The line of the place that the scanner has come to.
+fn add_end(alloc: Global, lines: &mut Text, scanner: &Scanner) -> Result<(), OutOfMemory> {
+    lines.push_str(alloc, "= ")?;
+    add_mark(alloc, lines, scanner.mark())?;
+    lines.push_str(alloc, "\n")
+}
+
+fn add_mark(alloc: Global, lines: &mut Text, mark: Marker) -> Result<(), OutOfMemory> {
+    let place = format!(in alloc; "{} {} {}", mark.index(), mark.line(), mark.col())?;
+    lines.push_str(alloc, place.as_str())
+}
+
+fn add_token(alloc: Global, lines: &mut Text, token: &Token) -> Result<(), OutOfMemory> {
+    add_mark(alloc, lines, token.0)?;
+    lines.push_str(alloc, " ")?;
+    lines.push_str(alloc, name(&token.1))?;
+    add_fields(alloc, lines, &token.1)?;
+    lines.push_str(alloc, "\n")
+}
+
+fn name(kind: &TokenType) -> &'static str {
+    match kind {
+        TokenType::StreamStart(_) => "StreamStart",
+        TokenType::StreamEnd => "StreamEnd",
+        TokenType::VersionDirective(_, _) => "VersionDirective",
+        TokenType::TagDirective(_, _) => "TagDirective",
+        TokenType::DocumentStart => "DocumentStart",
+        TokenType::DocumentEnd => "DocumentEnd",
+        TokenType::BlockSequenceStart => "BlockSequenceStart",
+        TokenType::BlockMappingStart => "BlockMappingStart",
+        TokenType::BlockEnd => "BlockEnd",
+        TokenType::FlowSequenceStart => "FlowSequenceStart",
+        TokenType::FlowSequenceEnd => "FlowSequenceEnd",
+        TokenType::FlowMappingStart => "FlowMappingStart",
+        TokenType::FlowMappingEnd => "FlowMappingEnd",
+        TokenType::BlockEntry => "BlockEntry",
+        TokenType::FlowEntry => "FlowEntry",
+        TokenType::Key => "Key",
+        TokenType::Value => "Value",
+        TokenType::Alias(_) => "Alias",
+        TokenType::Anchor(_) => "Anchor",
+        TokenType::Tag(_, _) => "Tag",
+        TokenType::Scalar(_, _) => "Scalar",
+    }
+}
+
+/// Adds the fields of a token, a tab before each.
+fn add_fields(alloc: Global, lines: &mut Text, kind: &TokenType) -> Result<(), OutOfMemory> {
+    match kind {
+        TokenType::VersionDirective(major, minor) => {
+            let numbers = format!(in alloc; "\t{major}\t{minor}")?;
+            lines.push_str(alloc, numbers.as_str())
+        }
+        TokenType::TagDirective(first, second) | TokenType::Tag(first, second) => {
+            add_field(alloc, lines, first.as_str())?;
+            add_field(alloc, lines, second.as_str())
+        }
+        TokenType::Alias(name) | TokenType::Anchor(name) => add_field(alloc, lines, name.as_str()),
+        TokenType::Scalar(style, scalar) => {
+            add_field(alloc, lines, style_name(style))?;
+            add_field(alloc, lines, scalar.as_str())
+        }
+        _ => Ok(()),
+    }
+}
+
+fn style_name(style: &TScalarStyle) -> &'static str {
+    match style {
+        TScalarStyle::Plain => "Plain",
+        TScalarStyle::SingleQuoted => "SingleQuoted",
+        TScalarStyle::DoubleQuoted => "DoubleQuoted",
+        TScalarStyle::Literal => "Literal",
+        TScalarStyle::Foled => "Foled",
+    }
+}
+
+/// Adds a field, in which a backslash stands before the letter of a line end, a tab or NUL, and before a backslash.
+fn add_field(alloc: Global, lines: &mut Text, field: &str) -> Result<(), OutOfMemory> {
+    lines.push_str(alloc, "\t")?;
+    for c in field.chars() {
+        match c {
+            '\n' => lines.push_str(alloc, "\\n")?,
+            '\r' => lines.push_str(alloc, "\\r")?,
+            '\t' => lines.push_str(alloc, "\\t")?,
+            '\0' => lines.push_str(alloc, "\\0")?,
+            '\\' => lines.push_str(alloc, "\\\\")?,
+            _ => lines.push(alloc, c)?,
+        }
+    }
+    Ok(())
+}
