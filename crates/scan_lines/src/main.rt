@@ -1,10 +1,14 @@
 //! Prints what the scanner makes of texts, as lines: for `bench/scan`, which holds them against the original's.
 //! Each line of standard input is a text, with `\n`, `\r`, `\0`, `\t` and `\\` for these characters.
 //! For each text the lines of `token_lines`, and an empty one.
+//! The gate runs it on texts of the original's tests, on the smallest text of each refusal, and on keys and levels at their limits,
+//! and compares with what the original's scanner answered.
 #![tactic(auto)]
 
+mod lines;
+
+use crate::lines::token_lines;
 use snap_content::{OutOfMemory, Text};
-use snap_scan_tests::token_lines;
 use std::alloc::Global;
 use std::io::{self, BufRead, Write};
 

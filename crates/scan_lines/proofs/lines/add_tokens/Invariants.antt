@@ -1,5 +1,5 @@
 use Rattle.snap_scan.specs.Scan.{left}
-use Rattle.snap_scan_tests.proofs.lines.add_tokens.Given as goal
+use Rattle.scan_lines.proofs.lines.add_tokens.Given as goal
 
 abbrev pub decreases-tokens : goal.decreases-tokens
 decreases-tokens l = left l.scanner
