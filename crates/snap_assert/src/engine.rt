@@ -57,9 +57,13 @@ fn assert_prepared<S: Store>(
     prepared: &Prepared,
 ) -> Result<Judged, AssertError>
     requires { IsSome (text_in (contents_in prepared.now.snapshot)) }
-    ensures settled { IfOk result (λ judged. (asked : Asked) (m : Files) → IsPrepared asked prepared.now → S.files store.old ≡ Some m → IsSettled config.now asked m judged (S.files store.new)) }
-    ensures kept { (asked : Asked) → IsPrepared asked prepared.now → KeptBy config.now.update asked.path (S.files store.old) (S.files store.new) }
-    ensures named { (asked : Asked) → IsPrepared asked prepared.now → NamesOwn config.now.update asked.path result }
+    ensures settled { IfOk result (λ judged. (asked : Asked) (m : Files)
+        → IsPrepared asked prepared.now → S.files store.old ≡ Some m
+        → IsSettled config.now asked m judged (S.files store.new)) }
+    ensures kept { (asked : Asked) → IsPrepared asked prepared.now
+        → KeptBy config.now.update asked.path (S.files store.old) (S.files store.new) }
+    ensures named { (asked : Asked) → IsPrepared asked prepared.now
+        → NamesOwn config.now.update asked.path result }
     ensures cause { AssertCause (S.faults store.old) (S.faults store.new) result }
 {
     let seen = match look(alloc, store, prepared) {
@@ -90,10 +94,16 @@ fn assert_named<S: Store>(
     name: &Text,
     content: Content,
 ) -> Result<Outcome, AssertError>
-    ensures answered { IfOk result (λ outcome. IsAnswered config.now (assertion_of (settings_of settings.now) (place_of place.now) name.now (tree content)) outcome
+    ensures answered { IfOk result (λ outcome.
+        IsAnswered config.now (assertion_of (settings_of settings.now) (place_of place.now) name.now
+        (tree content)) outcome
         (S.files store.old) (S.files store.new) empty_session empty_session) }
-    ensures kept { KeptBy config.now.update (asked_of (settings_of settings.now) (place_of place.now) name.now (tree content)).path (S.files store.old) (S.files store.new) }
-    ensures named { NamesOwn config.now.update (asked_of (settings_of settings.now) (place_of place.now) name.now (tree content)).path result }
+    ensures kept { KeptBy config.now.update
+        (asked_of (settings_of settings.now) (place_of place.now) name.now (tree content)).path
+        (S.files store.old) (S.files store.new) }
+    ensures named { NamesOwn config.now.update
+        (asked_of (settings_of settings.now) (place_of place.now) name.now
+        (tree content)).path result }
     ensures cause { AssertCause (S.faults store.old) (S.faults store.new) result }
 {
     let Ok(prepared) = prepare(alloc, settings, place, name, content) else {
@@ -131,14 +141,18 @@ pub fn assert_content<S: Store>(
     requires loose { config.now.require_full_match ≡ false }
     requires no_blocks { config.now.literal ≡ false }
     requires named { IsSome name }
-    ensures answered { IfOk result (λ outcome. (given : List ℕ) → option_copied name.entry ≡ Some given
-        → IsAnswered config.now (assertion_of (settings_of settings.now) (place_of place.now) given (tree content)) outcome
+    ensures answered { IfOk result (λ outcome. (given : List ℕ)
+        → option_copied name.entry ≡ Some given
+        → IsAnswered config.now (assertion_of (settings_of settings.now) (place_of place.now) given
+        (tree content)) outcome
         (S.files store.old) (S.files store.new) (session_of session.old) (session_of session.new)) }
     // Whatever is answered: no file is written but the one of the mode, so the approved one only in place.
     ensures kept { (given : List ℕ) → option_copied name.entry ≡ Some given
-        → KeptBy config.now.update (asked_of (settings_of settings.now) (place_of place.now) given (tree content)).path (S.files store.old) (S.files store.new) }
+        → KeptBy config.now.update (asked_of (settings_of settings.now) (place_of place.now) given
+        (tree content)).path (S.files store.old) (S.files store.new) }
     ensures named { (given : List ℕ) → option_copied name.entry ≡ Some given
-        → NamesOwn config.now.update (asked_of (settings_of settings.now) (place_of place.now) given (tree content)).path result }
+        → NamesOwn config.now.update (asked_of (settings_of settings.now) (place_of place.now) given
+        (tree content)).path result }
     ensures session { session_of session.new ≡ session_of session.old }
     ensures cause { AssertCause (S.faults store.old) (S.faults store.new) result }
 {

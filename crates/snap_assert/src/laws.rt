@@ -23,22 +23,32 @@ pub const fn a_binary_header_is_not_canonical()
 /// In place alone the approved file is written, and in the mode `new` alone the file that waits beside it; in no other mode
 /// may the approved file change.
 pub const fn only_in_place_is_the_approved_file_written()
-    ensures approved { (path : List ℕ) → (may_change NewFile path path ≡ false) × (may_change NoUpdate path path ≡ false) }
-    ensures waiting { (path : List ℕ) → (is_written InPlace path (pending_path path) ≡ false) × (is_written NoUpdate path (pending_path path) ≡ false) }
+    ensures approved { (path : List ℕ) → (may_change NewFile path path ≡ false)
+        × (may_change NoUpdate path path ≡ false) }
+    ensures waiting { (path : List ℕ) → (is_written InPlace path (pending_path path) ≡ false)
+        × (is_written NoUpdate path (pending_path path) ≡ false) }
 {}
 
 /// Where no block of duplicates is open, an assertion goes on. The innermost block keeps the contents that are asserted first
 /// under a key; later ones go on where they agree with these, and are refused where they don't.
 pub const fn a_block_keeps_the_first()
-    ensures none_open { (mode : Update) (force : Bool) (a : Assertion) (passed : Bool) (m : Files) (s : SessionView) → s.blocks ≡ []
+    ensures none_open { (mode : Update) (force : Bool) (a : Assertion) (passed : Bool) (m : Files)
+        (s : SessionView) → s.blocks ≡ []
         → assertion_step mode force a passed m s ≡ goes_on mode force (asked_in a s) passed m s }
-    ensures first { (mode : Update) (force : Bool) (a : Assertion) (passed : Bool) (m : Files) (s : SessionView) (block : Block) (outer : List Block) → s.blocks ≡ block ∷ outer
+    ensures first { (mode : Update) (force : Bool) (a : Assertion) (passed : Bool) (m : Files)
+        (s : SessionView) (block : Block) (outer : List Block) → s.blocks ≡ block ∷ outer
         → kept_for (key_in a s) block ≡ None
-        → assertion_step mode force a passed m s ≡ goes_on mode force (asked_in a s) passed m (record s { blocks = ((key_in a s, new_contents (asked_in a s)) ∷ block) ∷ outer }) }
-    ensures agrees { (mode : Update) (force : Bool) (a : Assertion) (passed : Bool) (m : Files) (s : SessionView) (block : Block) (outer : List Block) (old : SnapshotContents) → s.blocks ≡ block ∷ outer
+        → assertion_step mode force a passed m s
+        ≡ goes_on mode force (asked_in a s) passed m
+        (record s { blocks = ((key_in a s, new_contents (asked_in a s)) ∷ block) ∷ outer }) }
+    ensures agrees { (mode : Update) (force : Bool) (a : Assertion) (passed : Bool) (m : Files)
+        (s : SessionView) (block : Block) (outer : List Block) (old : SnapshotContents)
+        → s.blocks ≡ block ∷ outer
         → kept_for (key_in a s) block ≡ Some old → Agree old (new_contents (asked_in a s))
         → assertion_step mode force a passed m s ≡ goes_on mode force (asked_in a s) passed m s }
-    ensures differs { (mode : Update) (force : Bool) (a : Assertion) (passed : Bool) (m : Files) (s : SessionView) (block : Block) (outer : List Block) (old : SnapshotContents) → s.blocks ≡ block ∷ outer
+    ensures differs { (mode : Update) (force : Bool) (a : Assertion) (passed : Bool) (m : Files)
+        (s : SessionView) (block : Block) (outer : List Block) (old : SnapshotContents)
+        → s.blocks ≡ block ∷ outer
         → kept_for (key_in a s) block ≡ Some old → (Agree old (new_contents (asked_in a s)) → ⊥)
         → assertion_step mode force a passed m s ≡ is_refused (asked_in a s) (key_in a s) old m s }
 {}
@@ -46,6 +56,8 @@ pub const fn a_block_keeps_the_first()
 /// Names at concrete values.
 pub const fn worked_examples()
     ensures given { (name_step new_settings empty_session (codes "one")).name ≡ codes "one" }
-    ensures suffixed { (name_step (record new_settings { suffix = Some (codes "x") }) empty_session (codes "one")).name ≡ codes "one@x" }
-    ensures stays { (settings : SettingsView) (session : SessionView) (name : List ℕ) → (name_step settings session name).session ≡ session }
+    ensures suffixed { (name_step (record new_settings { suffix = Some (codes "x") }) empty_session
+        (codes "one")).name ≡ codes "one@x" }
+    ensures stays { (settings : SettingsView) (session : SessionView) (name : List ℕ)
+        → (name_step settings session name).session ≡ session }
 {}

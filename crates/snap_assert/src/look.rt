@@ -137,7 +137,8 @@ fn compare(
 
 /// Reads the file of the snapshot and compares.
 fn judge<S: Store>(alloc: Global, store: &mut S, prepared: &Prepared) -> Result<Judged, AssertError>
-    ensures judged { IfOk result (λ judged. (asked : Asked) (m : Files) → IsPrepared asked prepared.now → S.files store.old ≡ Some m → IsJudged asked m judged) }
+    ensures judged { IfOk result (λ judged. (asked : Asked) (m : Files)
+        → IsPrepared asked prepared.now → S.files store.old ≡ Some m → IsJudged asked m judged) }
     ensures same { S.files store.new ≡ S.files store.old }
     ensures named { NamesOnly prepared.now.path result }
     ensures cause { AssertCause (S.faults store.old) (S.faults store.new) result }
@@ -163,10 +164,13 @@ pub fn look<S: Store>(
     store: &mut S,
     prepared: &Prepared,
 ) -> Result<Seen, AssertError>
-    ensures seen { IfOk result (λ seen. (asked : Asked) (m : Files) → IsPrepared asked prepared.now → S.files store.old ≡ Some m → IsSeen asked m seen) }
-    ensures strays { IfOk result (λ seen. (asked : Asked) → IsPrepared asked prepared.now → AllStray asked.path seen.strays.items) }
+    ensures seen { IfOk result (λ seen. (asked : Asked) (m : Files) → IsPrepared asked prepared.now
+        → S.files store.old ≡ Some m → IsSeen asked m seen) }
+    ensures strays { IfOk result (λ seen. (asked : Asked) → IsPrepared asked prepared.now
+        → AllStray asked.path seen.strays.items) }
     ensures same { S.files store.new ≡ S.files store.old }
-    ensures named { (asked : Asked) (mode : Update) → IsPrepared asked prepared.now → NamesOwn mode asked.path result }
+    ensures named { (asked : Asked) (mode : Update) → IsPrepared asked prepared.now
+        → NamesOwn mode asked.path result }
     ensures cause { AssertCause (S.faults store.old) (S.faults store.new) result }
 {
     let judged = match judge(alloc, store, prepared) {

@@ -33,7 +33,8 @@ pub struct Prepared {
 
 /// What stands behind the first line, `---`.
 fn body_of_document(document: &str) -> &str
-    ensures { (body : List ℕ) → chars document.now ≡ codes "---\n" ++ body → chars result.now ≡ body }
+    ensures { (body : List ℕ) → chars document.now ≡ codes "---\n" ++ body
+        → chars result.now ≡ body }
 {
     match split_first(document) {
         Some((_, rest)) => match split_first(rest) {
@@ -66,11 +67,14 @@ fn new_snapshot(
     name: &Text,
     content: &Content,
 ) -> Result<Snapshot, OutOfMemory>
-    ensures printed { IfOk result (λ snapshot. text_in (contents_in snapshot) ≡ Some (text_of (plain (tree content.now)))) }
+    ensures printed { IfOk result (λ snapshot. text_in (contents_in snapshot)
+        ≡ Some (text_of (plain (tree content.now)))) }
     ensures in_file { IfOk result (λ snapshot. IsFileText (contents_in snapshot)) }
     ensures lines { IfOk result (λ snapshot. AreLines (lines_of (plain (tree content.now)))) }
-    ensures metadata { IfOk result (λ snapshot. meta_in snapshot ≡ new_meta (settings_of settings.now) (place_of place.now)) }
-    ensures module_name { IfOk result (λ snapshot. module_in snapshot ≡ flat_module (place_of place.now).module_name) }
+    ensures metadata { IfOk result (λ snapshot. meta_in snapshot
+        ≡ new_meta (settings_of settings.now) (place_of place.now)) }
+    ensures module_name { IfOk result (λ snapshot. module_in snapshot
+        ≡ flat_module (place_of place.now).module_name) }
     ensures name { IfOk result (λ snapshot. name_in snapshot ≡ Some name.now) }
 {
     let text = printed(alloc, content)?;
@@ -94,7 +98,9 @@ pub fn prepare(
     name: &Text,
     content: Content,
 ) -> Result<Prepared, OutOfMemory>
-    ensures { IfOk result (λ prepared. IsPrepared (asked_of (settings_of settings.now) (place_of place.now) name.now (tree content)) prepared) }
+    ensures { IfOk result (λ prepared. IsPrepared
+        (asked_of (settings_of settings.now) (place_of place.now) name.now
+        (tree content)) prepared) }
 {
     let content = settings.redactions().apply(alloc, content)?;
     let path = snapshot_path(alloc, settings, place, name)?;

@@ -16,8 +16,10 @@ pub fn remove_files<S: Store>(
     store: &mut S,
     paths: &[Text],
 ) -> Result<(), AssertError>
-    ensures ok { OnOk result ((m : Files) → S.files store.old ≡ Some m → S.files store.new ≡ Some (remove_each paths.now m)) }
-    ensures kept { (m : Files) → S.files store.old ≡ Some m → Keeps is_none (is_among paths.now) m (S.files store.new) }
+    ensures ok { OnOk result ((m : Files) → S.files store.old ≡ Some m
+        → S.files store.new ≡ Some (remove_each paths.now m)) }
+    ensures kept { (m : Files) → S.files store.old ≡ Some m
+        → Keeps is_none (is_among paths.now) m (S.files store.new) }
     ensures named { NamesOneOf paths.now result }
     ensures cause { AssertCause (S.faults store.old) (S.faults store.new) result }
 {

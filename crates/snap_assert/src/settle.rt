@@ -20,7 +20,8 @@ use std::alloc::Global;
 
 /// Removes what waited for the tree that now passed.
 fn approve<S: Store>(alloc: Global, store: &mut S, prepared: &Prepared) -> Result<(), AssertError>
-    ensures ok { OnOk result ((m : Files) → S.files store.old ≡ Some m → S.files store.new ≡ Some (remove m prepared.now.pending)) }
+    ensures ok { OnOk result ((m : Files) → S.files store.old ≡ Some m
+        → S.files store.new ≡ Some (remove m prepared.now.pending)) }
     ensures kept { IsTakenAlone prepared.now.pending (S.files store.old) (S.files store.new) }
     ensures named { NamesOnly prepared.now.pending result }
     ensures cause { AssertCause (S.faults store.old) (S.faults store.new) result }
@@ -38,7 +39,8 @@ fn approve<S: Store>(alloc: Global, store: &mut S, prepared: &Prepared) -> Resul
 /// Why an assertion comes to no answer where its file was not saved: the store failed, or memory was wanting.
 fn unsaved(error: Error) -> AssertError
     ensures file { (path : List ℕ) → error ≡ Error.FileIo path → result ≡ AssertError.FileIo path }
-    ensures other { ((path : List ℕ) → error ≡ Error.FileIo path → ⊥) → result ≡ AssertError.OutOfMemory }
+    ensures other { ((path : List ℕ) → error ≡ Error.FileIo path → ⊥)
+        → result ≡ AssertError.OutOfMemory }
 {
     match error {
         Error::FileIo(path) => AssertError::FileIo(path),
@@ -49,7 +51,8 @@ fn unsaved(error: Error) -> AssertError
 /// Writes the tree as the approved one.
 fn update<S: Store>(alloc: Global, store: &mut S, prepared: &Prepared) -> Result<(), AssertError>
     requires { IsSome (text_in (contents_in prepared.now.snapshot)) }
-    ensures ok { OnOk result ((asked : Asked) (m : Files) → IsPrepared asked prepared.now → S.files store.old ≡ Some m → S.files store.new ≡ Some (written InPlace asked m)) }
+    ensures ok { OnOk result ((asked : Asked) (m : Files) → IsPrepared asked prepared.now
+        → S.files store.old ≡ Some m → S.files store.new ≡ Some (written InPlace asked m)) }
     ensures kept { IsWrittenAlone prepared.now.path (S.files store.old) (S.files store.new) }
     ensures named { NamesOnly prepared.now.path result }
     ensures cause { AssertCause (S.faults store.old) (S.faults store.new) result }
@@ -63,8 +66,10 @@ fn update<S: Store>(alloc: Global, store: &mut S, prepared: &Prepared) -> Result
 /// Writes the tree beside the approved one, where it waits for a review.
 fn postpone<S: Store>(alloc: Global, store: &mut S, prepared: &Prepared) -> Result<(), AssertError>
     requires { IsSome (text_in (contents_in prepared.now.snapshot)) }
-    ensures ok { OnOk result ((asked : Asked) (m : Files) → IsPrepared asked prepared.now → S.files store.old ≡ Some m → S.files store.new ≡ Some (written NewFile asked m)) }
-    ensures kept { IsWrittenAlone (pending_path prepared.now.path) (S.files store.old) (S.files store.new) }
+    ensures ok { OnOk result ((asked : Asked) (m : Files) → IsPrepared asked prepared.now
+        → S.files store.old ≡ Some m → S.files store.new ≡ Some (written NewFile asked m)) }
+    ensures kept { IsWrittenAlone (pending_path prepared.now.path) (S.files store.old)
+        (S.files store.new) }
     ensures named { NamesOnly (pending_path prepared.now.path) result }
     ensures cause { AssertCause (S.faults store.old) (S.faults store.new) result }
 {
@@ -82,7 +87,8 @@ fn write_by<S: Store>(
     prepared: &Prepared,
 ) -> Result<(), AssertError>
     requires { IsSome (text_in (contents_in prepared.now.snapshot)) }
-    ensures ok { OnOk result ((asked : Asked) (m : Files) → IsPrepared asked prepared.now → S.files store.old ≡ Some m → S.files store.new ≡ Some (written mode asked m)) }
+    ensures ok { OnOk result ((asked : Asked) (m : Files) → IsPrepared asked prepared.now
+        → S.files store.old ≡ Some m → S.files store.new ≡ Some (written mode asked m)) }
     ensures kept { KeptBy mode prepared.now.path (S.files store.old) (S.files store.new) }
     ensures named { NamesOwn mode prepared.now.path result }
     ensures cause { AssertCause (S.faults store.old) (S.faults store.new) result }
@@ -105,11 +111,14 @@ pub fn settle<S: Store>(
     strays: &[Text],
 ) -> Result<(), AssertError>
     requires { IsSome (text_in (contents_in prepared.now.snapshot)) }
-    ensures ok { OnOk result ((asked : Asked) (m : Files) → IsPrepared asked prepared.now → S.files store.old ≡ Some m → AreStrays asked.path m strays.now
-        → S.files store.new ≡ Some (step config.now.update config.now.force_update asked passed m)) }
+    ensures ok { OnOk result ((asked : Asked) (m : Files) → IsPrepared asked prepared.now
+        → S.files store.old ≡ Some m → AreStrays asked.path m strays.now
+        → S.files store.new
+        ≡ Some (step config.now.update config.now.force_update asked passed m)) }
     ensures kept { (asked : Asked) → IsPrepared asked prepared.now → AllStray asked.path strays.now
         → KeptBy config.now.update asked.path (S.files store.old) (S.files store.new) }
-    ensures named { (asked : Asked) → IsPrepared asked prepared.now → AllStray asked.path strays.now → NamesOwn config.now.update asked.path result }
+    ensures named { (asked : Asked) → IsPrepared asked prepared.now → AllStray asked.path strays.now
+        → NamesOwn config.now.update asked.path result }
     ensures cause { AssertCause (S.faults store.old) (S.faults store.new) result }
 {
     match remove_files(alloc, store, strays) {

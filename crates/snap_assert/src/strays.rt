@@ -42,7 +42,8 @@ fn strays_among(
     file: &str,
     names: &[Text],
 ) -> Result<Vec<Text>, OutOfMemory>
-    ensures { IfOk result (λ strays. strays.items ≡ map (joined folder.now) (filter (is_stray (chars file.now)) names.now)) }
+    ensures { IfOk result (λ strays. strays.items
+        ≡ map (joined folder.now) (filter (is_stray (chars file.now)) names.now)) }
 {
     let mut strays = Vec::new(alloc);
     for name in names {
@@ -60,8 +61,11 @@ pub fn stray_paths<S: Store>(
     folder: &Text,
     path: &Text,
 ) -> Result<Vec<Text>, StoreError>
-    ensures strays { IfOk result (λ strays. (m : Files) → IsFilePath path.now → folder.now ≡ parent_of path.now → S.files store.old ≡ Some m → AreStrays path.now m strays.items) }
-    ensures all { IfOk result (λ strays. IsFilePath path.now → folder.now ≡ parent_of path.now → AllStray path.now strays.items) }
+    ensures strays { IfOk result (λ strays. (m : Files) → IsFilePath path.now
+        → folder.now ≡ parent_of path.now → S.files store.old ≡ Some m
+        → AreStrays path.now m strays.items) }
+    ensures all { IfOk result (λ strays. IsFilePath path.now → folder.now ≡ parent_of path.now
+        → AllStray path.now strays.items) }
     ensures same { S.files store.new ≡ S.files store.old }
     ensures cause { StoreCause (S.faults store.old) (S.faults store.new) result }
 {

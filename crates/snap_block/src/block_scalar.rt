@@ -30,10 +30,12 @@ pub fn scan_block_scalar<'a>(
     requires { is_among (codes "|>") (slice_index cursor.old.left 0) ≡ true }
     ensures value { ReadsBlock (block_from indent literal cursor.old) result cursor.new }
     ensures onward { (p : Place) → Later p cursor.old → Later p cursor.new }
-    ensures sum { cursor.new.index + length cursor.new.left ≡ cursor.old.index + length cursor.old.left }
+    ensures sum { cursor.new.index + length cursor.new.left
+        ≡ cursor.old.index + length cursor.old.left }
     ensures lighter { length cursor.new.left ≤ length cursor.old.left }
     ensures falls { OnOk result (length cursor.new.left + 1 ≤ length cursor.old.left) }
-    ensures mark { IfOk result (λ s. (cursor.old.index ≤ s.mark.index) × (s.mark.index ≤ cursor.new.index)) }
+    ensures mark { IfOk result (λ s. (cursor.old.index ≤ s.mark.index)
+        × (s.mark.index ≤ cursor.new.index)) }
     ensures cause { IfErr result (λ e. IsExplained cursor.old e) }
 {
     let start = cursor.mark();

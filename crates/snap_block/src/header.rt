@@ -31,7 +31,8 @@ fn scan_chomping(cursor: &mut Cursor) -> Option<Chomping>
     ensures value { result ≡ chomping_of (slice_index cursor.old.left 0) }
     ensures place { cursor.new ≡ past_sign cursor.old }
     ensures onward { (p : Place) → Later p cursor.old → Later p cursor.new }
-    ensures sum { cursor.new.index + length cursor.new.left ≡ cursor.old.index + length cursor.old.left }
+    ensures sum { cursor.new.index + length cursor.new.left
+        ≡ cursor.old.index + length cursor.old.left }
     ensures lighter { length cursor.new.left ≤ length cursor.old.left }
 {
     match cursor.ch() {
@@ -54,7 +55,8 @@ fn scan_digit(cursor: &mut Cursor, mark: Marker) -> Result<Option<usize>, ScanEr
     ensures some { OnOk result (slice_index cursor.old.left 0 ≢ 48) }
     ensures zero { IfErr result (λ _. slice_index cursor.old.left 0 ≡ 48) }
     ensures onward { (p : Place) → Later p cursor.old → Later p cursor.new }
-    ensures sum { cursor.new.index + length cursor.new.left ≡ cursor.old.index + length cursor.old.left }
+    ensures sum { cursor.new.index + length cursor.new.left
+        ≡ cursor.old.index + length cursor.old.left }
     ensures lighter { length cursor.new.left ≤ length cursor.old.left }
     ensures cause { IfErr result (λ e. IsRefusedBy (codes "|>") mark e) }
 {
@@ -74,7 +76,8 @@ fn scan_late_chomping(cursor: &mut Cursor) -> Chomping
     ensures value { result ≡ or_clip (chomping_of (slice_index cursor.old.left 0)) }
     ensures place { cursor.new ≡ past_sign cursor.old }
     ensures onward { (p : Place) → Later p cursor.old → Later p cursor.new }
-    ensures sum { cursor.new.index + length cursor.new.left ≡ cursor.old.index + length cursor.old.left }
+    ensures sum { cursor.new.index + length cursor.new.left
+        ≡ cursor.old.index + length cursor.old.left }
     ensures lighter { length cursor.new.left ≤ length cursor.old.left }
 {
     match scan_chomping(cursor) {
@@ -87,7 +90,8 @@ fn scan_late_chomping(cursor: &mut Cursor) -> Chomping
 fn scan_digit_first(cursor: &mut Cursor, mark: Marker) -> Result<Header, ScanError>
     ensures value { ReadsHeader (digit_first cursor.old) result cursor.new }
     ensures onward { (p : Place) → Later p cursor.old → Later p cursor.new }
-    ensures sum { cursor.new.index + length cursor.new.left ≡ cursor.old.index + length cursor.old.left }
+    ensures sum { cursor.new.index + length cursor.new.left
+        ≡ cursor.old.index + length cursor.old.left }
     ensures lighter { length cursor.new.left ≤ length cursor.old.left }
     ensures cause { IfErr result (λ e. IsRefusedBy (codes "|>") mark e) }
 {
@@ -111,7 +115,8 @@ fn scan_digit_first(cursor: &mut Cursor, mark: Marker) -> Result<Header, ScanErr
 fn scan_signs(cursor: &mut Cursor, mark: Marker) -> Result<Header, ScanError>
     ensures value { ReadsHeader (signs cursor.old) result cursor.new }
     ensures onward { (p : Place) → Later p cursor.old → Later p cursor.new }
-    ensures sum { cursor.new.index + length cursor.new.left ≡ cursor.old.index + length cursor.old.left }
+    ensures sum { cursor.new.index + length cursor.new.left
+        ≡ cursor.old.index + length cursor.old.left }
     ensures lighter { length cursor.new.left ≤ length cursor.old.left }
     ensures cause { IfErr result (λ e. IsRefusedBy (codes "|>") mark e) }
 {
@@ -130,10 +135,13 @@ fn scan_signs(cursor: &mut Cursor, mark: Marker) -> Result<Header, ScanError>
 /// Reads what stands behind the signs, with the line end. Something else than a comment is refused.
 fn scan_rest_of_header(cursor: &mut Cursor, mark: Marker) -> Result<(), ScanError>
     ensures place { OnOk result (cursor.new ≡ past_break (past_comment cursor.old)) }
-    ensures end { OnOk result (is_break_or_end (slice_index (past_comment cursor.old).left 0) ≡ true) }
-    ensures rest { IfErr result (λ _. is_break_or_end (slice_index (past_comment cursor.old).left 0) ≡ false) }
+    ensures end { OnOk result (is_break_or_end (slice_index (past_comment cursor.old).left 0)
+        ≡ true) }
+    ensures rest { IfErr result (λ _. is_break_or_end (slice_index (past_comment cursor.old).left 0)
+        ≡ false) }
     ensures onward { (p : Place) → Later p cursor.old → Later p cursor.new }
-    ensures sum { cursor.new.index + length cursor.new.left ≡ cursor.old.index + length cursor.old.left }
+    ensures sum { cursor.new.index + length cursor.new.left
+        ≡ cursor.old.index + length cursor.old.left }
     ensures lighter { length cursor.new.left ≤ length cursor.old.left }
     ensures cause { IfErr result (λ e. IsRefusedBy (codes "|>") mark e) }
 {
@@ -150,7 +158,8 @@ pub(crate) fn scan_header(cursor: &mut Cursor, mark: Marker) -> Result<Header, S
     requires { slice_index cursor.old.left 0 ≢ 0 }
     ensures value { ReadsHeader (header_from cursor.old) result cursor.new }
     ensures onward { (p : Place) → Later p cursor.old → Later p cursor.new }
-    ensures sum { cursor.new.index + length cursor.new.left ≡ cursor.old.index + length cursor.old.left }
+    ensures sum { cursor.new.index + length cursor.new.left
+        ≡ cursor.old.index + length cursor.old.left }
     ensures lighter { length cursor.new.left ≤ length cursor.old.left }
     ensures falls { OnOk result (length cursor.new.left + 1 ≤ length cursor.old.left) }
     ensures cause { IfErr result (λ e. IsRefusedBy (codes "|>") mark e) }

@@ -22,9 +22,11 @@ fn is_indented(indentation: u128, col: usize) -> bool
 /// Passes the spaces of an indentation.
 fn skip_indentation(cursor: &mut Cursor, indentation: u128)
     ensures value { (breaks : List ℕ) → Passes indentation breaks cursor.old breaks cursor.new }
-    ensures end { (slice_index cursor.new.left 0 == 32 && nat_lt cursor.new.col indentation) ≡ false }
+    ensures end { (slice_index cursor.new.left 0 == 32 && nat_lt cursor.new.col indentation)
+        ≡ false }
     ensures onward { (p : Place) → Later p cursor.old → Later p cursor.new }
-    ensures sum { cursor.new.index + length cursor.new.left ≡ cursor.old.index + length cursor.old.left }
+    ensures sum { cursor.new.index + length cursor.new.left
+        ≡ cursor.old.index + length cursor.old.left }
     ensures lighter { length cursor.new.left ≤ length cursor.old.left }
 {
     'spaces: while cursor.ch() == ' ' && is_indented(indentation, cursor.mark().col()) {
@@ -43,7 +45,8 @@ pub(crate) fn scan_empty_lines(
     ensures stands { OnOk result (is_open indentation cursor.new ≡ true) }
     ensures refused { IfErr result (λ e. IsRefusedLine indentation breaks.old cursor.old e) }
     ensures onward { (p : Place) → Later p cursor.old → Later p cursor.new }
-    ensures sum { cursor.new.index + length cursor.new.left ≡ cursor.old.index + length cursor.old.left }
+    ensures sum { cursor.new.index + length cursor.new.left
+        ≡ cursor.old.index + length cursor.old.left }
     ensures lighter { length cursor.new.left ≤ length cursor.old.left }
     ensures cause { IfErr result (λ e. IsRefusedBy (codes "|>") (mark_of cursor.new) e) }
 {
@@ -74,12 +77,14 @@ fn scan_leading_lines(
     breaks: &mut Text,
 ) -> Result<usize, ScanError>
     ensures column { IfOk result (λ reached. reached ≡ widest cursor.old.left cursor.old.col) }
-    ensures value { IfOk result (λ reached. (n : ℕ) → reached ≤ n → Passes n breaks.old cursor.old breaks.new cursor.new) }
+    ensures value { IfOk result (λ reached. (n : ℕ) → reached ≤ n
+        → Passes n breaks.old cursor.old breaks.new cursor.new) }
     ensures stands { OnOk result ((n : ℕ) → is_open n cursor.new ≡ true) }
     ensures sign { OnOk result ((first_sign cursor.old.left == 9) ≡ false) }
     ensures refused { IfErr result (λ e. IsTabFirst cursor.old.left e) }
     ensures onward { (p : Place) → Later p cursor.old → Later p cursor.new }
-    ensures sum { cursor.new.index + length cursor.new.left ≡ cursor.old.index + length cursor.old.left }
+    ensures sum { cursor.new.index + length cursor.new.left
+        ≡ cursor.old.index + length cursor.old.left }
     ensures lighter { length cursor.new.left ≤ length cursor.old.left }
     ensures cause { IfErr result (λ e. IsRefusedBy (codes "|>") (mark_of cursor.new) e) }
 {
@@ -126,13 +131,16 @@ pub(crate) fn scan_opening(
     indent: Option<usize>,
     breaks: &mut Text,
 ) -> Result<u128, ScanError>
-    ensures indentation { IfOk result (λ n. n ≡ indentation_of header.indentation indent cursor.old) }
+    ensures indentation { IfOk result (λ n. n
+        ≡ indentation_of header.indentation indent cursor.old) }
     ensures value { IfOk result (λ n. Passes n breaks.old cursor.old breaks.new cursor.new) }
     ensures stands { IfOk result (λ n. is_open n cursor.new ≡ true) }
     ensures tab { OnOk result (is_bad_tab header.indentation cursor.old ≡ false) }
-    ensures refused { IfErr result (λ e. IsRefusedOpening header.indentation indent breaks.old cursor.old e) }
+    ensures refused { IfErr result (λ e.
+        IsRefusedOpening header.indentation indent breaks.old cursor.old e) }
     ensures onward { (p : Place) → Later p cursor.old → Later p cursor.new }
-    ensures sum { cursor.new.index + length cursor.new.left ≡ cursor.old.index + length cursor.old.left }
+    ensures sum { cursor.new.index + length cursor.new.left
+        ≡ cursor.old.index + length cursor.old.left }
     ensures lighter { length cursor.new.left ≤ length cursor.old.left }
     ensures cause { IfErr result (λ e. IsRefusedBy (codes "|>") (mark_of cursor.new) e) }
 {

@@ -45,7 +45,13 @@ impl Lines {
 
     /// Adds what the line ends before a line stand for.
     fn join(&mut self, alloc: Global, literal: bool, is_deeper: bool) -> Result<(), OutOfMemory>
-        ensures { OnOk result (self.new ≡ record { text = joined literal is_deeper self.old; is_ended = false; is_deeper = is_deeper; breaks = [] }) }
+        ensures { OnOk result (self.new
+            ≡ record {
+              text = joined literal is_deeper self.old;
+              is_ended = false;
+              is_deeper = is_deeper;
+              breaks = [];
+            }) }
     {
         if self.is_ended {
             if literal || self.is_deeper || is_deeper {
@@ -68,11 +74,14 @@ impl Lines {
         cursor: &mut Cursor,
         literal: bool,
     ) -> Result<(), OutOfMemory>
-        ensures value { OnOk result (self.new ≡ with_line literal (is_blank (slice_index cursor.old.left 0)) (before cursor.old.left cursor.new.left) self.old) }
+        ensures value { OnOk result (self.new
+            ≡ with_line literal (is_blank (slice_index cursor.old.left 0))
+            (before cursor.old.left cursor.new.left) self.old) }
         ensures place { OnOk result (cursor.new ≡ skipped_while (is_of Kind.InLine) cursor.old) }
         ensures end { OnOk result (is_of Kind.InLine (slice_index cursor.new.left 0) ≡ false) }
         ensures onward { (p : Place) → Later p cursor.old → Later p cursor.new }
-        ensures sum { cursor.new.index + length cursor.new.left ≡ cursor.old.index + length cursor.old.left }
+        ensures sum { cursor.new.index + length cursor.new.left
+            ≡ cursor.old.index + length cursor.old.left }
         ensures lighter { length cursor.new.left ≤ length cursor.old.left }
     {
         self.join(alloc, literal, is_blank(cursor.ch()))?;
@@ -92,9 +101,12 @@ impl Lines {
         literal: bool,
     ) -> Result<(), ScanError>
         requires { is_open indentation cursor.old ≡ true }
-        ensures value { ReadsLines (between indentation literal self.old cursor.old.left cursor.old) result self.new cursor.new }
+        ensures value { ReadsLines
+            (between indentation literal self.old cursor.old.left cursor.old) result self.new
+            cursor.new }
         ensures onward { (p : Place) → Later p cursor.old → Later p cursor.new }
-        ensures sum { cursor.new.index + length cursor.new.left ≡ cursor.old.index + length cursor.old.left }
+        ensures sum { cursor.new.index + length cursor.new.left
+            ≡ cursor.old.index + length cursor.old.left }
         ensures lighter { length cursor.new.left ≤ length cursor.old.left }
         ensures cause { IfErr result (λ e. IsRefusedBy (codes "|>") (mark_of cursor.new) e) }
     {

@@ -50,7 +50,8 @@ impl Content {
     /// What a wrapper holds, to be changed.
     fn wrapped_mut(&mut self) -> &mut Box<Content>
         requires { wraps (tree self.old) ≡ true }
-        ensures* writes_back { sem 𝓛 (Lends the_row box_row self.entry result (with_wrapped self.old)) }
+        ensures* writes_back { sem 𝓛 (Lends the_row box_row self.entry result
+            (with_wrapped self.old)) }
         ensures value { with_wrapped self.old result.now ≡ self.old }
     {
         match self {
@@ -63,7 +64,8 @@ impl Content {
 
     /// What a box holds, to be changed: `Box::as_mut` without its type parameters, for the proof of the loop.
     fn unboxed_mut(boxed: &mut Box<Content>) -> &mut Content
-        ensures* writes_back { sem 𝓛 (Lends box_row the_row boxed.entry result (with_value boxed.old)) }
+        ensures* writes_back { sem 𝓛 (Lends box_row the_row boxed.entry result
+            (with_value boxed.old)) }
         ensures value { result.now ≡ boxed.old.value }
     {
         boxed
@@ -101,7 +103,8 @@ impl Content {
 
     /// The items of a `Seq`, `Tuple` or `TupleVariant`, behind wrappers. A `TupleStruct` has none.
     pub fn as_slice(&self) -> Option<&[Content]>
-        ensures { option_map (λ items. item_trees items.now) result ≡ items_in (resolved (tree self.now)) }
+        ensures { option_map (λ items. item_trees items.now) result
+            ≡ items_in (resolved (tree self.now)) }
     {
         match self.resolve_inner() {
             Content::Seq(items) => Some(items.as_slice()),

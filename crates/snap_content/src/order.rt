@@ -155,7 +155,8 @@ impl Items {
     /// Item by item, a list before one that begins with it.
     #[cycle(order)]
     pub fn compare(&self, other: &Items) -> Ordering
-        ensures { result ≡ trees_cmp (item_trees (item_list self.now)) (item_trees (item_list other.now)) }
+        ensures { result ≡ trees_cmp (item_trees (item_list self.now))
+            (item_trees (item_list other.now)) }
     {
         let mut rest = other.as_slice();
         for item in self.as_slice() {
@@ -179,7 +180,8 @@ impl Pairs {
     /// Pair by pair, the key first, a list before one that begins with it.
     #[cycle(order)]
     pub fn compare(&self, other: &Pairs) -> Ordering
-        ensures { result ≡ pairs_cmp (pair_trees (pair_list self.now)) (pair_trees (pair_list other.now)) }
+        ensures { result ≡ pairs_cmp (pair_trees (pair_list self.now))
+            (pair_trees (pair_list other.now)) }
     {
         let mut rest = other.as_slice();
         for (key, value) in self.as_slice() {
@@ -206,7 +208,8 @@ impl Fields {
     /// Field by field, the name first, a list before one that begins with it.
     #[cycle(order)]
     pub fn compare(&self, other: &Fields) -> Ordering
-        ensures { result ≡ fields_cmp (field_trees (field_list self.now)) (field_trees (field_list other.now)) }
+        ensures { result ≡ fields_cmp (field_trees (field_list self.now))
+            (field_trees (field_list other.now)) }
     {
         let mut rest = other.as_slice();
         for (name, value) in self.as_slice() {

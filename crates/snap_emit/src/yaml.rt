@@ -39,7 +39,8 @@ pub fn to_string(alloc: Global, content: &Content, literal: bool) -> Result<Text
 /// Any other is `FailedParsingYaml` with the path.
 pub fn parse_str(alloc: Global, text: &str, path: &Text) -> Result<Content, Error>
     ensures end { ParseEnd (chars text.now) path.now result }
-    ensures read { (t : Plain) → IsReadable t → chars text.now ≡ document_of t → IfOk result (λ made. tree made ≡ content_of t) }
+    ensures read { (t : Plain) → IsReadable t → chars text.now ≡ document_of t
+        → IfOk result (λ made. tree made ≡ content_of t) }
 {
     match parse_plain(alloc, text)? {
         None => Err(Error::FailedParsingYaml(path.try_clone(alloc)?)),
@@ -50,7 +51,8 @@ pub fn parse_str(alloc: Global, text: &str, path: &Text) -> Result<Content, Erro
 /// The same for the header of a snapshot file; no number is kept as a text yet.
 pub fn parse_header(alloc: Global, text: &str, path: &Text) -> Result<Header, Error>
     ensures end { HeaderEnd (chars text.now) path.now result }
-    ensures read { (t : Plain) → IsReadable t → chars text.now ≡ document_of t → IfOk result (λ header. tree header.content ≡ content_of t) }
+    ensures read { (t : Plain) → IsReadable t → chars text.now ≡ document_of t
+        → IfOk result (λ header. tree header.content ≡ content_of t) }
 {
     let content = parse_str(alloc, text, path)?;
     Ok(Header {

@@ -22,7 +22,8 @@ pub fn split_hashes(text: &str) -> (usize, &str)
 
 /// What follows so many `#`, where the text begins with them.
 pub fn after_hashes(text: &str, count: usize) -> Option<&str>
-    ensures { MatchOption result (past_hashes count (chars text.now) ≡ None) (λ rest. past_hashes count (chars text.now) ≡ Some (chars rest.now)) }
+    ensures { MatchOption result (past_hashes count (chars text.now) ≡ None)
+        (λ rest. past_hashes count (chars text.now) ≡ Some (chars rest.now)) }
 {
     let mut rest = text;
     let mut left = count;
@@ -35,7 +36,8 @@ pub fn after_hashes(text: &str, count: usize) -> Option<&str>
 
 /// What follows a quote and so many `#`, where the text begins with them.
 pub fn after_end(text: &str, count: usize) -> Option<&str>
-    ensures { MatchOption result (past_end count (chars text.now) ≡ None) (λ rest. past_end count (chars text.now) ≡ Some (chars rest.now)) }
+    ensures { MatchOption result (past_end count (chars text.now) ≡ None)
+        (λ rest. past_end count (chars text.now) ≡ Some (chars rest.now)) }
 {
     let rest = after_character(text, '"')?;
     after_hashes(rest, count)

@@ -42,7 +42,8 @@ pub fn min_indentation(alloc: Global, text: &str) -> Result<Text, OutOfMemory>
 
 /// Adds each line, from a byte on, behind a line end.
 fn push_lines(alloc: Global, made: &mut Text, text: &str, byte: usize) -> Result<(), OutOfMemory>
-    ensures { OnOk result (made.new ≡ made.old ++ flat_map (behind_end byte) (lines (chars text.now))) }
+    ensures { OnOk result (made.new ≡ made.old
+        ++ flat_map (behind_end byte) (lines (chars text.now))) }
 {
     let mut rest = text;
     while let Some((line, more)) = next_line(rest) {
@@ -60,7 +61,8 @@ pub(crate) fn join_lines(
     more: &str,
     byte: usize,
 ) -> Result<Text, OutOfMemory>
-    ensures { IfOk result (λ made. made ≡ joined_from byte (chars line.now ∷ lines (chars more.now))) }
+    ensures { IfOk result (λ made. made ≡ joined_from byte
+        (chars line.now ∷ lines (chars more.now))) }
 {
     let mut made = Text::from_str(alloc, from_byte(line, byte))?;
     push_lines(alloc, &mut made, more, byte)?;

@@ -18,16 +18,19 @@ pub const fn normal_by_lines()
 
 /// A source has at most one text.
 pub const fn one_text()
-    ensures { (source text other : List ℕ) → literal_reads source text → literal_reads source other → text ≡ other }
+    ensures { (source text other : List ℕ) → literal_reads source text → literal_reads source other
+        → text ≡ other }
 {}
 
 /// What is written reads, by the grammar, as the text that was meant.
 pub const fn reads_as_meant()
-    ensures { (indentation text : List ℕ) → IsIndentation indentation → literal_reads (spelled indentation text) (meant indentation text) }
+    ensures { (indentation text : List ℕ) → IsIndentation indentation
+        → literal_reads (spelled indentation text) (meant indentation text) }
 {}
 
 /// For an inline text whose normal form is its own normal form: what is written reads as some text, and a
 /// snapshot made of that text has the first one's normal form.
 pub const fn inline_law()
-    ensures { (indentation text : List ℕ) → ComesBack (spelled indentation (inline_normal text)) indentation text }
+    ensures { (indentation text : List ℕ)
+        → ComesBack (spelled indentation (inline_normal text)) indentation text }
 {}

@@ -24,7 +24,8 @@ pub(crate) fn without_breaks(text: &str) -> &str
 
 /// What follows `---` and a line's end, where the text begins so.
 fn after_fence(text: &str) -> Option<&str>
-    ensures { MatchOption result ((cs : List ℕ) → chars text.now ≡ 45 ∷ 45 ∷ 45 ∷ 10 ∷ cs → ⊥) (λ rest. chars text.now ≡ 45 ∷ 45 ∷ 45 ∷ 10 ∷ chars rest.now) }
+    ensures { MatchOption result ((cs : List ℕ) → chars text.now ≡ 45 ∷ 45 ∷ 45 ∷ 10 ∷ cs → ⊥)
+        (λ rest. chars text.now ≡ 45 ∷ 45 ∷ 45 ∷ 10 ∷ chars rest.now) }
 {
     let text = after_character(text, '-')?;
     let text = after_character(text, '-')?;

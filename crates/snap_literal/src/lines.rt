@@ -11,7 +11,8 @@ use snap_str::lines::next_line;
 
 /// The first line without its end, and what follows; none where the text holds no line's end.
 pub fn split_line(text: &str) -> Option<(&str, &str)>
-    ensures line { MatchOption result (IsUnbroken (chars text.now)) (λ p. IsLineThen (chars text.now) (chars p.0.now) (chars p.1.now)) }
+    ensures line { MatchOption result (IsUnbroken (chars text.now))
+        (λ p. IsLineThen (chars text.now) (chars p.0.now) (chars p.1.now)) }
     ensures shorter { IfSome result (λ p. length (chars p.1.now) < length (chars text.now)) }
 {
     split_once(text, '\n')

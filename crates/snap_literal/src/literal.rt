@@ -56,7 +56,8 @@ pub fn literal_is_open(contents: &str) -> bool
 /// The literal of an inline text. Where the text's normal form is its own normal form and the indentation is of blanks and
 /// tabs, the literal reads as a text that stands for a snapshot of that normal form.
 pub fn to_inline(alloc: Global, text: &str, indentation: &str) -> Result<Text, OutOfMemory>
-    ensures spelled { IfOk result (λ made. made ≡ spelled (chars indentation.now) (inline_normal (chars text.now))) }
+    ensures spelled { IfOk result (λ made. made
+        ≡ spelled (chars indentation.now) (inline_normal (chars text.now))) }
     ensures law { IfOk result (λ made. ComesBack made (chars indentation.now) (chars text.now)) }
 {
     let normal = inline_normal_text(alloc, text)?;

@@ -13,7 +13,8 @@ use std::alloc::Global;
 
 /// Behind the first quote.
 fn read_quoted(alloc: Global, source: &str) -> Result<Text, LiteralError>
-    ensures { MatchResult result (λ text. Inside (chars source.now) text) (λ error. Refuses error (Inside (chars source.now))) }
+    ensures { MatchResult result (λ text. Inside (chars source.now) text)
+        (λ error. Refuses error (Inside (chars source.now))) }
 {
     let mut made = Text::empty();
     let mut rest = source;
@@ -36,7 +37,8 @@ fn read_quoted(alloc: Global, source: &str) -> Result<Text, LiteralError>
 
 /// Behind the first quote of a raw literal with so many `#`.
 fn read_body(alloc: Global, source: &str, count: usize) -> Result<Text, LiteralError>
-    ensures { MatchResult result (λ text. IsBody count (chars source.now) text) (λ error. Refuses error (IsBody count (chars source.now))) }
+    ensures { MatchResult result (λ text. IsBody count (chars source.now) text)
+        (λ error. Refuses error (IsBody count (chars source.now))) }
 {
     let mut made = Text::empty();
     let mut rest = source;
@@ -60,7 +62,8 @@ fn read_body(alloc: Global, source: &str, count: usize) -> Result<Text, LiteralE
 
 /// Behind the `r` of a raw literal.
 fn read_raw(alloc: Global, source: &str) -> Result<Text, LiteralError>
-    ensures { MatchResult result (λ text. IsRaw (114 ∷ chars source.now) text) (λ error. Refuses error (IsRaw (114 ∷ chars source.now))) }
+    ensures { MatchResult result (λ text. IsRaw (114 ∷ chars source.now) text)
+        (λ error. Refuses error (IsRaw (114 ∷ chars source.now))) }
 {
     let (count, rest) = split_hashes(source);
     match after_character(rest, '"') {
@@ -72,7 +75,8 @@ fn read_raw(alloc: Global, source: &str) -> Result<Text, LiteralError>
 /// The text of one string literal that is the whole source.
 /// `NotLiteral` comes exactly where the grammar relates the source to no text.
 pub fn read_literal(alloc: Global, source: &str) -> Result<Text, LiteralError>
-    ensures { MatchResult result (λ text. literal_reads (chars source.now) text) (λ error. Refuses error (literal_reads (chars source.now))) }
+    ensures { MatchResult result (λ text. literal_reads (chars source.now) text)
+        (λ error. Refuses error (literal_reads (chars source.now))) }
 {
     match split_first(source) {
         Some((first, rest)) => {

@@ -84,7 +84,8 @@ fn push_line(
     line: &str,
     indentation: &str,
 ) -> Result<(), OutOfMemory>
-    ensures { OnOk result (made.new ≡ made.old ++ framed_line (chars indentation.now) (chars line.now)) }
+    ensures { OnOk result (made.new ≡ made.old
+        ++ framed_line (chars indentation.now) (chars line.now)) }
 {
     made.push_ascii(alloc, "\n")?;
     match split_first(line) {

@@ -38,7 +38,8 @@ fn lettered(letter: char) -> Option<char>
 
 /// Behind `\x`: the character of two digits below 80, and what follows.
 fn read_hexadecimal(source: &str) -> Option<(char, &str)>
-    ensures unit { MatchOption result (hexadecimal (chars source.now) ≡ None) (λ p. hexadecimal (chars source.now) ≡ Some (p.0 ∷ [], chars p.1.now)) }
+    ensures unit { MatchOption result (hexadecimal (chars source.now) ≡ None)
+        (λ p. hexadecimal (chars source.now) ≡ Some (p.0 ∷ [], chars p.1.now)) }
     ensures shorter { IfSome result (λ p. length (chars p.1.now) < length (chars source.now)) }
 {
     let (high, rest) = split_first(source)?;
@@ -51,7 +52,8 @@ fn read_hexadecimal(source: &str) -> Option<(char, &str)>
 
 /// Behind `\u{`: the character of one to six digits, and what follows the brace behind them.
 fn read_braced(source: &str) -> Option<(char, &str)>
-    ensures unit { MatchOption result (braced 0 0 (chars source.now) ≡ None) (λ p. braced 0 0 (chars source.now) ≡ Some (p.0 ∷ [], chars p.1.now)) }
+    ensures unit { MatchOption result (braced 0 0 (chars source.now) ≡ None)
+        (λ p. braced 0 0 (chars source.now) ≡ Some (p.0 ∷ [], chars p.1.now)) }
     ensures shorter { IfSome result (λ p. length (chars p.1.now) < length (chars source.now)) }
 {
     let mut rest = source;
@@ -78,7 +80,8 @@ fn read_braced(source: &str) -> Option<(char, &str)>
 
 /// Behind `\u`.
 fn read_unicode(source: &str) -> Option<(char, &str)>
-    ensures unit { MatchOption result (unicode (chars source.now) ≡ None) (λ p. unicode (chars source.now) ≡ Some (p.0 ∷ [], chars p.1.now)) }
+    ensures unit { MatchOption result (unicode (chars source.now) ≡ None)
+        (λ p. unicode (chars source.now) ≡ Some (p.0 ∷ [], chars p.1.now)) }
     ensures shorter { IfSome result (λ p. length (chars p.1.now) < length (chars source.now)) }
 {
     let rest = after_character(source, '{')?;
@@ -87,7 +90,8 @@ fn read_unicode(source: &str) -> Option<(char, &str)>
 
 /// Behind a backslash: what the escape gives, and what follows it.
 fn read_escape(source: &str) -> Option<(Option<char>, &str)>
-    ensures unit { MatchOption result (escape (chars source.now) ≡ None) (λ p. escape (chars source.now) ≡ Some (option_to_list p.0, chars p.1.now)) }
+    ensures unit { MatchOption result (escape (chars source.now) ≡ None)
+        (λ p. escape (chars source.now) ≡ Some (option_to_list p.0, chars p.1.now)) }
     ensures shorter { IfSome result (λ p. length (chars p.1.now) < length (chars source.now)) }
 {
     let (mark, rest) = split_first(source)?;
@@ -108,7 +112,8 @@ fn read_escape(source: &str) -> Option<(Option<char>, &str)>
 
 /// A character that stands for itself or an escape: what it gives, and what follows it.
 pub fn read_unit(source: &str) -> Option<(Option<char>, &str)>
-    ensures unit { MatchOption result (unit_of (chars source.now) ≡ None) (λ p. unit_of (chars source.now) ≡ Some (option_to_list p.0, chars p.1.now)) }
+    ensures unit { MatchOption result (unit_of (chars source.now) ≡ None)
+        (λ p. unit_of (chars source.now) ≡ Some (option_to_list p.0, chars p.1.now)) }
     ensures shorter { IfSome result (λ p. length (chars p.1.now) < length (chars source.now)) }
 {
     let (first, rest) = split_first(source)?;

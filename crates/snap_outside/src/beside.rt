@@ -35,14 +35,16 @@ fn hidden<A: Allocator>(
     mark: &str,
     number: u32,
 ) -> Result<String<A>, AllocError>
-    ensures { IfOk result (λ helper. string_bytes helper ≡ folder.now ++ mark.now ++ helper_name number) }
+    ensures { IfOk result (λ helper. string_bytes helper
+        ≡ folder.now ++ mark.now ++ helper_name number) }
 {
     format!(in alloc; "{folder}{mark}.snap-writing-{number}")
 }
 
 /// The snapshot, where the path is that of a file that waits for a review.
 pub(crate) fn waits_for(path: &str) -> Option<&str>
-    ensures { MatchOption result ((snapshot : List ℕ) → WaitsFor path.now snapshot → ⊥) (λ snapshot. WaitsFor path.now snapshot.now) }
+    ensures { MatchOption result ((snapshot : List ℕ) → WaitsFor path.now snapshot → ⊥)
+        (λ snapshot. WaitsFor path.now snapshot.now) }
 {
     path.strip_suffix(".new")
 }

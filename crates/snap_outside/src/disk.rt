@@ -53,7 +53,8 @@ impl<R: Files + Alloc + Clone + Drop> Disk<R> {
         answer: io::Result<T>,
     ) -> Result<T, Fault>
         ensures told { IsToldAs answer result }
-        ensures noted { asked_of self.new ≡ (asked, done_or_failed result, path.now, bytes.now) ∷ asked_of self.old }
+        ensures noted { asked_of self.new
+            ≡ (asked, done_or_failed result, path.now, bytes.now) ∷ asked_of self.old }
     {
         let told = told(answer);
         let noted = if told.is_ok() {
@@ -73,7 +74,8 @@ impl<R: Files + Alloc + Clone + Drop> Disk<R> {
         answer: io::Result<T>,
     ) -> Result<Option<T>, Fault>
         ensures told { IsFoundAs answer result }
-        ensures noted { asked_of self.new ≡ (asked, found_or_failed result, path.now, []) ∷ asked_of self.old }
+        ensures noted { asked_of self.new
+            ≡ (asked, found_or_failed result, path.now, []) ∷ asked_of self.old }
     {
         let told = told_found(answer);
         let noted = match &told {
@@ -114,7 +116,8 @@ impl<R: Files + Alloc + Clone + Drop> Disk<R> {
     /// Puts the next bytes of the file at the front of the buffer. None for a buffer that has room is the end.
     pub(crate) fn read(&mut self, file: &mut R::File, buffer: &mut [u8]) -> Result<usize, Fault>
         ensures bound { ReadsAtMost result buffer.new }
-        ensures given { ReadConsumes (R.File.Read.remaining file.old) (R.File.Read.remaining file.new) result buffer.new }
+        ensures given { ReadConsumes (R.File.Read.remaining file.old)
+            (R.File.Read.remaining file.new) result buffer.new }
         ensures noted { asked_of self.new ≡ read_call result buffer.new ∷ asked_of self.old }
     {
         match file.read(buffer) {
@@ -131,7 +134,8 @@ impl<R: Files + Alloc + Clone + Drop> Disk<R> {
 
     /// Makes the folder and those above it, where they are missing.
     pub(crate) fn make_folders(&mut self, folder: &str) -> Result<(), Fault>
-        ensures { asked_of self.new ≡ makes_folders folder.now (done_or_failed result) ∷ asked_of self.old }
+        ensures { asked_of self.new ≡ makes_folders folder.now
+            (done_or_failed result) ∷ asked_of self.old }
     {
         let made = fs::create_dir_all(&self.rt, folder);
         self.done(Asked::MakeFolders, folder, &[], made)
@@ -144,7 +148,8 @@ impl<R: Files + Alloc + Clone + Drop> Disk<R> {
         path: &str,
         bits: Option<u32>,
     ) -> Result<Option<R::File>, Fault>
-        ensures { asked_of self.new ≡ creates_new path.now bits (made_or_taken result) ∷ asked_of self.old }
+        ensures { asked_of self.new ≡ creates_new path.now bits
+            (made_or_taken result) ∷ asked_of self.old }
     {
         let file = new_file_options(bits).open(&self.rt, path);
         let made = told_made(file);
@@ -167,7 +172,8 @@ impl<R: Files + Alloc + Clone + Drop> Disk<R> {
 
     /// Opens the file, or makes it, to add bytes at its end.
     pub(crate) fn open_to_append(&mut self, path: &str) -> Result<R::File, Fault>
-        ensures { asked_of self.new ≡ opens_to_append path.now (done_or_failed result) ∷ asked_of self.old }
+        ensures { asked_of self.new ≡ opens_to_append path.now
+            (done_or_failed result) ∷ asked_of self.old }
     {
         let file = append_options().open(&self.rt, path);
         self.done(Asked::OpenToAppend, path, &[], file)
@@ -175,8 +181,10 @@ impl<R: Files + Alloc + Clone + Drop> Disk<R> {
 
     /// Writes all the bytes to the file.
     pub(crate) fn write(&mut self, file: &mut R::File, bytes: &[u8]) -> Result<(), Fault>
-        ensures taken { OnOk result (Appends (R.File.Write.contents file.old) (R.File.Write.contents file.new) bytes.now) }
-        ensures noted { asked_of self.new ≡ writes bytes.now (done_or_failed result) ∷ asked_of self.old }
+        ensures taken { OnOk result (Appends (R.File.Write.contents file.old)
+            (R.File.Write.contents file.new) bytes.now) }
+        ensures noted { asked_of self.new
+            ≡ writes bytes.now (done_or_failed result) ∷ asked_of self.old }
     {
         let written = file.write_all(bytes);
         self.done(Asked::Write, "", bytes, written)
@@ -184,7 +192,8 @@ impl<R: Files + Alloc + Clone + Drop> Disk<R> {
 
     /// Moves the file to the other's place, in one step.
     pub(crate) fn rename(&mut self, from: &str, to: &str) -> Result<(), Fault>
-        ensures { asked_of self.new ≡ renames from.now to.now (done_or_failed result) ∷ asked_of self.old }
+        ensures { asked_of self.new ≡ renames from.now to.now
+            (done_or_failed result) ∷ asked_of self.old }
     {
         let moved = fs::rename(&self.rt, from, to);
         self.done(Asked::Rename, from, to.as_bytes(), moved)
@@ -201,7 +210,8 @@ impl<R: Files + Alloc + Clone + Drop> Disk<R> {
 
     /// Opens the folder, where there is one.
     pub(crate) fn list(&mut self, folder: &str) -> Result<Option<R::Dir>, Fault>
-        ensures { asked_of self.new ≡ lists folder.now (found_or_failed result) ∷ asked_of self.old }
+        ensures { asked_of self.new ≡ lists folder.now
+            (found_or_failed result) ∷ asked_of self.old }
     {
         let names = self.rt.open_dir(folder);
         self.found(Asked::List, folder, names)
@@ -211,7 +221,8 @@ impl<R: Files + Alloc + Clone + Drop> Disk<R> {
     /// room are the end.
     pub(crate) fn next(&mut self, names: &mut R::Dir, buffer: &mut [u8]) -> Result<usize, Fault>
         ensures bound { ReadsAtMost result buffer.new }
-        ensures given { ReadConsumes (R.Dir.Read.remaining names.old) (R.Dir.Read.remaining names.new) result buffer.new }
+        ensures given { ReadConsumes (R.Dir.Read.remaining names.old)
+            (R.Dir.Read.remaining names.new) result buffer.new }
         ensures noted { asked_of self.new ≡ tell_call result buffer.new ∷ asked_of self.old }
     {
         match names.read(buffer) {

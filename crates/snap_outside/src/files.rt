@@ -77,7 +77,8 @@ impl MemoryFiles {
 
     /// What the file holds, nothing where there is none, and these bytes behind it.
     fn held_before(&self, path: &Text, bytes: &[u8]) -> Result<Vec<u8>, OutOfMemory>
-        ensures { IfOk result (λ all. all.items ≡ unwrap_or (get self.now path.now) [] ++ bytes.now) }
+        ensures { IfOk result (λ all. all.items
+            ≡ unwrap_or (get self.now path.now) [] ++ bytes.now) }
     {
         let mut all = Vec::new(self.alloc);
         if let Some(held) = self.get(path) {

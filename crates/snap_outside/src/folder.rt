@@ -60,7 +60,8 @@ impl<R: Files + Alloc + Clone + Drop> Store for FolderStore<R> {
     ghost faults = { λ store. store.faults };
 
     fn read(&mut self, alloc: Global, path: &Text) -> Result<Option<Blob>, StoreError>
-        ensures asked { FileRead (encode_utf8_all path.now) result (store_asked self.old) (store_asked self.new) }
+        ensures asked { FileRead (encode_utf8_all path.now) result (store_asked self.old)
+            (store_asked self.new) }
         ensures cause { StoreCause (store_faults self.old) (store_faults self.new) result }
         ensures once { StoreFailsOnce (store_faults self.old) (store_faults self.new) result }
     {
@@ -69,7 +70,8 @@ impl<R: Files + Alloc + Clone + Drop> Store for FolderStore<R> {
     }
 
     fn write(&mut self, path: &Text, bytes: &[u8]) -> Result<(), StoreError>
-        ensures asked { FileWritten (encode_utf8_all path.now) bytes.now result (store_asked self.old) (store_asked self.new) }
+        ensures asked { FileWritten (encode_utf8_all path.now) bytes.now result
+            (store_asked self.old) (store_asked self.new) }
         ensures cause { StoreCause (store_faults self.old) (store_faults self.new) result }
         ensures once { StoreFailsOnce (store_faults self.old) (store_faults self.new) result }
     {
@@ -78,7 +80,8 @@ impl<R: Files + Alloc + Clone + Drop> Store for FolderStore<R> {
     }
 
     fn append(&mut self, path: &Text, bytes: &[u8]) -> Result<(), StoreError>
-        ensures asked { FileAppended (encode_utf8_all path.now) bytes.now result (store_asked self.old) (store_asked self.new) }
+        ensures asked { FileAppended (encode_utf8_all path.now) bytes.now result
+            (store_asked self.old) (store_asked self.new) }
         ensures cause { StoreCause (store_faults self.old) (store_faults self.new) result }
         ensures once { StoreFailsOnce (store_faults self.old) (store_faults self.new) result }
     {
@@ -87,7 +90,8 @@ impl<R: Files + Alloc + Clone + Drop> Store for FolderStore<R> {
     }
 
     fn remove(&mut self, path: &Text) -> Result<bool, StoreError>
-        ensures asked { FileRemoved (encode_utf8_all path.now) result (store_asked self.old) (store_asked self.new) }
+        ensures asked { FileRemoved (encode_utf8_all path.now) result (store_asked self.old)
+            (store_asked self.new) }
         ensures cause { StoreCause (store_faults self.old) (store_faults self.new) result }
         ensures once { StoreFailsOnce (store_faults self.old) (store_faults self.new) result }
     {
@@ -96,7 +100,8 @@ impl<R: Files + Alloc + Clone + Drop> Store for FolderStore<R> {
     }
 
     fn list(&mut self, alloc: Global, folder: &Text) -> Result<Names, StoreError>
-        ensures asked { FolderListed (encode_utf8_all folder.now) result (store_asked self.old) (store_asked self.new) }
+        ensures asked { FolderListed (encode_utf8_all folder.now) result (store_asked self.old)
+            (store_asked self.new) }
         ensures cause { StoreCause (store_faults self.old) (store_faults self.new) result }
         ensures once { StoreFailsOnce (store_faults self.old) (store_faults self.new) result }
     {

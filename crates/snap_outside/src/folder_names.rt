@@ -75,14 +75,16 @@ pub(crate) fn push_names(alloc: Global, names: &mut Names, bytes: &[u8]) -> Resu
 
 /// The name as a text, where it is that of an entry.
 fn listed(name: &[u8]) -> Option<&str>
-    ensures { MatchOption result (is_listed name.now ≡ false) (λ text. (text.now ≡ name.now) × (is_listed name.now ≡ true)) }
+    ensures { MatchOption result (is_listed name.now ≡ false)
+        (λ text. (text.now ≡ name.now) × (is_listed name.now ≡ true)) }
 {
     let text = text_of(name)?;
     if is_entry(text) { Some(text) } else { None }
 }
 
 fn text_of(name: &[u8]) -> Option<&str>
-    ensures { MatchOption result (is_utf8 name.now ≡ false) (λ text. (text.now ≡ name.now) × (is_utf8 name.now ≡ true)) }
+    ensures { MatchOption result (is_utf8 name.now ≡ false)
+        (λ text. (text.now ≡ name.now) × (is_utf8 name.now ≡ true)) }
 {
     match str::from_utf8(name) {
         Ok(text) => Some(text),

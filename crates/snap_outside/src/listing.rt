@@ -28,7 +28,8 @@ pub fn is_name(text: &str) -> bool
 
 /// What follows the front, where the text begins with it.
 fn behind<'a>(text: &'a str, front: &str) -> Option<&'a str>
-    ensures { MatchOption result ((rest : List ℕ) → chars text.now ≢ chars front.now ++ rest) (λ rest. chars text.now ≡ chars front.now ++ chars rest.now) }
+    ensures { MatchOption result ((rest : List ℕ) → chars text.now ≢ chars front.now ++ rest)
+        (λ rest. chars text.now ≡ chars front.now ++ chars rest.now) }
 {
     match text.strip_prefix(front) {
         Some(rest) => Some(rest),

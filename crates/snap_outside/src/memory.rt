@@ -45,7 +45,8 @@ impl MemoryStore {
 
     /// Makes these the bytes of the file; it is no call of the store. After want of memory nothing has changed.
     pub fn put(&mut self, path: &Text, bytes: &[u8]) -> Result<(), OutOfMemory>
-        ensures ok { OnOk result (files_in self.new ≡ insert (files_in self.old) path.now bytes.now) }
+        ensures ok { OnOk result (files_in self.new
+            ≡ insert (files_in self.old) path.now bytes.now) }
         ensures err { OnErr result (files_in self.new ≡ files_in self.old) }
         ensures same { store_calls self.new ≡ store_calls self.old }
     {
@@ -85,8 +86,10 @@ impl Store for MemoryStore {
     fn read(&mut self, alloc: Global, path: &Text) -> Result<Option<Blob>, StoreError>
         ensures found { IfOk result (λ found. found ≡ get (files_in self.old) path.now) }
         ensures same { files_in self.new ≡ files_in self.old }
-        ensures cause { StoreCause (faults_so_far (store_calls self.old)) (faults_so_far (store_calls self.new)) result }
-        ensures once { StoreFailsOnce (faults_so_far (store_calls self.old)) (faults_so_far (store_calls self.new)) result }
+        ensures cause { StoreCause (faults_so_far (store_calls self.old))
+            (faults_so_far (store_calls self.new)) result }
+        ensures once { StoreFailsOnce (faults_so_far (store_calls self.old))
+            (faults_so_far (store_calls self.new)) result }
         ensures listed { FailsAsListed (fails_next (store_calls self.old)) result }
         ensures counts { Counts (store_calls self.old) (store_calls self.new) }
     {
@@ -100,11 +103,15 @@ impl Store for MemoryStore {
     }
 
     fn write(&mut self, path: &Text, bytes: &[u8]) -> Result<(), StoreError>
-        ensures written { OnOk result (files_in self.new ≡ insert (files_in self.old) path.now bytes.now) }
+        ensures written { OnOk result (files_in self.new
+            ≡ insert (files_in self.old) path.now bytes.now) }
         ensures kept { OnErr result (files_in self.new ≡ files_in self.old) }
-        ensures unknown { OnErr result ((m : Files) → Some (files_in self.old) ≡ Some m → SameBut path.now m (Some (files_in self.new))) }
-        ensures cause { StoreCause (faults_so_far (store_calls self.old)) (faults_so_far (store_calls self.new)) result }
-        ensures once { StoreFailsOnce (faults_so_far (store_calls self.old)) (faults_so_far (store_calls self.new)) result }
+        ensures unknown { OnErr result ((m : Files) → Some (files_in self.old) ≡ Some m
+            → SameBut path.now m (Some (files_in self.new))) }
+        ensures cause { StoreCause (faults_so_far (store_calls self.old))
+            (faults_so_far (store_calls self.new)) result }
+        ensures once { StoreFailsOnce (faults_so_far (store_calls self.old))
+            (faults_so_far (store_calls self.new)) result }
         ensures listed { FailsAsListed (fails_next (store_calls self.old)) result }
         ensures counts { Counts (store_calls self.old) (store_calls self.new) }
     {
@@ -118,11 +125,15 @@ impl Store for MemoryStore {
     }
 
     fn append(&mut self, path: &Text, bytes: &[u8]) -> Result<(), StoreError>
-        ensures appended { OnOk result (files_in self.new ≡ appended (files_in self.old) path.now bytes.now) }
+        ensures appended { OnOk result (files_in self.new
+            ≡ appended (files_in self.old) path.now bytes.now) }
         ensures kept { OnErr result (files_in self.new ≡ files_in self.old) }
-        ensures unknown { OnErr result ((m : Files) → Some (files_in self.old) ≡ Some m → SameBut path.now m (Some (files_in self.new))) }
-        ensures cause { StoreCause (faults_so_far (store_calls self.old)) (faults_so_far (store_calls self.new)) result }
-        ensures once { StoreFailsOnce (faults_so_far (store_calls self.old)) (faults_so_far (store_calls self.new)) result }
+        ensures unknown { OnErr result ((m : Files) → Some (files_in self.old) ≡ Some m
+            → SameBut path.now m (Some (files_in self.new))) }
+        ensures cause { StoreCause (faults_so_far (store_calls self.old))
+            (faults_so_far (store_calls self.new)) result }
+        ensures once { StoreFailsOnce (faults_so_far (store_calls self.old))
+            (faults_so_far (store_calls self.new)) result }
         ensures listed { FailsAsListed (fails_next (store_calls self.old)) result }
         ensures counts { Counts (store_calls self.old) (store_calls self.new) }
     {
@@ -136,12 +147,16 @@ impl Store for MemoryStore {
     }
 
     fn remove(&mut self, path: &Text) -> Result<bool, StoreError>
-        ensures found { IfOk result (λ found. IsTrue found ↔ IsSome (get (files_in self.old) path.now)) }
+        ensures found { IfOk result (λ found.
+            IsTrue found ↔ IsSome (get (files_in self.old) path.now)) }
         ensures removed { OnOk result (files_in self.new ≡ remove (files_in self.old) path.now) }
         ensures kept { OnErr result (files_in self.new ≡ files_in self.old) }
-        ensures stopped { OnErr result ((m : Files) → Some (files_in self.old) ≡ Some m → MayBeGone path.now m (Some (files_in self.new))) }
-        ensures cause { StoreCause (faults_so_far (store_calls self.old)) (faults_so_far (store_calls self.new)) result }
-        ensures once { StoreFailsOnce (faults_so_far (store_calls self.old)) (faults_so_far (store_calls self.new)) result }
+        ensures stopped { OnErr result ((m : Files) → Some (files_in self.old) ≡ Some m
+            → MayBeGone path.now m (Some (files_in self.new))) }
+        ensures cause { StoreCause (faults_so_far (store_calls self.old))
+            (faults_so_far (store_calls self.new)) result }
+        ensures once { StoreFailsOnce (faults_so_far (store_calls self.old))
+            (faults_so_far (store_calls self.new)) result }
         ensures listed { FailsAsListed (fails_next (store_calls self.old)) result }
         ensures counts { Counts (store_calls self.old) (store_calls self.new) }
     {
@@ -156,8 +171,10 @@ impl Store for MemoryStore {
     fn list(&mut self, alloc: Global, folder: &Text) -> Result<Names, StoreError>
         ensures names { IfOk result (λ names. AreNames (files_in self.old) folder.now names) }
         ensures same { files_in self.new ≡ files_in self.old }
-        ensures cause { StoreCause (faults_so_far (store_calls self.old)) (faults_so_far (store_calls self.new)) result }
-        ensures once { StoreFailsOnce (faults_so_far (store_calls self.old)) (faults_so_far (store_calls self.new)) result }
+        ensures cause { StoreCause (faults_so_far (store_calls self.old))
+            (faults_so_far (store_calls self.new)) result }
+        ensures once { StoreFailsOnce (faults_so_far (store_calls self.old))
+            (faults_so_far (store_calls self.new)) result }
         ensures listed { FailsAsListed (fails_next (store_calls self.old)) result }
         ensures counts { Counts (store_calls self.old) (store_calls self.new) }
     {
@@ -207,13 +224,18 @@ impl Source for MemorySource {
 
     fn read(&mut self, buffer: &mut [u8]) -> Result<usize, Fault>
         ensures bound { ReadsAtMost result buffer.new }
-        ensures bytes { IfOk result (λ count. left_in self.old ≡ take count buffer.new ++ left_in self.new) }
-        ensures count { IfOk result (λ count. count ≡ count_given (piece_of self.old) buffer.new (left_in self.old)) }
+        ensures bytes { IfOk result (λ count. left_in self.old
+            ≡ take count buffer.new ++ left_in self.new) }
+        ensures count { IfOk result (λ count. count
+            ≡ count_given (piece_of self.old) buffer.new (left_in self.old)) }
         ensures piece { piece_of self.new ≡ piece_of self.old }
-        ensures end { IfOk result (λ count. count ≡ 0 → 0 < length buffer.new → (xs : List ℕ) → Some (left_in self.old) ≡ Some xs → xs ≡ []) }
+        ensures end { IfOk result (λ count. count ≡ 0 → 0 < length buffer.new → (xs : List ℕ)
+            → Some (left_in self.old) ≡ Some xs → xs ≡ []) }
         ensures kept { OnErr result (left_in self.new ≡ left_in self.old) }
-        ensures cause { HasCause (faults_so_far (source_calls self.old)) (faults_so_far (source_calls self.new)) result }
-        ensures once { FailsOnce (faults_so_far (source_calls self.old)) (faults_so_far (source_calls self.new)) result }
+        ensures cause { HasCause (faults_so_far (source_calls self.old))
+            (faults_so_far (source_calls self.new)) result }
+        ensures once { FailsOnce (faults_so_far (source_calls self.old))
+            (faults_so_far (source_calls self.new)) result }
         ensures listed { IsTrue (is_err result) ↔ IsTrue (fails_next (source_calls self.old)) }
         ensures counts { Counts (source_calls self.old) (source_calls self.new) }
     {
@@ -267,10 +289,13 @@ impl Sink for MemorySink {
     fn write(&mut self, bytes: &[u8]) -> Result<usize, Fault>
         ensures bound { WritesAtMost result bytes.now }
         ensures some { IfOk result (λ count. 0 < length bytes.now → 0 < count) }
-        ensures bytes { IfOk result (λ count. written_in self.new ≡ written_in self.old ++ take count bytes.now) }
+        ensures bytes { IfOk result (λ count. written_in self.new
+            ≡ written_in self.old ++ take count bytes.now) }
         ensures kept { OnErr result (written_in self.new ≡ written_in self.old) }
-        ensures cause { HasCause (faults_so_far (sink_calls self.old)) (faults_so_far (sink_calls self.new)) result }
-        ensures once { FailsOnce (faults_so_far (sink_calls self.old)) (faults_so_far (sink_calls self.new)) result }
+        ensures cause { HasCause (faults_so_far (sink_calls self.old))
+            (faults_so_far (sink_calls self.new)) result }
+        ensures once { FailsOnce (faults_so_far (sink_calls self.old))
+            (faults_so_far (sink_calls self.new)) result }
         ensures listed { IfOk result (λ _. fails_next (sink_calls self.old) ≡ false) }
         ensures counts { Counts (sink_calls self.old) (sink_calls self.new) }
     {

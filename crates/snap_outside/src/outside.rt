@@ -84,8 +84,10 @@ pub trait Source {
     /// How many bytes it put at the front of the buffer. None for a buffer that has room is the end.
     fn read(&mut self, buffer: &mut [u8]) -> Result<usize, Fault>
         ensures bound { ReadsAtMost result buffer.new }
-        ensures bytes { IfOk result (λ count. (xs : List ℕ) → left self.old ≡ Some xs → GivesFront xs (take count buffer.new) (left self.new)) }
-        ensures end { IfOk result (λ count. count ≡ 0 → 0 < length buffer.new → (xs : List ℕ) → left self.old ≡ Some xs → xs ≡ []) }
+        ensures bytes { IfOk result (λ count. (xs : List ℕ) → left self.old ≡ Some xs
+            → GivesFront xs (take count buffer.new) (left self.new)) }
+        ensures end { IfOk result (λ count. count ≡ 0 → 0 < length buffer.new → (xs : List ℕ)
+            → left self.old ≡ Some xs → xs ≡ []) }
         ensures kept { OnErr result (left self.new ≡ left self.old) }
         ensures cause { HasCause (faults self.old) (faults self.new) result };
 }
@@ -103,7 +105,8 @@ pub trait Sink {
     fn write(&mut self, bytes: &[u8]) -> Result<usize, Fault>
         ensures bound { WritesAtMost result bytes.now }
         ensures some { IfOk result (λ count. 0 < length bytes.now → 0 < count) }
-        ensures bytes { IfOk result (λ count. (w : List ℕ) → written self.old ≡ Some w → written self.new ≡ Some (w ++ take count bytes.now)) }
+        ensures bytes { IfOk result (λ count. (w : List ℕ) → written self.old ≡ Some w
+            → written self.new ≡ Some (w ++ take count bytes.now)) }
         ensures kept { OnErr result (written self.new ≡ written self.old) }
         ensures cause { HasCause (faults self.old) (faults self.new) result };
 }
@@ -120,32 +123,41 @@ pub trait Store {
 
     /// The bytes of the file, and none where there is no file.
     fn read(&mut self, alloc: Global, path: &Text) -> Result<Option<Blob>, StoreError>
-        ensures found { IfOk result (λ found. (m : Files) → files self.old ≡ Some m → found ≡ get m path.now) }
+        ensures found { IfOk result (λ found. (m : Files) → files self.old ≡ Some m
+            → found ≡ get m path.now) }
         ensures same { files self.new ≡ files self.old }
         ensures cause { StoreCause (faults self.old) (faults self.new) result };
 
     /// Makes these the bytes of the file; missing folders are made.
     fn write(&mut self, path: &Text, bytes: &[u8]) -> Result<(), StoreError>
-        ensures written { OnOk result ((m : Files) → files self.old ≡ Some m → files self.new ≡ Some (insert m path.now bytes.now)) }
-        ensures unknown { OnErr result ((m : Files) → files self.old ≡ Some m → SameBut path.now m (files self.new)) }
+        ensures written { OnOk result ((m : Files) → files self.old ≡ Some m
+            → files self.new ≡ Some (insert m path.now bytes.now)) }
+        ensures unknown { OnErr result ((m : Files) → files self.old ≡ Some m
+            → SameBut path.now m (files self.new)) }
         ensures cause { StoreCause (faults self.old) (faults self.new) result };
 
     /// Adds these bytes behind those of the file, or makes them a file where there is none; missing folders are made.
     fn append(&mut self, path: &Text, bytes: &[u8]) -> Result<(), StoreError>
-        ensures appended { OnOk result ((m : Files) → files self.old ≡ Some m → files self.new ≡ Some (appended m path.now bytes.now)) }
-        ensures unknown { OnErr result ((m : Files) → files self.old ≡ Some m → SameBut path.now m (files self.new)) }
+        ensures appended { OnOk result ((m : Files) → files self.old ≡ Some m
+            → files self.new ≡ Some (appended m path.now bytes.now)) }
+        ensures unknown { OnErr result ((m : Files) → files self.old ≡ Some m
+            → SameBut path.now m (files self.new)) }
         ensures cause { StoreCause (faults self.old) (faults self.new) result };
 
     /// Takes the file away. Whether it was there.
     fn remove(&mut self, path: &Text) -> Result<bool, StoreError>
-        ensures found { IfOk result (λ found. (m : Files) → files self.old ≡ Some m → IsTrue found ↔ IsSome (get m path.now)) }
-        ensures removed { OnOk result ((m : Files) → files self.old ≡ Some m → files self.new ≡ Some (remove m path.now)) }
-        ensures stopped { OnErr result ((m : Files) → files self.old ≡ Some m → MayBeGone path.now m (files self.new)) }
+        ensures found { IfOk result (λ found. (m : Files) → files self.old ≡ Some m
+            → IsTrue found ↔ IsSome (get m path.now)) }
+        ensures removed { OnOk result ((m : Files) → files self.old ≡ Some m
+            → files self.new ≡ Some (remove m path.now)) }
+        ensures stopped { OnErr result ((m : Files) → files self.old ≡ Some m
+            → MayBeGone path.now m (files self.new)) }
         ensures cause { StoreCause (faults self.old) (faults self.new) result };
 
     /// The names of the files in a folder; none for a missing folder.
     fn list(&mut self, alloc: Global, folder: &Text) -> Result<Names, StoreError>
-        ensures names { IfOk result (λ names. (m : Files) → files self.old ≡ Some m → AreNames m folder.now names) }
+        ensures names { IfOk result (λ names. (m : Files) → files self.old ≡ Some m
+            → AreNames m folder.now names) }
         ensures same { files self.new ≡ files self.old }
         ensures cause { StoreCause (faults self.old) (faults self.new) result };
 }

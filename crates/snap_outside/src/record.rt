@@ -31,7 +31,8 @@ impl Record {
         _path: &str,
         _bytes: &[u8],
     ) -> Record
-        ensures { result.calls ≡ (_asked.now, _answer.now, _path.now, _bytes.now) ∷ _before.now.calls }
+        ensures { result.calls
+            ≡ (_asked.now, _answer.now, _path.now, _bytes.now) ∷ _before.now.calls }
     {
         Record {}
     }

@@ -53,8 +53,11 @@ fn make_helper<R: Files + Alloc + Clone + Drop>(
     path: &str,
     bits: Option<u32>,
 ) -> Result<Helper<R>, StoreError>
-    ensures made { IfOk result (λ helper. HelperMade path.now bits (string_bytes helper.path) (asked_of disk.old) (asked_of disk.new)) }
-    ensures none { IfErr result (λ error. NoHelper path.now bits error (asked_of disk.old) (asked_of disk.new)) }
+    ensures made { IfOk result (λ helper.
+        HelperMade path.now bits (string_bytes helper.path) (asked_of disk.old)
+        (asked_of disk.new)) }
+    ensures none { IfErr result (λ error.
+        NoHelper path.now bits error (asked_of disk.old) (asked_of disk.new)) }
 {
     for number in 0..MOST_HELPERS {
         let helper = helper_of(disk.alloc(), path, number)?;
@@ -72,7 +75,8 @@ fn move_helper<R: Files + Alloc + Clone + Drop>(
     path: &str,
     bytes: &[u8],
 ) -> Result<(), Fault>
-    ensures moved { Made (moving (string_bytes helper.old.path) path.now bits bytes.now) result (asked_of disk.old) (asked_of disk.new) }
+    ensures moved { Made (moving (string_bytes helper.old.path) path.now bits bytes.now) result
+        (asked_of disk.old) (asked_of disk.new) }
     ensures same { string_bytes helper.new.path ≡ string_bytes helper.old.path }
 {
     if let Some(bits) = bits {

@@ -29,7 +29,8 @@ impl SteadyStore {
 
     /// Makes these the bytes of the file. After want of memory nothing has changed.
     pub fn put(&mut self, path: &Text, bytes: &[u8]) -> Result<(), OutOfMemory>
-        ensures ok { OnOk result (steady_files self.new ≡ insert (steady_files self.old) path.now bytes.now) }
+        ensures ok { OnOk result (steady_files self.new
+            ≡ insert (steady_files self.old) path.now bytes.now) }
         ensures err { OnErr result (steady_files self.new ≡ steady_files self.old) }
     {
         self.files.put(path, bytes)
@@ -117,10 +118,13 @@ impl Source for SteadySource {
 
     fn read(&mut self, buffer: &mut [u8]) -> Result<usize, Fault>
         ensures bound { ReadsAtMost result buffer.new }
-        ensures bytes { IfOk result (λ count. steady_left self.old ≡ take count buffer.new ++ steady_left self.new) }
-        ensures count { IfOk result (λ count. count ≡ count_given (steady_piece self.old) buffer.new (steady_left self.old)) }
+        ensures bytes { IfOk result (λ count. steady_left self.old
+            ≡ take count buffer.new ++ steady_left self.new) }
+        ensures count { IfOk result (λ count. count
+            ≡ count_given (steady_piece self.old) buffer.new (steady_left self.old)) }
         ensures piece { steady_piece self.new ≡ steady_piece self.old }
-        ensures end { IfOk result (λ count. count ≡ 0 → 0 < length buffer.new → (xs : List ℕ) → Some (steady_left self.old) ≡ Some xs → xs ≡ []) }
+        ensures end { IfOk result (λ count. count ≡ 0 → 0 < length buffer.new → (xs : List ℕ)
+            → Some (steady_left self.old) ≡ Some xs → xs ≡ []) }
         ensures kept { OnErr result (steady_left self.new ≡ steady_left self.old) }
         ensures cause { HasCause 0 0 result }
     {
@@ -161,7 +165,8 @@ impl Sink for SteadySink {
         ensures count { IfOk result (λ count. count ≡ length bytes.now) }
         ensures bound { WritesAtMost result bytes.now }
         ensures some { IfOk result (λ count. 0 < length bytes.now → 0 < count) }
-        ensures bytes { IfOk result (λ count. steady_written self.new ≡ steady_written self.old ++ take count bytes.now) }
+        ensures bytes { IfOk result (λ count. steady_written self.new
+            ≡ steady_written self.old ++ take count bytes.now) }
         ensures kept { OnErr result (steady_written self.new ≡ steady_written self.old) }
         ensures cause { HasCause (steady_faults self.old) (steady_faults self.new) result }
         ensures once { FailsOnce (steady_faults self.old) (steady_faults self.new) result }

@@ -33,7 +33,8 @@ impl<R: Read + Drop> Source for StreamSource<R> {
 
     fn read(&mut self, buffer: &mut [u8]) -> Result<usize, Fault>
         ensures bound { ReadsAtMost result buffer.new }
-        ensures given { ReadConsumes (R.Read.remaining (reader_of self.old)) (R.Read.remaining (reader_of self.new)) result buffer.new }
+        ensures given { ReadConsumes (R.Read.remaining (reader_of self.old))
+            (R.Read.remaining (reader_of self.new)) result buffer.new }
         ensures cause { HasCause (source_faults self.old) (source_faults self.new) result }
         ensures once { FailsOnce (source_faults self.old) (source_faults self.new) result }
     {
@@ -79,7 +80,9 @@ impl<W: Write + Drop> StreamSink<W> {
     /// Hands the bytes to the writer. How many of the front it took.
     fn put(&mut self, bytes: &[u8]) -> Result<usize, Fault>
         ensures bound { WritesAtMost result bytes.now }
-        ensures taken { IfOk result (λ count. Appends (W.Write.contents (writer_of self.old)) (W.Write.contents (writer_of self.new)) (take count bytes.now)) }
+        ensures taken { IfOk result (λ count.
+            Appends (W.Write.contents (writer_of self.old)) (W.Write.contents (writer_of self.new))
+            (take count bytes.now)) }
         ensures noted { sink_asked self.new ≡ put_call result bytes.now ∷ sink_asked self.old }
         ensures faults { sink_faults self.new ≡ sink_faults self.old }
     {
@@ -97,8 +100,10 @@ impl<W: Write + Drop> StreamSink<W> {
 
     /// Has the writer hand on what it holds back.
     fn flush(&mut self) -> Result<(), Fault>
-        ensures kept { Keeps (W.Write.contents (writer_of self.old)) (W.Write.contents (writer_of self.new)) }
-        ensures noted { sink_asked self.new ≡ flushes (done_or_failed result) ∷ sink_asked self.old }
+        ensures kept { Keeps (W.Write.contents (writer_of self.old))
+            (W.Write.contents (writer_of self.new)) }
+        ensures noted { sink_asked self.new
+            ≡ flushes (done_or_failed result) ∷ sink_asked self.old }
         ensures faults { sink_faults self.new ≡ sink_faults self.old }
     {
         match self.writer.flush() {
@@ -131,7 +136,9 @@ impl<W: Write + Drop> Sink for StreamSink<W> {
     fn write(&mut self, bytes: &[u8]) -> Result<usize, Fault>
         ensures bound { WritesAtMost result bytes.now }
         ensures some { IfOk result (λ count. 0 < length bytes.now → 0 < count) }
-        ensures taken { IfOk result (λ count. Appends (W.Write.contents (writer_of self.old)) (W.Write.contents (writer_of self.new)) (take count bytes.now)) }
+        ensures taken { IfOk result (λ count.
+            Appends (W.Write.contents (writer_of self.old)) (W.Write.contents (writer_of self.new))
+            (take count bytes.now)) }
         ensures asked { SinkWritten bytes.now result (sink_asked self.old) (sink_asked self.new) }
         ensures cause { HasCause (sink_faults self.old) (sink_faults self.new) result }
         ensures once { FailsOnce (sink_faults self.old) (sink_faults self.new) result }

@@ -9,7 +9,8 @@ use snap_content::characters::split_first;
 
 /// What follows the front, where the text begins with it.
 pub fn behind<'a>(text: &'a str, front: &str) -> Option<&'a str>
-    ensures { MatchOption result (past_mark (chars front.now) (chars text.now) ≡ None) (λ rest. past_mark (chars front.now) (chars text.now) ≡ Some (chars rest.now)) }
+    ensures { MatchOption result (past_mark (chars front.now) (chars text.now) ≡ None)
+        (λ rest. past_mark (chars front.now) (chars text.now) ≡ Some (chars rest.now)) }
 {
     let mut rest = text;
     let mut front = front;
@@ -26,7 +27,8 @@ pub fn behind<'a>(text: &'a str, front: &str) -> Option<&'a str>
 /// The same for a front of ASCII characters, as a literal is.
 pub fn behind_ascii<'a>(text: &'a str, front: &str) -> Option<&'a str>
     requires { IsTrue (list_all is_ascii front.now) }
-    ensures { MatchOption result (past_mark front.now (chars text.now) ≡ None) (λ rest. past_mark front.now (chars text.now) ≡ Some (chars rest.now)) }
+    ensures { MatchOption result (past_mark front.now (chars text.now) ≡ None)
+        (λ rest. past_mark front.now (chars text.now) ≡ Some (chars rest.now)) }
 {
     behind(text, front)
 }

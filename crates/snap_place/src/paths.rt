@@ -107,7 +107,8 @@ pub fn module_text(alloc: Global, place: &Place) -> Result<Text, OutOfMemory>
 
 /// What stands before the name elsewhere: the module.
 fn module_prefix(alloc: Global, place: &Place) -> Result<Text, OutOfMemory>
-    ensures { IfOk result (λ text. text ≡ flat_module (place_of place.now).module_name ++ codes "__") }
+    ensures { IfOk result (λ text. text ≡ flat_module (place_of place.now).module_name
+        ++ codes "__") }
 {
     let mut text = module_text(alloc, place)?;
     text.push_ascii(alloc, "__")?;
@@ -132,7 +133,8 @@ fn snapshot_file_name(
     place: &Place,
     name: &Text,
 ) -> Result<Text, OutOfMemory>
-    ensures { IfOk result (λ text. text ≡ file_name (settings_of settings.now) (place_of place.now) name.now) }
+    ensures { IfOk result (λ text. text ≡ file_name (settings_of settings.now)
+        (place_of place.now) name.now) }
 {
     let mut text = prefix(alloc, place)?;
     push_flat(&mut text, alloc, name.as_str())?;
@@ -147,7 +149,8 @@ pub fn snapshot_path(
     place: &Place,
     name: &Text,
 ) -> Result<Text, OutOfMemory>
-    ensures { IfOk result (λ path. path ≡ path_of (settings_of settings.now) (place_of place.now) name.now) }
+    ensures { IfOk result (λ path. path ≡ path_of (settings_of settings.now)
+        (place_of place.now) name.now) }
 {
     let folder = path_join(alloc, place.workspace(), &path_parent(alloc, place.file())?)?;
     let folder = path_join(alloc, &folder, settings.snapshot_folder())?;
@@ -161,7 +164,8 @@ pub fn new_metadata(
     settings: &Settings,
     place: &Place,
 ) -> Result<MetaData, OutOfMemory>
-    ensures { IfOk result (λ made. meta_of made ≡ new_meta (settings_of settings.now) (place_of place.now)) }
+    ensures { IfOk result (λ made. meta_of made
+        ≡ new_meta (settings_of settings.now) (place_of place.now)) }
 {
     let file = path_join(alloc, place.workspace(), place.file())?;
     let source = path_relative_from(alloc, &file, place.workspace())?;

@@ -33,7 +33,15 @@ impl Place {
         line: u32,
         expr: Text,
     ) -> Result<Place, BadPlace>
-        ensures place { IfOk result (λ place. place_of place ≡ record { workspace = workspace; function = function; module_name = module_name; file = file; line = line; expr = expr }) }
+        ensures place { IfOk result (λ place. place_of place
+            ≡ record {
+              workspace = workspace;
+              function = function;
+              module_name = module_name;
+              file = file;
+              line = line;
+              expr = expr;
+            }) }
         ensures ok { IfOk result (λ place. names_file file ≡ true) }
         ensures refused { IsErr result → names_file file ≡ false }
     {

@@ -9,7 +9,8 @@ use std::alloc::Global;
 
 /// What follows `---` and a line's end, where the text begins so.
 pub fn after_dashes(text: &str) -> Option<&str>
-    ensures { MatchOption result ((cs : List ℕ) → chars text.now ≡ 45 ∷ 45 ∷ 45 ∷ 10 ∷ cs → ⊥) (λ rest. chars text.now ≡ 45 ∷ 45 ∷ 45 ∷ 10 ∷ chars rest.now) }
+    ensures { MatchOption result ((cs : List ℕ) → chars text.now ≡ 45 ∷ 45 ∷ 45 ∷ 10 ∷ cs → ⊥)
+        (λ rest. chars text.now ≡ 45 ∷ 45 ∷ 45 ∷ 10 ∷ chars rest.now) }
 {
     let text = after_character(text, '-')?;
     let text = after_character(text, '-')?;

@@ -38,7 +38,8 @@ fn hold_simple_keys(alloc: Global, items: &[PlainTree]) -> Result<bool, OutOfMem
 /// The same of the entries of a dict.
 #[cycle(keys)]
 fn are_simply_keyed(alloc: Global, entries: &[(PlainTree, PlainTree)]) -> Result<bool, OutOfMemory>
-    ensures { IfOk result (λ simple. simple ≡ list_all has_simple_key (map entry_view entries.now)) }
+    ensures { IfOk result (λ simple. simple
+        ≡ list_all has_simple_key (map entry_view entries.now)) }
 {
     for (key, value) in entries {
         if !is_simple_key(alloc, key)? {

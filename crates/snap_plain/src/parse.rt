@@ -35,7 +35,8 @@ fn is_printed_as(alloc: Global, tree: &PlainTree, text: &str) -> Result<bool, Ou
 
 /// A tree whose text may be this.
 fn candidate(alloc: Global, text: &str) -> Result<Option<PlainTree>, OutOfMemory>
-    ensures { (t : Plain) → IsReadable t → chars text.now ≡ document_of t → IfOk result (λ found. IsSomeAnd found (λ made. view made ≡ t)) }
+    ensures { (t : Plain) → IsReadable t → chars text.now ≡ document_of t
+        → IfOk result (λ found. IsSomeAnd found (λ made. view made ≡ t)) }
 {
     match after_dashes(text) {
         None => Ok(None),
@@ -48,8 +49,10 @@ fn candidate(alloc: Global, text: &str) -> Result<Option<PlainTree>, OutOfMemory
 
 /// The tree with simple keys alone that is printed as the text.
 pub fn parse_plain(alloc: Global, text: &str) -> Result<Option<PlainTree>, OutOfMemory>
-    ensures printed { IfOk result (λ found. IfSome found (λ made. IsPrintedAs (view made) (chars text.now))) }
-    ensures read { (t : Plain) → IsReadable t → chars text.now ≡ document_of t → IfOk result (λ found. IsSomeAnd found (λ made. view made ≡ t)) }
+    ensures printed { IfOk result (λ found. IfSome found
+        (λ made. IsPrintedAs (view made) (chars text.now))) }
+    ensures read { (t : Plain) → IsReadable t → chars text.now ≡ document_of t
+        → IfOk result (λ found. IsSomeAnd found (λ made. view made ≡ t)) }
 {
     match candidate(alloc, text)? {
         None => Ok(None),

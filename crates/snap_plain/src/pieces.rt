@@ -81,7 +81,9 @@ fn hexadecimal_value(c: char) -> u32
 
 /// The character that two hexadecimal digits give.
 fn coded_character(high: char, low: char) -> Option<char>
-    ensures { MatchOption result (digit_of high < 16 → digit_of low < 16 → ⊥) (λ c. (digit_of high < 16) × (digit_of low < 16) × (c ≡ digit_of high * 16 + digit_of low)) }
+    ensures { MatchOption result (digit_of high < 16 → digit_of low < 16 → ⊥)
+        (λ c. (digit_of high < 16) × (digit_of low < 16)
+        × (c ≡ digit_of high * 16 + digit_of low)) }
 {
     let high = hexadecimal_value(high);
     let low = hexadecimal_value(low);
@@ -94,7 +96,8 @@ fn coded_character(high: char, low: char) -> Option<char>
 
 /// The character of a code of four digits, and what follows.
 fn code(text: &str) -> Option<(char, &str)>
-    ensures { MatchOption result (of_code (chars text.now) ≡ None) (λ p. of_code (chars text.now) ≡ Some (p.0, chars p.1.now)) }
+    ensures { MatchOption result (of_code (chars text.now) ≡ None)
+        (λ p. of_code (chars text.now) ≡ Some (p.0, chars p.1.now)) }
 {
     let text = after_character(after_character(text, '0')?, '0')?;
     let (high, text) = split_first(text)?;
@@ -107,7 +110,8 @@ fn code(text: &str) -> Option<(char, &str)>
 
 /// The character that is written behind a backslash, and what follows.
 fn escape(text: &str) -> Option<(char, &str)>
-    ensures { MatchOption result (of_escape (chars text.now) ≡ None) (λ p. of_escape (chars text.now) ≡ Some (p.0, chars p.1.now)) }
+    ensures { MatchOption result (of_escape (chars text.now) ≡ None)
+        (λ p. of_escape (chars text.now) ≡ Some (p.0, chars p.1.now)) }
 {
     match split_first(text) {
         Some(('"', rest)) => Some(('"', rest)),
@@ -124,7 +128,8 @@ fn escape(text: &str) -> Option<(char, &str)>
 
 /// The first character of what stands between double quotes, and what follows.
 fn written_character(text: &str) -> Option<(char, &str)>
-    ensures { MatchOption result (of_written (chars text.now) ≡ None) (λ p. of_written (chars text.now) ≡ Some (p.0, chars p.1.now)) }
+    ensures { MatchOption result (of_written (chars text.now) ≡ None)
+        (λ p. of_written (chars text.now) ≡ Some (p.0, chars p.1.now)) }
 {
     match split_first(text) {
         None => None,
@@ -135,7 +140,8 @@ fn written_character(text: &str) -> Option<(char, &str)>
 
 /// The text that stands before a double quote.
 pub fn unescaped(alloc: Global, text: &str) -> Result<Option<Text>, OutOfMemory>
-    ensures { (s r : List ℕ) → chars text.now ≡ flat_map escaped s ++ 34 ∷ r → IfOk result (λ found. IsSomeAnd found (λ made. made ≡ s)) }
+    ensures { (s r : List ℕ) → chars text.now ≡ flat_map escaped s ++ 34 ∷ r
+        → IfOk result (λ found. IsSomeAnd found (λ made. made ≡ s)) }
 {
     let mut made = Text::empty();
     let mut rest = text;

@@ -51,7 +51,8 @@ pub fn first_item(alloc: Global, lines: &[Text]) -> Result<(Vec<Text>, &[Text]),
         → IfOk result (λ parts. parts.0.items ≡ lines_of t) }
     ensures rest { (t : Plain) (ts : List Plain) → lines.now ≡ flat_map item_block (t ∷ ts)
         → IfOk result (λ parts. parts.1.now ≡ flat_map item_block ts) }
-    ensures smaller { holds_items lines.now ≡ true → IfOk result (λ parts. size_of parts.0.items < size_of lines.now) }
+    ensures smaller { holds_items lines.now ≡ true
+        → IfOk result (λ parts. size_of parts.0.items < size_of lines.now) }
     ensures within { IfOk result (λ parts. size_of parts.1.now ≤ size_of lines.now) }
     ensures shorter { IfOk result (λ parts. length parts.1.now < length lines.now) }
 {
@@ -64,9 +65,11 @@ pub fn first_item(alloc: Global, lines: &[Text]) -> Result<(Vec<Text>, &[Text]),
 /// The lines below the first line, of the value of the first entry, and the lines of the other entries.
 pub fn first_entry(alloc: Global, lines: &[Text]) -> Result<(Vec<Text>, &[Text]), OutOfMemory>
     requires { 0 < length lines.now }
-    ensures inner { (e : Plain × Plain) (es : List (Plain × Plain)) → AreReadableEntries (e ∷ es) → lines.now ≡ flat_map pair_block (e ∷ es)
+    ensures inner { (e : Plain × Plain) (es : List (Plain × Plain)) → AreReadableEntries (e ∷ es)
+        → lines.now ≡ flat_map pair_block (e ∷ es)
         → is_flat e.1 ≡ false → IfOk result (λ parts. parts.0.items ≡ lines_of e.1) }
-    ensures rest { (e : Plain × Plain) (es : List (Plain × Plain)) → AreReadableEntries (e ∷ es) → lines.now ≡ flat_map pair_block (e ∷ es)
+    ensures rest { (e : Plain × Plain) (es : List (Plain × Plain)) → AreReadableEntries (e ∷ es)
+        → lines.now ≡ flat_map pair_block (e ∷ es)
         → IfOk result (λ parts. parts.1.now ≡ flat_map pair_block es) }
     ensures smaller { IfOk result (λ parts. size_of parts.0.items < size_of lines.now) }
     ensures within { IfOk result (λ parts. size_of parts.1.now ≤ size_of lines.now) }

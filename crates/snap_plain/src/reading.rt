@@ -18,7 +18,8 @@ use std::alloc::Global;
 
 /// The scalar or empty collection that is the first line.
 fn read_line(alloc: Global, lines: &[Text]) -> Result<Option<PlainTree>, OutOfMemory>
-    ensures { (t : Plain) → is_flat t ≡ true → IsWithin t → lines.now ≡ spelling t ∷ [] → IfOk result (λ found. IsSomeAnd found (λ made. view made ≡ t)) }
+    ensures { (t : Plain) → is_flat t ≡ true → IsWithin t → lines.now ≡ spelling t ∷ []
+        → IfOk result (λ found. IsSomeAnd found (λ made. view made ≡ t)) }
 {
     match lines.split_first() {
         None => Ok(None),
@@ -29,7 +30,8 @@ fn read_line(alloc: Global, lines: &[Text]) -> Result<Option<PlainTree>, OutOfMe
 /// The tree that is printed as these lines.
 #[cycle(reading)]
 pub fn read_tree(alloc: Global, lines: &[Text]) -> Result<Option<PlainTree>, OutOfMemory>
-    ensures { (t : Plain) → IsReadable t → lines.now ≡ lines_of t → IfOk result (λ found. IsSomeAnd found (λ made. view made ≡ t)) }
+    ensures { (t : Plain) → IsReadable t → lines.now ≡ lines_of t
+        → IfOk result (λ found. IsSomeAnd found (λ made. view made ≡ t)) }
 {
     if are_items(lines) {
         return match read_items(alloc, lines)? {
@@ -74,7 +76,8 @@ fn read_entries(
     alloc: Global,
     lines: &[Text],
 ) -> Result<Option<Vec<(PlainTree, PlainTree)>>, OutOfMemory>
-    ensures { (es : List (Plain × Plain)) → AreReadableEntries es → lines.now ≡ flat_map pair_block es
+    ensures { (es : List (Plain × Plain)) → AreReadableEntries es
+        → lines.now ≡ flat_map pair_block es
         → IfOk result (λ found. IsSomeAnd found (λ made. map entry_view made.items ≡ es)) }
 {
     let mut made = Vec::new(alloc);
@@ -97,7 +100,8 @@ fn read_entry(
     line: &Text,
     below: &[Text],
 ) -> Result<Option<(PlainTree, PlainTree)>, OutOfMemory>
-    ensures { (e : Plain × Plain) → IsReadableEntry e → line.now ≡ spelling e.0 ++ behind_key e.1 → (is_flat e.1 ≡ false → below.now ≡ lines_of e.1)
+    ensures { (e : Plain × Plain) → IsReadableEntry e → line.now ≡ spelling e.0 ++ behind_key e.1
+        → (is_flat e.1 ≡ false → below.now ≡ lines_of e.1)
         → IfOk result (λ found. IsSomeAnd found (λ made. entry_view made ≡ e)) }
 {
     match read_piece(alloc, line.as_str())? {
@@ -112,7 +116,8 @@ fn read_entry(
 /// The value that stands behind a key, or below it.
 #[cycle(reading)]
 fn read_value(alloc: Global, text: &str, below: &[Text]) -> Result<Option<PlainTree>, OutOfMemory>
-    ensures { (t : Plain) → IsReadable t → chars text.now ≡ behind_key t → (is_flat t ≡ false → below.now ≡ lines_of t)
+    ensures { (t : Plain) → IsReadable t → chars text.now ≡ behind_key t
+        → (is_flat t ≡ false → below.now ≡ lines_of t)
         → IfOk result (λ found. IsSomeAnd found (λ made. view made ≡ t)) }
 {
     match after_character(text, ':') {

@@ -38,7 +38,8 @@ fn below_zero(magnitude: u128) -> Option<i128>
 
 /// The number below zero with these digits.
 fn negative(digits: &str) -> Option<PlainTree>
-    ensures { (n : ℕ) → n < 2 ^ 127 → chars digits.now ≡ decimal (suc n) → IsSomeAnd result (λ made. view made ≡ int (negsuc n)) }
+    ensures { (n : ℕ) → n < 2 ^ 127 → chars digits.now ≡ decimal (suc n)
+        → IsSomeAnd result (λ made. view made ≡ int (negsuc n)) }
 {
     match magnitude(digits) {
         None => None,
@@ -51,7 +52,8 @@ fn negative(digits: &str) -> Option<PlainTree>
 
 /// The number with these digits.
 fn natural(digits: &str) -> Option<PlainTree>
-    ensures { (n : ℕ) → n < 2 ^ 128 → chars digits.now ≡ decimal n → IsSomeAnd result (λ made. view made ≡ int (pos n)) }
+    ensures { (n : ℕ) → n < 2 ^ 128 → chars digits.now ≡ decimal n
+        → IsSomeAnd result (λ made. view made ≡ int (pos n)) }
 {
     match magnitude(digits) {
         None => None,
@@ -61,7 +63,8 @@ fn natural(digits: &str) -> Option<PlainTree>
 
 /// The whole number that is written so.
 fn read_number(text: &str) -> Option<PlainTree>
-    ensures { (z : ℤ) → IsNumber z → chars text.now ≡ signed_decimal z → IsSomeAnd result (λ made. view made ≡ int z) }
+    ensures { (z : ℤ) → IsNumber z → chars text.now ≡ signed_decimal z
+        → IsSomeAnd result (λ made. view made ≡ int z) }
 {
     match after_character(text, '-') {
         Some(digits) => negative(digits),
@@ -71,7 +74,8 @@ fn read_number(text: &str) -> Option<PlainTree>
 
 /// The scalar that is written without double quotes as this word.
 fn read_word(word: Text) -> Option<PlainTree>
-    ensures { (p : Plain) → is_word p ≡ true → IsWithin p → word ≡ spelling p → IsSomeAnd result (λ made. view made ≡ p) }
+    ensures { (p : Plain) → is_word p ≡ true → IsWithin p → word ≡ spelling p
+        → IsSomeAnd result (λ made. view made ≡ p) }
 {
     if is_integer(word.as_str()) {
         return read_number(word.as_str());
@@ -90,7 +94,8 @@ fn read_word(word: Text) -> Option<PlainTree>
 
 /// The text that stands before a double quote.
 fn read_quoted(alloc: Global, text: &str) -> Result<Option<PlainTree>, OutOfMemory>
-    ensures { (s r : List ℕ) → chars text.now ≡ flat_map escaped s ++ 34 ∷ r → IfOk result (λ found. IsSomeAnd found (λ made. view made ≡ text_tree s)) }
+    ensures { (s r : List ℕ) → chars text.now ≡ flat_map escaped s ++ 34 ∷ r
+        → IfOk result (λ found. IsSomeAnd found (λ made. view made ≡ text_tree s)) }
 {
     match unescaped(alloc, text)? {
         None => Ok(None),
@@ -100,8 +105,10 @@ fn read_quoted(alloc: Global, text: &str) -> Result<Option<PlainTree>, OutOfMemo
 
 /// The scalar or empty collection at the front of the line, where that begins with no double quote.
 fn read_unquoted(alloc: Global, line: &str) -> Result<Option<PlainTree>, OutOfMemory>
-    ensures { (p : Plain) (r : List ℕ) → is_flat p ≡ true → IsWithin p → ends_piece r ≡ true → chars line.now ≡ spelling p ++ r
-        → ((cs : List ℕ) → chars line.now ≡ 34 ∷ cs → ⊥) → IfOk result (λ found. IsSomeAnd found (λ made. view made ≡ p)) }
+    ensures { (p : Plain) (r : List ℕ) → is_flat p ≡ true → IsWithin p → ends_piece r ≡ true
+        → chars line.now ≡ spelling p ++ r
+        → ((cs : List ℕ) → chars line.now ≡ 34 ∷ cs → ⊥)
+        → IfOk result (λ found. IsSomeAnd found (λ made. view made ≡ p)) }
 {
     if begins_with(line, '[') {
         return Ok(Some(PlainTree::List(Vec::new(alloc))));
@@ -115,7 +122,8 @@ fn read_unquoted(alloc: Global, line: &str) -> Result<Option<PlainTree>, OutOfMe
 
 /// The scalar or empty collection at the front of the line.
 pub fn read_piece(alloc: Global, line: &str) -> Result<Option<PlainTree>, OutOfMemory>
-    ensures { (p : Plain) (r : List ℕ) → is_flat p ≡ true → IsWithin p → ends_piece r ≡ true → chars line.now ≡ spelling p ++ r
+    ensures { (p : Plain) (r : List ℕ) → is_flat p ≡ true → IsWithin p → ends_piece r ≡ true
+        → chars line.now ≡ spelling p ++ r
         → IfOk result (λ found. IsSomeAnd found (λ made. view made ≡ p)) }
 {
     match after_character(line, '"') {

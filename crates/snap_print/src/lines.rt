@@ -123,7 +123,8 @@ fn item_lines(alloc: Global, items: &[PlainTree]) -> Result<Vec<Text>, OutOfMemo
 /// The lines of the entries of a dict.
 #[cycle(lines)]
 fn entry_lines(alloc: Global, entries: &[(PlainTree, PlainTree)]) -> Result<Vec<Text>, OutOfMemory>
-    ensures value { IfOk result (λ lines. lines.items ≡ flat_map pair_block (map entry_view entries.now)) }
+    ensures value { IfOk result (λ lines. lines.items
+        ≡ flat_map pair_block (map entry_view entries.now)) }
     ensures within { IfOk result (λ _. All IsEntryWithin (map entry_view entries.now)) }
 {
     let mut out = Vec::new(alloc);
@@ -145,9 +146,11 @@ fn entry_line(
     key: &PlainTree,
     value: &PlainTree,
 ) -> Result<Option<Text>, OutOfMemory>
-    ensures value { IfOk result (λ found. MatchOption found ((is_simple (view key.now) && is_flat (view value.now)) ≡ false)
+    ensures value { IfOk result (λ found.
+        MatchOption found ((is_simple (view key.now) && is_flat (view value.now)) ≡ false)
         (λ line. pair_block (view key.now, view value.now) ≡ line ∷ [])) }
-    ensures within { IfOk result (λ found. IfSome found (λ _. IsEntryWithin (view key.now, view value.now))) }
+    ensures within { IfOk result (λ found. IfSome found
+        (λ _. IsEntryWithin (view key.now, view value.now))) }
 {
     if !is_one_line(value) {
         return Ok(None);

@@ -33,7 +33,8 @@ pub fn scan_anchor(alloc: Global, cursor: &mut Cursor) -> Result<Text, ScanError
     requires { is_among (codes "*&") (slice_index cursor.old.left 0) ≡ true }
     ensures value { Reads (anchor_from cursor.old) result cursor.new }
     ensures onward { (p : Place) → Later p cursor.old → Later p cursor.new }
-    ensures sum { cursor.new.index + length cursor.new.left ≡ cursor.old.index + length cursor.old.left }
+    ensures sum { cursor.new.index + length cursor.new.left
+        ≡ cursor.old.index + length cursor.old.left }
     ensures lighter { length cursor.new.left ≤ length cursor.old.left }
     ensures falls { OnOk result (length cursor.new.left + 1 ≤ length cursor.old.left) }
     ensures cause { IfErr result (λ e. IsExplained cursor.old e) }

@@ -31,10 +31,12 @@ pub enum Directive {
 
 /// Reads the name of a directive.
 fn scan_directive_name<'a>(cursor: &mut Cursor<'a>) -> Result<&'a str, ScanError>
-    ensures ok { IfOk result (λ name. entitled (run_of is_alpha cursor.old) ≡ found (chars name.now) cursor.new) }
+    ensures ok { IfOk result (λ name. entitled (run_of is_alpha cursor.old)
+        ≡ found (chars name.now) cursor.new) }
     ensures err { IfErr result (λ e. Refuses (entitled (run_of is_alpha cursor.old)) e) }
     ensures onward { (p : Place) → Later p cursor.old → Later p cursor.new }
-    ensures sum { cursor.new.index + length cursor.new.left ≡ cursor.old.index + length cursor.old.left }
+    ensures sum { cursor.new.index + length cursor.new.left
+        ≡ cursor.old.index + length cursor.old.left }
     ensures lighter { length cursor.new.left ≤ length cursor.old.left }
     ensures cause { IfErr result (λ e. IsRefusedBy (codes "%") (mark_of cursor.old) e) }
 {
@@ -52,7 +54,8 @@ fn scan_directive_name<'a>(cursor: &mut Cursor<'a>) -> Result<&'a str, ScanError
 /// The number that the digits write.
 fn number_of(digits: &str, mark: Marker) -> Result<u32, ScanError>
     requires { (cs : List ℕ) × (chars digits.now ≡ take_while is_digit cs) }
-    ensures value { (p : Place) → Reads (number_of (record { value = chars digits.now; place = p })) result p }
+    ensures value { (p : Place) → Reads (number_of
+        (record { value = chars digits.now; place = p })) result p }
     ensures cause { IfErr result (λ e. IsRefusedBy (codes "%") mark e) }
 {
     if is_nil(digits) {
@@ -71,7 +74,8 @@ fn number_of(digits: &str, mark: Marker) -> Result<u32, ScanError>
 fn scan_version_directive_number(cursor: &mut Cursor, mark: Marker) -> Result<u32, ScanError>
     ensures value { Reads (number_from cursor.old) result cursor.new }
     ensures onward { (p : Place) → Later p cursor.old → Later p cursor.new }
-    ensures sum { cursor.new.index + length cursor.new.left ≡ cursor.old.index + length cursor.old.left }
+    ensures sum { cursor.new.index + length cursor.new.left
+        ≡ cursor.old.index + length cursor.old.left }
     ensures lighter { length cursor.new.left ≤ length cursor.old.left }
     ensures cause { IfErr result (λ e. IsRefusedBy (codes "%") mark e) }
 {
@@ -83,7 +87,8 @@ fn scan_version_directive_number(cursor: &mut Cursor, mark: Marker) -> Result<u3
 fn scan_version_directive_value(cursor: &mut Cursor, mark: Marker) -> Result<Directive, ScanError>
     ensures value { Reads (version_from cursor.old) result cursor.new }
     ensures onward { (p : Place) → Later p cursor.old → Later p cursor.new }
-    ensures sum { cursor.new.index + length cursor.new.left ≡ cursor.old.index + length cursor.old.left }
+    ensures sum { cursor.new.index + length cursor.new.left
+        ≡ cursor.old.index + length cursor.old.left }
     ensures lighter { length cursor.new.left ≤ length cursor.old.left }
     ensures cause { IfErr result (λ e. IsRefusedBy (codes "%") mark e) }
 {
@@ -106,7 +111,8 @@ fn scan_version_directive_value(cursor: &mut Cursor, mark: Marker) -> Result<Dir
 fn scan_handle(alloc: Global, cursor: &mut Cursor, mark: Marker) -> Result<Text, ScanError>
     ensures value { Reads (handle_from cursor.old) result cursor.new }
     ensures onward { (p : Place) → Later p cursor.old → Later p cursor.new }
-    ensures sum { cursor.new.index + length cursor.new.left ≡ cursor.old.index + length cursor.old.left }
+    ensures sum { cursor.new.index + length cursor.new.left
+        ≡ cursor.old.index + length cursor.old.left }
     ensures lighter { length cursor.new.left ≤ length cursor.old.left }
     ensures cause { IfErr result (λ e. IsRefusedBy (codes "%") mark e) }
 {
@@ -135,7 +141,8 @@ fn scan_tag_directive_value(
 ) -> Result<Directive, ScanError>
     ensures value { Reads (shorthand_from cursor.old) result cursor.new }
     ensures onward { (p : Place) → Later p cursor.old → Later p cursor.new }
-    ensures sum { cursor.new.index + length cursor.new.left ≡ cursor.old.index + length cursor.old.left }
+    ensures sum { cursor.new.index + length cursor.new.left
+        ≡ cursor.old.index + length cursor.old.left }
     ensures lighter { length cursor.new.left ≤ length cursor.old.left }
     ensures cause { IfErr result (λ e. IsRefusedBy (codes "%") mark e) }
 {
@@ -163,9 +170,11 @@ fn scan_directive_value(
     mark: Marker,
     name: &str,
 ) -> Result<Directive, ScanError>
-    ensures value { Reads (said_by (record { value = chars name.now; place = cursor.old })) result cursor.new }
+    ensures value { Reads
+        (said_by (record { value = chars name.now; place = cursor.old })) result cursor.new }
     ensures onward { (p : Place) → Later p cursor.old → Later p cursor.new }
-    ensures sum { cursor.new.index + length cursor.new.left ≡ cursor.old.index + length cursor.old.left }
+    ensures sum { cursor.new.index + length cursor.new.left
+        ≡ cursor.old.index + length cursor.old.left }
     ensures lighter { length cursor.new.left ≤ length cursor.old.left }
     ensures cause { IfErr result (λ e. IsRefusedBy (codes "%") mark e) }
 {
@@ -181,9 +190,11 @@ fn scan_directive_value(
 
 /// Ends the line of a directive, which a comment may end.
 fn close(cursor: &mut Cursor, mark: Marker, directive: Directive) -> Result<Directive, ScanError>
-    ensures value { Reads (closed (record { value = directive; place = cursor.old })) result cursor.new }
+    ensures value { Reads
+        (closed (record { value = directive; place = cursor.old })) result cursor.new }
     ensures onward { (p : Place) → Later p cursor.old → Later p cursor.new }
-    ensures sum { cursor.new.index + length cursor.new.left ≡ cursor.old.index + length cursor.old.left }
+    ensures sum { cursor.new.index + length cursor.new.left
+        ≡ cursor.old.index + length cursor.old.left }
     ensures lighter { length cursor.new.left ≤ length cursor.old.left }
     ensures cause { IfErr result (λ e. IsRefusedBy (codes "%") mark e) }
 {
@@ -200,7 +211,8 @@ pub fn scan_directive(alloc: Global, cursor: &mut Cursor) -> Result<Directive, S
     requires { slice_index cursor.old.left 0 ≡ 37 }
     ensures value { Reads (directive_from cursor.old) result cursor.new }
     ensures onward { (p : Place) → Later p cursor.old → Later p cursor.new }
-    ensures sum { cursor.new.index + length cursor.new.left ≡ cursor.old.index + length cursor.old.left }
+    ensures sum { cursor.new.index + length cursor.new.left
+        ≡ cursor.old.index + length cursor.old.left }
     ensures lighter { length cursor.new.left ≤ length cursor.old.left }
     ensures falls { OnOk result (length cursor.new.left + 1 ≤ length cursor.old.left) }
     ensures cause { IfErr result (λ e. IsExplained cursor.old e) }

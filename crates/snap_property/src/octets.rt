@@ -11,12 +11,15 @@ use snap_token::info::ScanInfo;
 
 /// The octet that `%` and two hexadecimal digits spell here.
 fn octet(cursor: &mut Cursor) -> Option<u32>
-    ensures value { MatchOption result (SpellsNone cursor.old) (λ octet. Spells cursor.old (octet ∷ []) cursor.new) }
+    ensures value { MatchOption result (SpellsNone cursor.old)
+        (λ octet. Spells cursor.old (octet ∷ []) cursor.new) }
     ensures small { MatchOption result ⊤ (λ octet. octet < 256) }
     ensures onward { (p : Place) → Later p cursor.old → Later p cursor.new }
-    ensures sum { cursor.new.index + length cursor.new.left ≡ cursor.old.index + length cursor.old.left }
+    ensures sum { cursor.new.index + length cursor.new.left
+        ≡ cursor.old.index + length cursor.old.left }
     ensures lighter { length cursor.new.left ≤ length cursor.old.left }
-    ensures falls { MatchOption result ⊤ (λ _. length cursor.new.left + 1 ≤ length cursor.old.left) }
+    ensures falls { MatchOption result ⊤
+        (λ _. length cursor.new.left + 1 ≤ length cursor.old.left) }
 {
     if cursor.ch() != '%' {
         return None;
@@ -36,7 +39,9 @@ fn octet(cursor: &mut Cursor) -> Option<u32>
 /// How many octets follow the first one of a character, and the bits that the first one gives.
 fn first_octet(octet: u32) -> Option<(usize, u32)>
     requires { octet < 256 }
-    ensures value { MatchOption result (is_first octet ≡ false) (λ found. (is_first octet ≡ true) × (found.0 ≡ continuation_len octet) × (found.1 ≡ lead_bits octet)) }
+    ensures value { MatchOption result (is_first octet ≡ false)
+        (λ found. (is_first octet ≡ true) × (found.0 ≡ continuation_len octet)
+        × (found.1 ≡ lead_bits octet)) }
     ensures small { MatchOption result ⊤ (λ found. (found.0 ≤ 3) × (found.1 < 128)) }
 {
     if octet < 0x80 {
@@ -57,10 +62,12 @@ fn first_octet(octet: u32) -> Option<(usize, u32)>
 /// Adds the bits of a further octet, which must stand here, to those before it.
 fn one_further(cursor: &mut Cursor, bits: u32) -> Result<u32, ScanInfo>
     requires { bits < 67108864 }
-    ensures value { MatchResult result (λ code. Continues cursor.old 1 bits code cursor.new) (λ info. IsBadOctet info × BreaksOff cursor.old 1) }
+    ensures value { MatchResult result (λ code. Continues cursor.old 1 bits code cursor.new)
+        (λ info. IsBadOctet info × BreaksOff cursor.old 1) }
     ensures small { IfOk result (λ code. code ≤ bits * 64 + 63) }
     ensures onward { (p : Place) → Later p cursor.old → Later p cursor.new }
-    ensures sum { cursor.new.index + length cursor.new.left ≡ cursor.old.index + length cursor.old.left }
+    ensures sum { cursor.new.index + length cursor.new.left
+        ≡ cursor.old.index + length cursor.old.left }
     ensures lighter { length cursor.new.left ≤ length cursor.old.left }
 {
     match octet(cursor) {
@@ -73,9 +80,11 @@ fn one_further(cursor: &mut Cursor, bits: u32) -> Result<u32, ScanInfo>
 /// The same for two further octets.
 fn two_further(cursor: &mut Cursor, bits: u32) -> Result<u32, ScanInfo>
     requires { bits < 1048576 }
-    ensures value { MatchResult result (λ code. Continues cursor.old 2 bits code cursor.new) (λ info. IsBadOctet info × BreaksOff cursor.old 2) }
+    ensures value { MatchResult result (λ code. Continues cursor.old 2 bits code cursor.new)
+        (λ info. IsBadOctet info × BreaksOff cursor.old 2) }
     ensures onward { (p : Place) → Later p cursor.old → Later p cursor.new }
-    ensures sum { cursor.new.index + length cursor.new.left ≡ cursor.old.index + length cursor.old.left }
+    ensures sum { cursor.new.index + length cursor.new.left
+        ≡ cursor.old.index + length cursor.old.left }
     ensures lighter { length cursor.new.left ≤ length cursor.old.left }
 {
     match one_further(cursor, bits) {
@@ -87,9 +96,11 @@ fn two_further(cursor: &mut Cursor, bits: u32) -> Result<u32, ScanInfo>
 /// The same for three further octets.
 fn three_further(cursor: &mut Cursor, bits: u32) -> Result<u32, ScanInfo>
     requires { bits < 16384 }
-    ensures value { MatchResult result (λ code. Continues cursor.old 3 bits code cursor.new) (λ info. IsBadOctet info × BreaksOff cursor.old 3) }
+    ensures value { MatchResult result (λ code. Continues cursor.old 3 bits code cursor.new)
+        (λ info. IsBadOctet info × BreaksOff cursor.old 3) }
     ensures onward { (p : Place) → Later p cursor.old → Later p cursor.new }
-    ensures sum { cursor.new.index + length cursor.new.left ≡ cursor.old.index + length cursor.old.left }
+    ensures sum { cursor.new.index + length cursor.new.left
+        ≡ cursor.old.index + length cursor.old.left }
     ensures lighter { length cursor.new.left ≤ length cursor.old.left }
 {
     match one_further(cursor, bits) {
@@ -102,9 +113,11 @@ fn three_further(cursor: &mut Cursor, bits: u32) -> Result<u32, ScanInfo>
 fn further_octets(cursor: &mut Cursor, count: usize, bits: u32) -> Result<u32, ScanInfo>
     requires count { count ≤ 3 }
     requires bits { bits < 128 }
-    ensures value { MatchResult result (λ code. Continues cursor.old count bits code cursor.new) (λ info. IsBadOctet info × BreaksOff cursor.old count) }
+    ensures value { MatchResult result (λ code. Continues cursor.old count bits code cursor.new)
+        (λ info. IsBadOctet info × BreaksOff cursor.old count) }
     ensures onward { (p : Place) → Later p cursor.old → Later p cursor.new }
-    ensures sum { cursor.new.index + length cursor.new.left ≡ cursor.old.index + length cursor.old.left }
+    ensures sum { cursor.new.index + length cursor.new.left
+        ≡ cursor.old.index + length cursor.old.left }
     ensures lighter { length cursor.new.left ≤ length cursor.old.left }
 {
     if count == 0 {
@@ -133,7 +146,8 @@ fn least_code(count: usize) -> u32
 
 /// The character of a code that took so many octets behind the first one.
 fn character(code: u32, count: usize) -> Option<char>
-    ensures { MatchOption result (least_code count ≤ code → IsScalar code → ⊥) (λ c. (c ≡ code) × (least_code count ≤ code) × IsScalar code) }
+    ensures { MatchOption result (least_code count ≤ code → IsScalar code → ⊥)
+        (λ c. (c ≡ code) × (least_code count ≤ code) × IsScalar code) }
 {
     if code < least_code(count) {
         return None;
@@ -144,9 +158,12 @@ fn character(code: u32, count: usize) -> Option<char>
 /// Reads the octets of one character. Each is spelled `%hh`; together they are its shortest UTF-8.
 pub fn scan_uri_escapes(cursor: &mut Cursor) -> Result<char, ScanInfo>
     requires { slice_index cursor.old.left 0 ≡ 37 }
-    ensures value { MatchResult result (λ c. IsScalar c × Spells cursor.old (encode_utf8 c) cursor.new) (λ info. IsBadOctet info × SpellsNoCharacter cursor.old) }
+    ensures value { MatchResult result (λ c. IsScalar c
+        × Spells cursor.old (encode_utf8 c) cursor.new)
+        (λ info. IsBadOctet info × SpellsNoCharacter cursor.old) }
     ensures onward { (p : Place) → Later p cursor.old → Later p cursor.new }
-    ensures sum { cursor.new.index + length cursor.new.left ≡ cursor.old.index + length cursor.old.left }
+    ensures sum { cursor.new.index + length cursor.new.left
+        ≡ cursor.old.index + length cursor.old.left }
     ensures lighter { length cursor.new.left ≤ length cursor.old.left }
     ensures falls { OnOk result (length cursor.new.left + 1 ≤ length cursor.old.left) }
 {

@@ -22,7 +22,8 @@ pub(crate) fn take_run<'a>(cursor: &mut Cursor<'a>, kind: Kind) -> &'a str
     ensures text { chars result.now ≡ take_while (is_of kind) cursor.old.left }
     ensures place { cursor.new ≡ skipped_while (is_of kind) cursor.old }
     ensures onward { (p : Place) → Later p cursor.old → Later p cursor.new }
-    ensures sum { cursor.new.index + length cursor.new.left ≡ cursor.old.index + length cursor.old.left }
+    ensures sum { cursor.new.index + length cursor.new.left
+        ≡ cursor.old.index + length cursor.old.left }
     ensures lighter { length cursor.new.left ≤ length cursor.old.left }
 {
     let start = cursor.rest();

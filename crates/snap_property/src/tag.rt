@@ -44,7 +44,8 @@ pub(crate) fn scan_tag_uri(
 ) -> Result<Text, ScanError>
     ensures value { Reads (headed (chars head.now) (uri_from cursor.old)) result cursor.new }
     ensures onward { (p : Place) → Later p cursor.old → Later p cursor.new }
-    ensures sum { cursor.new.index + length cursor.new.left ≡ cursor.old.index + length cursor.old.left }
+    ensures sum { cursor.new.index + length cursor.new.left
+        ≡ cursor.old.index + length cursor.old.left }
     ensures lighter { length cursor.new.left ≤ length cursor.old.left }
     ensures cause { IfErr result (λ e. IsRefusedBy (codes "!%") mark e) }
 {
@@ -73,7 +74,8 @@ pub(crate) fn scan_some_uri(
 ) -> Result<Text, ScanError>
     ensures value { Reads (some_uri_from cursor.old) result cursor.new }
     ensures onward { (p : Place) → Later p cursor.old → Later p cursor.new }
-    ensures sum { cursor.new.index + length cursor.new.left ≡ cursor.old.index + length cursor.old.left }
+    ensures sum { cursor.new.index + length cursor.new.left
+        ≡ cursor.old.index + length cursor.old.left }
     ensures lighter { length cursor.new.left ≤ length cursor.old.left }
     ensures cause { IfErr result (λ e. IsRefusedBy (codes "!%") mark e) }
 {
@@ -93,7 +95,8 @@ fn scan_verbatim(alloc: Global, cursor: &mut Cursor, mark: Marker) -> Result<Tag
     requires { slice_index cursor.old.left 0 ≢ 0 }
     ensures value { Reads (verbatim cursor.old) result cursor.new }
     ensures onward { (p : Place) → Later p cursor.old → Later p cursor.new }
-    ensures sum { cursor.new.index + length cursor.new.left ≡ cursor.old.index + length cursor.old.left }
+    ensures sum { cursor.new.index + length cursor.new.left
+        ≡ cursor.old.index + length cursor.old.left }
     ensures lighter { length cursor.new.left ≤ length cursor.old.left }
     ensures falls { OnOk result (length cursor.new.left + 1 ≤ length cursor.old.left) }
     ensures cause { IfErr result (λ e. IsRefusedBy (codes "!") mark e) }
@@ -122,9 +125,11 @@ fn scan_with_handle(
     mark: Marker,
     name: &str,
 ) -> Result<Tag, ScanError>
-    ensures value { Reads (with_handle (record { value = chars name.now; place = cursor.old })) result cursor.new }
+    ensures value { Reads
+        (with_handle (record { value = chars name.now; place = cursor.old })) result cursor.new }
     ensures onward { (p : Place) → Later p cursor.old → Later p cursor.new }
-    ensures sum { cursor.new.index + length cursor.new.left ≡ cursor.old.index + length cursor.old.left }
+    ensures sum { cursor.new.index + length cursor.new.left
+        ≡ cursor.old.index + length cursor.old.left }
     ensures lighter { length cursor.new.left ≤ length cursor.old.left }
     ensures cause { IfErr result (λ e. IsRefusedBy (codes "!") mark e) }
 {
@@ -160,9 +165,11 @@ fn scan_local(
     mark: Marker,
     head: &str,
 ) -> Result<Tag, ScanError>
-    ensures value { (p : Place) → headed (chars head.now) (uri_from cursor.old) ≡ uri_from p → Reads (local p) result cursor.new }
+    ensures value { (p : Place) → headed (chars head.now) (uri_from cursor.old) ≡ uri_from p
+        → Reads (local p) result cursor.new }
     ensures onward { (p : Place) → Later p cursor.old → Later p cursor.new }
-    ensures sum { cursor.new.index + length cursor.new.left ≡ cursor.old.index + length cursor.old.left }
+    ensures sum { cursor.new.index + length cursor.new.left
+        ≡ cursor.old.index + length cursor.old.left }
     ensures lighter { length cursor.new.left ≤ length cursor.old.left }
     ensures cause { IfErr result (λ e. IsRefusedBy (codes "!") mark e) }
 {
@@ -177,7 +184,8 @@ fn scan_local(
 fn scan_shorthand(alloc: Global, cursor: &mut Cursor, mark: Marker) -> Result<Tag, ScanError>
     ensures value { Reads (shorthand cursor.old) result cursor.new }
     ensures onward { (p : Place) → Later p cursor.old → Later p cursor.new }
-    ensures sum { cursor.new.index + length cursor.new.left ≡ cursor.old.index + length cursor.old.left }
+    ensures sum { cursor.new.index + length cursor.new.left
+        ≡ cursor.old.index + length cursor.old.left }
     ensures lighter { length cursor.new.left ≤ length cursor.old.left }
     ensures cause { IfErr result (λ e. IsRefusedBy (codes "!") mark e) }
 {
@@ -193,7 +201,8 @@ fn scan_any_tag(alloc: Global, cursor: &mut Cursor, mark: Marker) -> Result<Tag,
     requires { slice_index cursor.old.left 0 ≢ 0 }
     ensures value { Reads (any_tag cursor.old) result cursor.new }
     ensures onward { (p : Place) → Later p cursor.old → Later p cursor.new }
-    ensures sum { cursor.new.index + length cursor.new.left ≡ cursor.old.index + length cursor.old.left }
+    ensures sum { cursor.new.index + length cursor.new.left
+        ≡ cursor.old.index + length cursor.old.left }
     ensures lighter { length cursor.new.left ≤ length cursor.old.left }
     ensures falls { OnOk result (length cursor.new.left + 1 ≤ length cursor.old.left) }
     ensures cause { IfErr result (λ e. IsRefusedBy (codes "!") mark e) }
@@ -210,7 +219,8 @@ pub fn scan_tag(alloc: Global, cursor: &mut Cursor) -> Result<Tag, ScanError>
     requires { slice_index cursor.old.left 0 ≡ 33 }
     ensures value { Reads (tag_from cursor.old) result cursor.new }
     ensures onward { (p : Place) → Later p cursor.old → Later p cursor.new }
-    ensures sum { cursor.new.index + length cursor.new.left ≡ cursor.old.index + length cursor.old.left }
+    ensures sum { cursor.new.index + length cursor.new.left
+        ≡ cursor.old.index + length cursor.old.left }
     ensures lighter { length cursor.new.left ≤ length cursor.old.left }
     ensures falls { OnOk result (length cursor.new.left + 1 ≤ length cursor.old.left) }
     ensures cause { IfErr result (λ e. IsExplained cursor.old e) }

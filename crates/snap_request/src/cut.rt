@@ -4,7 +4,8 @@ ghost use Rattle.snap_request.specs.Cut.{documents, begins_document, ends_line, 
 
 /// What follows the byte, where the bytes begin with it.
 fn after_byte(bytes: &[u8], byte: u8) -> Option<&[u8]>
-    ensures { MatchOption result ((rest : List ℕ) → bytes.now ≡ byte ∷ rest → ⊥) (λ rest. bytes.now ≡ byte ∷ rest.now) }
+    ensures { MatchOption result ((rest : List ℕ) → bytes.now ≡ byte ∷ rest → ⊥)
+        (λ rest. bytes.now ≡ byte ∷ rest.now) }
 {
     match bytes.split_first() {
         Some((first, rest)) if *first == byte => Some(rest),
@@ -32,7 +33,8 @@ fn is_returned_end(bytes: &[u8]) -> bool
 
 /// What follows three dashes.
 fn after_dashes(bytes: &[u8]) -> Option<&[u8]>
-    ensures { MatchOption result (begins_document bytes.now ≡ false) (λ rest. bytes.now ≡ 45 ∷ 45 ∷ 45 ∷ rest.now) }
+    ensures { MatchOption result (begins_document bytes.now ≡ false)
+        (λ rest. bytes.now ≡ 45 ∷ 45 ∷ 45 ∷ rest.now) }
 {
     let bytes = after_byte(bytes, b'-')?;
     let bytes = after_byte(bytes, b'-')?;

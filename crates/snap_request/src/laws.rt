@@ -10,5 +10,6 @@ pub const fn cut_loses_nothing()
 
 /// Documents at concrete values.
 pub const fn worked_examples()
-    ensures cut { documents (codes "a: 1\n---\nb\n ---\n---\r\nc") ≡ codes "a: 1\n" ∷ codes "---\nb\n ---\n" ∷ codes "---\r\nc" ∷ [] }
+    ensures cut { documents (codes "a: 1\n---\nb\n ---\n---\r\nc")
+        ≡ codes "a: 1\n" ∷ codes "---\nb\n ---\n" ∷ codes "---\r\nc" ∷ [] }
 {}

@@ -22,7 +22,8 @@ pub fn redactions_of_pairs(
     pairs: &[(Content, Content)],
 ) -> Result<Option<Redactions>, OutOfMemory>
     ensures { (entries : Entries) → pair_trees pairs.now ≡ pairs_made entries
-        → IfOk result (λ found. option_map redactions_of found ≡ redactions_from (last_value (codes "redactions") entries)) }
+        → IfOk result (λ found. option_map redactions_of found
+        ≡ redactions_from (last_value (codes "redactions") entries)) }
 {
     match value_named(pairs, "redactions") {
         None => Ok(Some(Redactions::new(alloc))),
@@ -32,7 +33,8 @@ pub fn redactions_of_pairs(
 }
 
 fn read_redactions(alloc: Global, items: &[Content]) -> Result<Option<Redactions>, OutOfMemory>
-    ensures { (plains : Plains) → item_trees items.now ≡ trees_made plains → IfOk result (λ found. option_map redactions_of found ≡ redactions_in plains) }
+    ensures { (plains : Plains) → item_trees items.now ≡ trees_made plains
+        → IfOk result (λ found. option_map redactions_of found ≡ redactions_in plains) }
 {
     let mut redactions = Redactions::new(alloc);
     for item in items {
@@ -49,7 +51,8 @@ fn read_redaction(
     alloc: Global,
     content: &Content,
 ) -> Result<Option<(Selector<'static>, Redaction)>, OutOfMemory>
-    ensures { (plain : Plain) → tree content.now ≡ content_of plain → IfOk result (λ found. option_map redaction_of found ≡ redaction_in plain) }
+    ensures { (plain : Plain) → tree content.now ≡ content_of plain
+        → IfOk result (λ found. option_map redaction_of found ≡ redaction_in plain) }
 {
     match content {
         Content::Map(pairs) => redaction_of_pairs(alloc, pairs.as_slice()),
@@ -61,7 +64,8 @@ fn redaction_of_pairs(
     alloc: Global,
     pairs: &[(Content, Content)],
 ) -> Result<Option<(Selector<'static>, Redaction)>, OutOfMemory>
-    ensures { (entries : Entries) → pair_trees pairs.now ≡ pairs_made entries → IfOk result (λ found. option_map redaction_of found ≡ redaction_in (dict entries)) }
+    ensures { (entries : Entries) → pair_trees pairs.now ≡ pairs_made entries
+        → IfOk result (λ found. option_map redaction_of found ≡ redaction_in (dict entries)) }
 {
     if !are_keyed(pairs) {
         return Ok(None);
@@ -81,14 +85,16 @@ fn redaction_of_pairs(
 
 /// Whether the keys are those of a redaction, each once.
 fn are_keyed(pairs: &[(Content, Content)]) -> bool
-    ensures { (entries : Entries) → pair_trees pairs.now ≡ pairs_made entries → result ≡ is_keyed redaction_keys entries }
+    ensures { (entries : Entries) → pair_trees pairs.now ≡ pairs_made entries
+        → result ≡ is_keyed redaction_keys entries }
 {
     pairs.len() == held_keys(pairs)
 }
 
 /// How many keys of a redaction are among the pairs.
 fn held_keys(pairs: &[(Content, Content)]) -> usize
-    ensures { (entries : Entries) → pair_trees pairs.now ≡ pairs_made entries → result ≡ count_by (holds_key entries) redaction_keys }
+    ensures { (entries : Entries) → pair_trees pairs.now ≡ pairs_made entries
+        → result ≡ count_by (holds_key entries) redaction_keys }
 {
     count_of_key(pairs, "at") + count_of_key(pairs, "put")
 }

@@ -51,7 +51,8 @@ fn request_of_pairs(
     alloc: Global,
     pairs: &[(Content, Content)],
 ) -> Result<Option<Request>, OutOfMemory>
-    ensures { (entries : Entries) → pair_trees pairs.now ≡ pairs_made entries → IfOk result (λ found. option_map request_of found ≡ request_in (dict entries)) }
+    ensures { (entries : Entries) → pair_trees pairs.now ≡ pairs_made entries
+        → IfOk result (λ found. option_map request_of found ≡ request_in (dict entries)) }
 {
     if !are_keyed(pairs) {
         return Ok(None);
@@ -94,7 +95,8 @@ fn request_of_pairs(
 /// One where the key is among the pairs, else none.
 pub(crate) fn count_of_key(pairs: &[(Content, Content)], name: &str) -> usize
     requires { IsTrue (list_all is_ascii name.now) }
-    ensures count { (entries : Entries) → pair_trees pairs.now ≡ pairs_made entries → result ≡ (if holds_key entries name.now then 1 else 0) }
+    ensures count { (entries : Entries) → pair_trees pairs.now ≡ pairs_made entries
+        → result ≡ (if holds_key entries name.now then 1 else 0) }
     ensures small { result ≤ 1 }
 {
     match value_named(pairs, name) {
@@ -105,7 +107,8 @@ pub(crate) fn count_of_key(pairs: &[(Content, Content)], name: &str) -> usize
 
 /// How many keys of a request are among the pairs.
 fn held_keys(pairs: &[(Content, Content)]) -> usize
-    ensures { (entries : Entries) → pair_trees pairs.now ≡ pairs_made entries → result ≡ count_by (holds_key entries) request_keys }
+    ensures { (entries : Entries) → pair_trees pairs.now ≡ pairs_made entries
+        → result ≡ count_by (holds_key entries) request_keys }
 {
     let place = count_of_key(pairs, "module")
         + count_of_key(pairs, "file")
@@ -118,14 +121,16 @@ fn held_keys(pairs: &[(Content, Content)]) -> usize
 
 /// Whether there are as many pairs as keys of a request among them.
 fn are_keyed(pairs: &[(Content, Content)]) -> bool
-    ensures { (entries : Entries) → pair_trees pairs.now ≡ pairs_made entries → result ≡ is_keyed request_keys entries }
+    ensures { (entries : Entries) → pair_trees pairs.now ≡ pairs_made entries
+        → result ≡ is_keyed request_keys entries }
 {
     pairs.len() == held_keys(pairs)
 }
 
 /// The request that a tree is, where a reader made it.
 fn request_of_content(alloc: Global, content: &Content) -> Result<Option<Request>, OutOfMemory>
-    ensures { (plain : Plain) → tree content.now ≡ content_of plain → IfOk result (λ found. option_map request_of found ≡ request_in plain) }
+    ensures { (plain : Plain) → tree content.now ≡ content_of plain
+        → IfOk result (λ found. option_map request_of found ≡ request_in plain) }
 {
     let Content::Map(pairs) = content else {
         return Ok(None);
@@ -136,7 +141,8 @@ fn request_of_content(alloc: Global, content: &Content) -> Result<Option<Request
 /// Reads a document. It is refused exactly where it is no printed text of a request with simple keys.
 pub fn read_request(alloc: Global, document: &[u8]) -> Result<Request, RequestError>
     ensures ok { IfOk result (λ request. ReadsAs document.now (request_of request)) }
-    ensures refused { IsErrOf result RequestError.NoRequest → (r : RequestView) → Spells document.now r → ⊥ }
+    ensures refused { IsErrOf result RequestError.NoRequest → (r : RequestView)
+        → Spells document.now r → ⊥ }
 {
     let Ok(text) = str::from_utf8(document) else {
         return Err(RequestError::NoRequest);

@@ -27,7 +27,8 @@ fn message(alloc: Global, status: &Status) -> Result<Text, OutOfMemory>
 /// Where there is no memory for the message nothing is told, and a fault of the sink has nowhere to be told.
 pub fn conclude<E: Sink>(alloc: Global, status: &Status, errors: &mut E) -> u8
     ensures code { result ≡ code_of status.now }
-    ensures said { IsSaid status.now (E.faults errors.old) (E.faults errors.new) (E.written errors.old) (E.written errors.new) }
+    ensures said { IsSaid status.now (E.faults errors.old) (E.faults errors.new)
+        (E.written errors.old) (E.written errors.new) }
 {
     let code = status.code();
     if code >= 2 {
@@ -46,8 +47,10 @@ fn run_arguments<S: Source, K: Sink, F: Store>(
     sink: &mut K,
     store: &mut F,
 ) -> Status
-    ensures { IsRunOf (words_given (arguments_of arguments)) result (S.left source.old) (F.files store.old) (F.files store.new) (K.written sink.old) (K.written sink.new)
-        ⊎ IsNotBegun result (F.files store.old) (F.files store.new) (K.written sink.old) (K.written sink.new) }
+    ensures { IsRunOf (words_given (arguments_of arguments)) result (S.left source.old)
+        (F.files store.old) (F.files store.new) (K.written sink.old) (K.written sink.new)
+        ⊎ IsNotBegun result (F.files store.old) (F.files store.new) (K.written sink.old)
+        (K.written sink.new) }
 {
     match words_in(alloc, arguments) {
         Ok(words) => run(alloc, &words, source, sink, store),
@@ -65,8 +68,10 @@ pub fn program<S: Source, K: Sink, E: Sink, F: Store>(
     errors: &mut E,
     store: &mut F,
 ) -> u8
-    ensures { Ends result (words_given (arguments_of arguments)) (S.left source.old) (F.files store.old) (F.files store.new)
-        (K.written sink.old) (K.written sink.new) (E.faults errors.old) (E.faults errors.new) (E.written errors.old) (E.written errors.new) }
+    ensures { Ends result (words_given (arguments_of arguments)) (S.left source.old)
+        (F.files store.old) (F.files store.new)
+        (K.written sink.old) (K.written sink.new) (E.faults errors.old) (E.faults errors.new)
+        (E.written errors.old) (E.written errors.new) }
 {
     let status = run_arguments(alloc, arguments, source, sink, store);
     conclude(alloc, &status, errors)

@@ -61,7 +61,8 @@ fn place_of_request(
     request: &Request,
 ) -> Result<Place, DocumentError>
     requires { names_file request.now.file ≡ true }
-    ensures place { IfOk result (λ place. place_of place ≡ place_by runner.now.workspace (request_of request.now)) }
+    ensures place { IfOk result (λ place. place_of place
+        ≡ place_by runner.now.workspace (request_of request.now)) }
     ensures memory { IfErr result (λ error. error ≡ DocumentError.OutOfMemory) }
 {
     let Ok(workspace) = runner.workspace.try_clone(alloc) else {
@@ -92,7 +93,8 @@ fn place_of_request(
 /// Why a document stops a run where its assertion comes to no answer. While a name is given and no block is open,
 /// there are no refusals but these two.
 fn error_of(error: AssertError) -> DocumentError
-    ensures file { (path : List ℕ) → error ≡ AssertError.FileIo path → result ≡ DocumentError.FileIo path }
+    ensures file { (path : List ℕ) → error ≡ AssertError.FileIo path
+        → result ≡ DocumentError.FileIo path }
     ensures memory { error ≡ AssertError.OutOfMemory → result ≡ DocumentError.OutOfMemory }
 {
     match error {
@@ -110,8 +112,12 @@ fn assert_document<F: Store>(
     store: &mut F,
 ) -> Result<Outcome, DocumentError>
     requires { IsReady runner.now }
-    ensures ok { IfOk result (λ outcome. IsDocumentAnswered (words_of runner.now) document.now outcome (F.files store.old) (F.files store.new)) }
-    ensures err { IfErr result (λ error. AssertionStops (words_of runner.now) error document.now (F.files store.old) (F.files store.new)) }
+    ensures ok { IfOk result (λ outcome.
+        IsDocumentAnswered (words_of runner.now) document.now outcome (F.files store.old)
+        (F.files store.new)) }
+    ensures err { IfErr result (λ error.
+        AssertionStops (words_of runner.now) error document.now (F.files store.old)
+        (F.files store.new)) }
     ensures store_count { StoreCount (F.faults store.old) (F.faults store.new) result }
 {
     let request = match read_request(alloc, document) {

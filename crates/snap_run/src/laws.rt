@@ -5,7 +5,8 @@ ghost use Rattle.snap_settings.specs.declared.config.Update.TheVariants.{InPlace
 
 /// Where the mode writes in place no answer fails, so a run does not end with failures.
 pub const fn nothing_fails_in_place()
-    ensures { (words : RunWords) (answers : List Answer) → words.update ≡ InPlace → some_fails words answers ≡ false }
+    ensures { (words : RunWords) (answers : List Answer) → words.update ≡ InPlace
+        → some_fails words answers ≡ false }
 {}
 
 /// Words at concrete values.

@@ -23,7 +23,8 @@ impl Runner {
         update: Update,
         flags: Flags,
     ) -> Result<Runner, OutOfMemory>
-        ensures words { IfOk result (λ runner. words_of runner ≡ words_at workspace.now update flags) }
+        ensures words { IfOk result (λ runner. words_of runner
+            ≡ words_at workspace.now update flags) }
         ensures ready { IfOk result (λ runner. IsReady runner) }
     {
         let config = Config {

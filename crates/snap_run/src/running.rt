@@ -83,21 +83,30 @@ pub fn run<S: Source, K: Sink, F: Store>(
     store: &mut F,
 ) -> Status
     ensures words { WordsCause words.now result }
-    ensures told { (text : List ℕ) → text_asked words.now ≡ Some text → IsTold text result (K.written sink.old) (K.written sink.new) }
-    ensures untouched { (text : List ℕ) → text_asked words.now ≡ Some text → (source.new ≡ source.old) × (store.new ≡ store.old) }
-    ensures runs { text_asked words.now ≡ None → RunsFrom result (words_mean words.now) (S.left source.old)
+    ensures told { (text : List ℕ) → text_asked words.now ≡ Some text
+        → IsTold text result (K.written sink.old) (K.written sink.new) }
+    ensures untouched { (text : List ℕ) → text_asked words.now ≡ Some text
+        → (source.new ≡ source.old) × (store.new ≡ store.old) }
+    ensures runs { text_asked words.now ≡ None
+        → RunsFrom result (words_mean words.now) (S.left source.old)
         (F.files store.old) (F.files store.new) (K.written sink.old) (K.written sink.new) }
     // Whatever the status is: no file is written but those of the mode, so the approved ones only in place.
     ensures kept { (input : List ℕ) → text_asked words.now ≡ None → S.left source.old ≡ Some input
-        → KeptByRun (words_mean words.now) (documents input) (F.files store.old) (F.files store.new) }
-    ensures length { text_asked words.now ≡ None → LengthCause input_limit (S.left source.old) (S.left source.new) result }
+        → KeptByRun (words_mean words.now) (documents input) (F.files store.old)
+        (F.files store.new) }
+    ensures length { text_asked words.now ≡ None
+        → LengthCause input_limit (S.left source.old) (S.left source.new) result }
     ensures taken { TakesAtMost (input_limit + 1) (S.left source.old) (S.left source.new) }
     ensures read { SourceCause (S.faults source.old) (S.faults source.new) result }
     ensures write { SinkCause (K.faults sink.old) (K.faults sink.new) result }
     ensures file { StoreCause (F.faults store.old) (F.faults store.new) result }
     // Without faults, a run over documents that spell requests ends well.
-    ensures complete { (input : List ℕ) (said : RunWords) → S.left source.old ≡ Some input → words_mean words.now ≡ Some said → AreSpelled (documents input) → length input ≤ input_limit
-        → IsSteady (S.faults source.old) (S.faults source.new) → IsSteady (K.faults sink.old) (K.faults sink.new) → IsSteady (F.faults store.old) (F.faults store.new)
+    ensures complete { (input : List ℕ) (said : RunWords) → S.left source.old ≡ Some input
+        → words_mean words.now ≡ Some said → AreSpelled (documents input)
+        → length input ≤ input_limit
+        → IsSteady (S.faults source.old) (S.faults source.new)
+        → IsSteady (K.faults sink.old) (K.faults sink.new)
+        → IsSteady (F.faults store.old) (F.faults store.new)
         → EndsWell result }
 {
     match text_in(words) {

@@ -55,7 +55,8 @@ Exit status:
 
 /// The text that the words ask for, where they ask for one.
 pub fn text_in(words: &[Text]) -> Option<&'static str>
-    ensures { MatchOption result (text_asked words.now ≡ None) (λ text. text_asked words.now ≡ Some text.now) }
+    ensures { MatchOption result (text_asked words.now ≡ None)
+        (λ text. text_asked words.now ≡ Some text.now) }
 {
     match words {
         [word] => {

@@ -35,8 +35,10 @@ impl<'a> Fetcher<'a> {
     /// Fetches until the first held token can be given.
     pub(crate) fn fetch_more_tokens(&mut self) -> ScanResult
         ensures ready { OnOk result (IsReady (state_of self.new)) }
-        ensures done { has_ended (state_of self.old) ≡ true → state_of self.new ≡ state_of self.old }
-        ensures fresh { has_ended (state_of self.old) ≡ false → OnOk result (has_ended (state_of self.new) ≡ false) }
+        ensures done { has_ended (state_of self.old) ≡ true
+            → state_of self.new ≡ state_of self.old }
+        ensures fresh { has_ended (state_of self.old) ≡ false
+            → OnOk result (has_ended (state_of self.new) ≡ false) }
         ensures law { OnOk result (left_of (state_of self.new) ≤ left_of (state_of self.old)) }
         ensures sound { KeepsSound result (state_of self.old) (state_of self.new) }
     {
@@ -53,8 +55,10 @@ impl<'a> Fetcher<'a> {
 
     /// Takes the first held token out.
     fn take_first(&mut self) -> Option<Token<'a>>
-        ensures { MatchOption result (((state_of self.old).held ≡ []) × (state_of self.new ≡ state_of self.old))
-            (λ token. ((state_of self.old).held ≡ token ∷ (state_of self.new).held) × (state_of self.new ≡ given (state_of self.old))) }
+        ensures { MatchOption result (((state_of self.old).held ≡ [])
+            × (state_of self.new ≡ state_of self.old))
+            (λ token. ((state_of self.old).held ≡ token ∷ (state_of self.new).held)
+            × (state_of self.new ≡ given (state_of self.old))) }
     {
         match self.tokens.pop_front() {
             None => None,

@@ -9,7 +9,8 @@ use snap_token::characters::{is_break, is_break_or_end};
 impl<'a> Fetcher<'a> {
     /// Goes to the next character that begins a token, or to the end.
     pub(crate) fn skip_to_next_token(&mut self)
-        ensures value { state_of self.new ≡ to_next (state_of self.old).place.left (state_of self.old) }
+        ensures value { state_of self.new
+            ≡ to_next (state_of self.old).place.left (state_of self.old) }
         ensures still { self.new.ended ≡ self.old.ended }
         ensures cost { spent (state_of self.new) ≤ spent (state_of self.old) }
         ensures work { work (state_of self.new) ≤ work (state_of self.old) }
@@ -33,7 +34,8 @@ impl<'a> Fetcher<'a> {
     }
 
     fn skip_comment(&mut self)
-        ensures value { past_comment (state_of self.new).place.left (state_of self.new) ≡ past_comment (state_of self.old).place.left (state_of self.old) }
+        ensures value { past_comment (state_of self.new).place.left (state_of self.new)
+            ≡ past_comment (state_of self.old).place.left (state_of self.old) }
         ensures stops { is_break_or_end (slice_index (state_of self.new).place.left 0) ≡ true }
         ensures still { self.new.ended ≡ self.old.ended }
         ensures cost { spent (state_of self.new) ≤ spent (state_of self.old) }

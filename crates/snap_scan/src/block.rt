@@ -51,7 +51,8 @@ impl<'a> Fetcher<'a> {
     /// `:`.
     pub(crate) fn fetch_value(&mut self) -> ScanResult
         requires { slice_index (state_of self.old).place.left 0 ≢ 0 }
-        ensures value { Does (value_behind (state_of self.old).keys.key (state_of self.old)) result (state_of self.new) }
+        ensures value { Does (value_behind (state_of self.old).keys.key (state_of self.old)) result
+            (state_of self.new) }
         ensures cost { OnOk result (spent (state_of self.new) ≤ spent (state_of self.old)) }
         ensures work { OnOk result (work (state_of self.new) < work (state_of self.old)) }
     {

@@ -36,13 +36,15 @@ impl Columns {
 
     /// Takes the innermost column away.
     pub fn pop(&mut self) -> Option<usize>
-        ensures { MatchOption result ((self.old ≡ []) × (self.new ≡ [])) (λ column. self.old ≡ column ∷ self.new) }
+        ensures { MatchOption result ((self.old ≡ []) × (self.new ≡ []))
+            (λ column. self.old ≡ column ∷ self.new) }
     {
         self.held.pop_front()
     }
 
     pub fn innermost(&self) -> Option<usize>
-        ensures { MatchOption result (self.now ≡ []) (λ column. (outer : List ℕ) × (self.now ≡ column ∷ outer)) }
+        ensures { MatchOption result (self.now ≡ [])
+            (λ column. (outer : List ℕ) × (self.now ≡ column ∷ outer)) }
     {
         self.held.front().copied()
     }

@@ -15,7 +15,8 @@ use snap_token::{TScalarStyle, TokenType};
 impl<'a> Fetcher<'a> {
     pub(crate) fn fetch_alias(&mut self) -> ScanResult
         requires { slice_index (state_of self.old).place.left 0 ≡ 42 }
-        ensures value { Does (read_key k.Alias false (state_of self.old)) result (state_of self.new) }
+        ensures value { Does (read_key k.Alias false (state_of self.old)) result
+            (state_of self.new) }
         ensures cost { OnOk result (spent (state_of self.new) ≤ spent (state_of self.old)) }
         ensures work { OnOk result (work (state_of self.new) < work (state_of self.old)) }
     {
@@ -28,7 +29,8 @@ impl<'a> Fetcher<'a> {
 
     pub(crate) fn fetch_anchor(&mut self) -> ScanResult
         requires { slice_index (state_of self.old).place.left 0 ≡ 38 }
-        ensures value { Does (read_key k.Anchor false (state_of self.old)) result (state_of self.new) }
+        ensures value { Does (read_key k.Anchor false (state_of self.old)) result
+            (state_of self.new) }
         ensures cost { OnOk result (spent (state_of self.new) ≤ spent (state_of self.old)) }
         ensures work { OnOk result (work (state_of self.new) < work (state_of self.old)) }
     {
@@ -55,7 +57,8 @@ impl<'a> Fetcher<'a> {
     /// `|`, behind whose text a simple key may begin.
     pub(crate) fn fetch_literal(&mut self) -> ScanResult
         requires { slice_index (state_of self.old).place.left 0 ≡ 124 }
-        ensures value { Does (read_key k.Literal true (state_of self.old)) result (state_of self.new) }
+        ensures value { Does (read_key k.Literal true (state_of self.old)) result
+            (state_of self.new) }
         ensures cost { OnOk result (spent (state_of self.new) ≤ spent (state_of self.old)) }
         ensures work { OnOk result (work (state_of self.new) < work (state_of self.old)) }
     {
@@ -76,7 +79,8 @@ impl<'a> Fetcher<'a> {
     /// `>`, behind whose text a simple key may begin.
     pub(crate) fn fetch_folded(&mut self) -> ScanResult
         requires { slice_index (state_of self.old).place.left 0 ≡ 62 }
-        ensures value { Does (read_key k.Folded true (state_of self.old)) result (state_of self.new) }
+        ensures value { Does (read_key k.Folded true (state_of self.old)) result
+            (state_of self.new) }
         ensures cost { OnOk result (spent (state_of self.new) ≤ spent (state_of self.old)) }
         ensures work { OnOk result (work (state_of self.new) < work (state_of self.old)) }
     {

@@ -16,8 +16,10 @@ impl<'a> Fetcher<'a> {
     /// Gives up the keys that can be none here; one that must become a key is a fault.
     pub(crate) fn stale_simple_keys(&mut self) -> ScanResult
         ensures value { MatchResult result
-            (λ _. (any_overdue (mark_of (state_of self.old).place) (state_of self.old).keys ≡ false) × (state_of self.new ≡ stale (state_of self.old)))
-            (λ e. (any_overdue (mark_of (state_of self.old).place) (state_of self.old).keys ≡ true) × (e ≡ Syntax (mark_of (state_of self.old).place) S1)) }
+            (λ _. (any_overdue (mark_of (state_of self.old).place) (state_of self.old).keys ≡ false)
+            × (state_of self.new ≡ stale (state_of self.old)))
+            (λ e. (any_overdue (mark_of (state_of self.old).place) (state_of self.old).keys ≡ true)
+            × (e ≡ Syntax (mark_of (state_of self.old).place) S1)) }
         ensures still { OnOk result (self.new.ended ≡ self.old.ended) }
         ensures cost { OnOk result (spent (state_of self.new) ≡ spent (state_of self.old)) }
         ensures work { OnOk result (work (state_of self.new) ≡ work (state_of self.old)) }
@@ -87,7 +89,8 @@ impl<'a> Fetcher<'a> {
     pub(crate) fn fetch_next_token(&mut self) -> ScanResult
         ensures value { Does (step (state_of self.old)) result (state_of self.new) }
         ensures law { OnOk result (left_of (state_of self.new) ≤ left_of (state_of self.old)) }
-        ensures work { self.old.ended ≡ false → OnOk result (work (state_of self.new) < work (state_of self.old)) }
+        ensures work { self.old.ended ≡ false
+            → OnOk result (work (state_of self.new) < work (state_of self.old)) }
         ensures more { self.old.ended ≡ false → OnOk result (1 ≤ length (state_of self.new).held) }
     {
         if self.ended {

@@ -56,7 +56,8 @@ impl<'a> Fetcher<'a> {
     }
 
     pub(crate) fn push_token(&mut self, mark: Marker, kind: TokenType<'a>) -> ScanResult
-        ensures value { Gives result (state_of self.new) (pushed (at mark kind.entry) (state_of self.old)) }
+        ensures value { Gives result (state_of self.new)
+            (pushed (at mark kind.entry) (state_of self.old)) }
         ensures still { self.new.ended ≡ self.old.ended }
         ensures cost { OnOk result (spent (state_of self.new) ≡ spent (state_of self.old) + 1) }
         ensures work { OnOk result (work (state_of self.new) ≡ work (state_of self.old)) }
@@ -71,7 +72,8 @@ impl<'a> Fetcher<'a> {
         mark: Marker,
         kind: TokenType<'a>,
     ) -> ScanResult
-        ensures value { Gives result (state_of self.new) (inserted place (at mark kind.entry) (state_of self.old)) }
+        ensures value { Gives result (state_of self.new)
+            (inserted place (at mark kind.entry) (state_of self.old)) }
         ensures cost { OnOk result (spent (state_of self.new) ≡ spent (state_of self.old) + 1) }
         ensures work { OnOk result (work (state_of self.new) ≡ work (state_of self.old)) }
     {
@@ -86,8 +88,10 @@ impl<'a> Fetcher<'a> {
         ensures still { self.new.ended ≡ self.old.ended }
         ensures no_cost { spent (state_of self.new) ≤ spent (state_of self.old) }
         ensures no_work { work (state_of self.new) ≤ work (state_of self.old) }
-        ensures cost { slice_index (state_of self.old).place.left 0 ≢ 0 → spent (state_of self.new) + 4 ≤ spent (state_of self.old) }
-        ensures work { slice_index (state_of self.old).place.left 0 ≢ 0 → work (state_of self.new) + 1 ≤ work (state_of self.old) }
+        ensures cost { slice_index (state_of self.old).place.left 0 ≢ 0
+            → spent (state_of self.new) + 4 ≤ spent (state_of self.old) }
+        ensures work { slice_index (state_of self.old).place.left 0 ≢ 0
+            → work (state_of self.new) + 1 ≤ work (state_of self.old) }
     {
         self.cursor.skip();
     }
@@ -129,7 +133,8 @@ impl<'a> Fetcher<'a> {
         mark: Marker,
         kind: TokenType<'a>,
     ) -> ScanResult
-        ensures value { Gives result (state_of self.new) (rolled col place (at mark kind.entry) (state_of self.old)) }
+        ensures value { Gives result (state_of self.new)
+            (rolled col place (at mark kind.entry) (state_of self.old)) }
         ensures cost { OnOk result (spent (state_of self.new) ≤ spent (state_of self.old) + 2) }
         ensures work { OnOk result (work (state_of self.new) ≡ work (state_of self.old)) }
     {
@@ -151,8 +156,10 @@ impl<'a> Fetcher<'a> {
     /// Gives up the possible key; one that must become a key is a fault.
     pub(crate) fn remove_simple_key(&mut self) -> ScanResult
         ensures value { MatchResult result
-            (λ _. (is_required (state_of self.old).keys.key ≡ false) × (state_of self.new ≡ keyless (state_of self.old)))
-            (λ e. (is_required (state_of self.old).keys.key ≡ true) × (e ≡ Syntax (mark_of (state_of self.old).place) S2)) }
+            (λ _. (is_required (state_of self.old).keys.key ≡ false)
+            × (state_of self.new ≡ keyless (state_of self.old)))
+            (λ e. (is_required (state_of self.old).keys.key ≡ true)
+            × (e ≡ Syntax (mark_of (state_of self.old).place) S2)) }
         ensures cost { OnOk result (spent (state_of self.new) ≡ spent (state_of self.old)) }
         ensures work { OnOk result (work (state_of self.new) ≡ work (state_of self.old)) }
     {
@@ -166,8 +173,10 @@ impl<'a> Fetcher<'a> {
     /// Makes the next token a possible key, where one may begin.
     pub(crate) fn save_simple_key(&mut self) -> ScanResult
         ensures value { MatchResult result
-            (λ _. (is_key_owed (state_of self.old) ≡ false) × (state_of self.new ≡ saved (state_of self.old)))
-            (λ e. (is_key_owed (state_of self.old) ≡ true) × (e ≡ Syntax (mark_of (state_of self.old).place) S2)) }
+            (λ _. (is_key_owed (state_of self.old) ≡ false)
+            × (state_of self.new ≡ saved (state_of self.old)))
+            (λ e. (is_key_owed (state_of self.old) ≡ true)
+            × (e ≡ Syntax (mark_of (state_of self.old).place) S2)) }
         ensures cost { OnOk result (spent (state_of self.new) ≡ spent (state_of self.old)) }
         ensures work { OnOk result (work (state_of self.new) ≡ work (state_of self.old)) }
     {

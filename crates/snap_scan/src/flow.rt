@@ -13,7 +13,8 @@ impl<'a> Fetcher<'a> {
     /// An opening bracket.
     pub(crate) fn fetch_flow_collection_start(&mut self, kind: TokenType<'a>) -> ScanResult
         requires { slice_index (state_of self.old).place.left 0 ≢ 0 }
-        ensures value { Does (flow_start kind.entry (state_of self.old)) result (state_of self.new) }
+        ensures value { Does (flow_start kind.entry (state_of self.old)) result
+            (state_of self.new) }
         ensures cost { OnOk result (spent (state_of self.new) ≤ spent (state_of self.old)) }
         ensures work { OnOk result (work (state_of self.new) < work (state_of self.old)) }
     {

@@ -107,10 +107,12 @@ impl<'a> Scanner<'a> {
 
     /// The next token; none once StreamEnd was given, and from the first failure on.
     pub fn next(&mut self) -> Option<Token<'a>>
-        ensures none { MatchOption result (HasStopped self.old self.new) (λ _. IsGiven self.old self.new) }
+        ensures none { MatchOption result (HasStopped self.old self.new)
+            (λ _. IsGiven self.old self.new) }
         ensures next { MatchOption result ⊤ (λ token. IsNext token self.old.state self.new.state) }
         ensures shown { MatchOption result ⊤ (λ token. IsShown self.old.source token) }
-        ensures law { MatchOption result (left self.new ≤ left self.old) (λ _. left self.new + 1 ≤ left self.old) }
+        ensures law { MatchOption result (left self.new ≤ left self.old)
+            (λ _. left self.new + 1 ≤ left self.old) }
         ensures source { self.new.source ≡ self.old.source }
     {
         match self.next_token() {

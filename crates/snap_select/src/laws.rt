@@ -15,8 +15,10 @@ pub const fn segments_are_unique()
 
 /// Read character by character, a text gives exactly the segments of which it is a selector.
 pub const fn reading_is_the_grammar()
-    ensures selects { (text : List ℕ) (segments : List Segment) → IsSelector text segments → outcome at_start text ≡ selects segments }
-    ensures selected { (text : List ℕ) (segments : List Segment) → outcome at_start text ≡ selects segments → IsSelector text segments }
+    ensures selects { (text : List ℕ) (segments : List Segment) → IsSelector text segments
+        → outcome at_start text ≡ selects segments }
+    ensures selected { (text : List ℕ) (segments : List Segment)
+        → outcome at_start text ≡ selects segments → IsSelector text segments }
 {}
 
 /// Texts and their segments, and texts and their faults, that were worked out by hand.
@@ -28,5 +30,6 @@ pub const fn worked_examples()
 /// The redacted tree, part by part, is what a redaction makes of the tree; and it is the tree itself where no position is hit.
 pub const fn redacted_parts_are_the_redaction()
     ensures redacts { (ss : List Segment) (put c : Tree) → Redacts ss put c (redacted ss put [] c) }
-    ensures untouched { (ss : List Segment) (put c : Tree) → ((position : List ℕ) → ¬ IsHit ss [] c position) → redacted ss put [] c ≡ c }
+    ensures untouched { (ss : List Segment) (put c : Tree)
+        → ((position : List ℕ) → ¬ IsHit ss [] c position) → redacted ss put [] c ≡ c }
 {}

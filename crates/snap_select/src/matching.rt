@@ -49,7 +49,8 @@ fn matches_whole(segments: &[Segment<'_>], path: &[PathItem]) -> bool
 fn fit_ends(segments: &[Segment<'_>], path: &[PathItem], count: usize) -> bool
     requires segments { count ≤ length segments.now }
     requires path { count ≤ length path.now }
-    ensures { result ≡ fit_each (last_of count segments.now) (last_of count (map step_of path.now)) }
+    ensures { result ≡ fit_each (last_of count segments.now)
+        (last_of count (map step_of path.now)) }
 {
     let last_segments = &segments[segments.len() - count..];
     let last_steps = &path[path.len() - count..];

@@ -32,7 +32,8 @@ fn past_name(text: &str) -> &str
 
 /// The name at the front, as long as it can be, and the rest.
 pub(crate) fn split_name(text: &str) -> Option<(&str, &str)>
-    ensures { MatchOption result (Fails begins_name (chars text.now)) (λ p. IsNameThen (chars text.now) (chars p.0.now) (chars p.1.now)) }
+    ensures { MatchOption result (Fails begins_name (chars text.now))
+        (λ p. IsNameThen (chars text.now) (chars p.0.now) (chars p.1.now)) }
 {
     match split_first(text) {
         Some((c, more)) if begins_name(c) => {
@@ -68,7 +69,9 @@ pub(crate) fn split_digits(text: &str) -> (&str, &str)
 
 /// The number of the digits, where it is below 2^64.
 pub(crate) fn number_of(digits: &str) -> Option<u64>
-    ensures number { IsNumeral 10 (chars digits.now) → MatchOption result (2 ^ 64 ≤ digits_value 10 (chars digits.now)) (λ n. n ≡ digits_value 10 (chars digits.now)) }
+    ensures number { IsNumeral 10 (chars digits.now)
+        → MatchOption result (2 ^ 64 ≤ digits_value 10 (chars digits.now))
+        (λ n. n ≡ digits_value 10 (chars digits.now)) }
     ensures small { IfSome result (λ n. n < 2 ^ 64) }
 {
     digits.parse::<u64>().ok()

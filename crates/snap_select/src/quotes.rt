@@ -38,8 +38,11 @@ fn split_plain(text: &str) -> Option<(&str, &str)>
 /// The character that is kept, and what follows: the one behind a backslash, or the character itself.
 fn kept_character<'a>(character: char, text: &'a str) -> Option<(char, &'a str)>
     requires { character ≢ 34 }
-    ensures kept { (ss : List Segment) (key : List ℕ) → MatchOption result (outcome (in_quotes ss key) (character ∷ chars text.now) ≡ refuses BadToken 0)
-        (λ p. outcome (in_quotes ss key) (character ∷ chars text.now) ≡ outcome (in_quotes ss (key ++ p.0 ∷ [])) (chars p.1.now)) }
+    ensures kept { (ss : List Segment) (key : List ℕ)
+        → MatchOption result (outcome (in_quotes ss key) (character ∷ chars text.now)
+        ≡ refuses BadToken 0)
+        (λ p. outcome (in_quotes ss key) (character ∷ chars text.now)
+        ≡ outcome (in_quotes ss (key ++ p.0 ∷ [])) (chars p.1.now)) }
     ensures shorter { IfSome result (λ p. length (chars p.1.now) ≤ length (chars text.now)) }
 {
     if character == '\\' {
@@ -50,9 +53,12 @@ fn kept_character<'a>(character: char, text: &'a str) -> Option<(char, &'a str)>
 
 /// The key up to the first quote without a backslash, and what follows; none where no such quote is there.
 fn read_escaped(alloc: Global, text: &str) -> Result<Option<(Text, &str)>, OutOfMemory>
-    ensures key { IfOk result (λ found. (ss : List Segment) → MatchOption found (outcome (in_quotes ss []) (chars text.now) ≡ refuses BadToken 0)
-        (λ p. outcome (in_quotes ss []) (chars text.now) ≡ outcome (behind_quotes ss p.0) (chars p.1.now))) }
-    ensures shorter { IfOk result (λ found. IfSome found (λ p. length (chars p.1.now) < length (chars text.now))) }
+    ensures key { IfOk result (λ found. (ss : List Segment)
+        → MatchOption found (outcome (in_quotes ss []) (chars text.now) ≡ refuses BadToken 0)
+        (λ p. outcome (in_quotes ss []) (chars text.now)
+        ≡ outcome (behind_quotes ss p.0) (chars p.1.now))) }
+    ensures shorter { IfOk result (λ found. IfSome found
+        (λ p. length (chars p.1.now) < length (chars text.now))) }
 {
     let mut key = Text::empty();
     let mut rest = text;
@@ -74,9 +80,12 @@ pub(crate) fn read_quoted<'a>(
     alloc: Global,
     text: &'a str,
 ) -> Result<Option<(Lent<'a>, &'a str)>, OutOfMemory>
-    ensures key { IfOk result (λ found. (ss : List Segment) → MatchOption found (outcome (in_quotes ss []) (chars text.now) ≡ refuses BadToken 0)
-        (λ p. outcome (in_quotes ss []) (chars text.now) ≡ outcome (behind_quotes ss p.0) (chars p.1.now))) }
-    ensures shorter { IfOk result (λ found. IfSome found (λ p. length (chars p.1.now) < length (chars text.now))) }
+    ensures key { IfOk result (λ found. (ss : List Segment)
+        → MatchOption found (outcome (in_quotes ss []) (chars text.now) ≡ refuses BadToken 0)
+        (λ p. outcome (in_quotes ss []) (chars text.now)
+        ≡ outcome (behind_quotes ss p.0) (chars p.1.now))) }
+    ensures shorter { IfOk result (λ found. IfSome found
+        (λ p. length (chars p.1.now) < length (chars text.now))) }
 {
     if let Some((key, rest)) = split_plain(text) {
         return Ok(Some((Lent::borrowed(key), rest)));

@@ -17,7 +17,8 @@ use std::alloc::Global;
 /// The segment, where a closing bracket follows, and the text behind that.
 fn closed<'a>(segment: Segment<'a>, text: &'a str) -> Result<(Segment<'a>, &'a str), Stop<'a>>
     ensures ok { IfOk result (λ p. (p.0 ≡ segment.entry) × (chars text.now ≡ 93 ∷ chars p.1.now)) }
-    ensures stop { IfErr result (λ s. IsStop (refuses BadToken (length (chars text.now))) s × ((cs : List ℕ) → chars text.now ≡ 93 ∷ cs → ⊥)) }
+    ensures stop { IfErr result (λ s. IsStop (refuses BadToken (length (chars text.now))) s
+        × ((cs : List ℕ) → chars text.now ≡ 93 ∷ cs → ⊥)) }
 {
     match after_character(text, ']') {
         Some(rest) => Ok((segment, rest)),
@@ -44,7 +45,8 @@ fn read_index<'a>(text: &'a str) -> Result<(Segment<'a>, &'a str), Stop<'a>>
 
 /// The key behind an opening quote, and the text behind the closing bracket.
 fn read_key<'a>(alloc: Global, text: &'a str) -> Result<(Segment<'a>, &'a str), Stop<'a>>
-    ensures ok { IfOk result (λ p. GoesOn (λ ss. in_quotes ss []) (chars text.now) p.0 (chars p.1.now)) }
+    ensures ok { IfOk result (λ p. GoesOn
+        (λ ss. in_quotes ss []) (chars text.now) p.0 (chars p.1.now)) }
     ensures stop { IfErr result (λ s. StopsAt (λ ss. in_quotes ss []) (chars text.now) s) }
     ensures shorter { IfOk result (λ p. length (chars p.1.now) < length (chars text.now)) }
 {

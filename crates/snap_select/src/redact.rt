@@ -21,7 +21,9 @@ fn redact_at(
     alloc: Global,
     path: &mut Vec<PathItem>,
 ) -> Result<Content, OutOfMemory>
-    ensures ok { IfOk result (λ out. tree out ≡ redacted (segments_of selector.now) (tree put.now) (map step_of path.old.items) (tree value.now)) }
+    ensures ok { IfOk result (λ out. tree out
+        ≡ redacted (segments_of selector.now) (tree put.now) (map step_of path.old.items)
+        (tree value.now)) }
     ensures path { OnOk result (path.new.items ≡ path.old.items) }
 {
     if selector.is_match(path.as_slice()) {
@@ -40,7 +42,9 @@ fn redact_behind(
     path: &mut Vec<PathItem>,
     step: PathItem,
 ) -> Result<Content, OutOfMemory>
-    ensures ok { IfOk result (λ out. tree out ≡ redacted (segments_of selector.now) (tree put.now) (map step_of path.old.items ++ step_of step ∷ []) (tree value.now)) }
+    ensures ok { IfOk result (λ out. tree out
+        ≡ redacted (segments_of selector.now) (tree put.now)
+        (map step_of path.old.items ++ step_of step ∷ []) (tree value.now)) }
     ensures path { OnOk result (path.new.items ≡ path.old.items) }
 {
     path.push(step)?;
@@ -58,7 +62,9 @@ fn redact_box(
     alloc: Global,
     path: &mut Vec<PathItem>,
 ) -> Result<Box<Content>, OutOfMemory>
-    ensures ok { IfOk result (λ out. tree out.value ≡ redacted (segments_of selector.now) (tree put.now) (map step_of path.old.items) (tree value.now.value)) }
+    ensures ok { IfOk result (λ out. tree out.value
+        ≡ redacted (segments_of selector.now) (tree put.now) (map step_of path.old.items)
+        (tree value.now.value)) }
     ensures path { OnOk result (path.new.items ≡ path.old.items) }
 {
     let inner = redact_at(value, selector, put, alloc, path)?;
@@ -74,7 +80,9 @@ fn redact_inside(
     alloc: Global,
     path: &mut Vec<PathItem>,
 ) -> Result<Content, OutOfMemory>
-    ensures ok { IfOk result (λ out. tree out ≡ inside (segments_of selector.now) (tree put.now) (map step_of path.old.items) (tree value.now)) }
+    ensures ok { IfOk result (λ out. tree out
+        ≡ inside (segments_of selector.now) (tree put.now) (map step_of path.old.items)
+        (tree value.now)) }
     ensures path { OnOk result (path.new.items ≡ path.old.items) }
 {
     match value {
@@ -141,7 +149,9 @@ fn redact_items(
     alloc: Global,
     path: &mut Vec<PathItem>,
 ) -> Result<Items, OutOfMemory>
-    ensures ok { IfOk result (λ out. item_trees (item_list out) ≡ redacted_items (segments_of selector.now) (tree put.now) (map step_of path.old.items) (count_of (item_trees (item_list items.now))) 0 (item_trees (item_list items.now))) }
+    ensures ok { IfOk result (λ out. item_trees (item_list out)
+        ≡ redacted_items (segments_of selector.now) (tree put.now) (map step_of path.old.items)
+        (count_of (item_trees (item_list items.now))) 0 (item_trees (item_list items.now))) }
     ensures path { OnOk result (path.new.items ≡ path.old.items) }
 {
     let mut out = Items::new(alloc);
@@ -162,7 +172,9 @@ fn redact_pairs(
     alloc: Global,
     path: &mut Vec<PathItem>,
 ) -> Result<Pairs, OutOfMemory>
-    ensures ok { IfOk result (λ out. pair_trees (pair_list out) ≡ redacted_pairs (segments_of selector.now) (tree put.now) (map step_of path.old.items) (pair_trees (pair_list pairs.now))) }
+    ensures ok { IfOk result (λ out. pair_trees (pair_list out)
+        ≡ redacted_pairs (segments_of selector.now) (tree put.now) (map step_of path.old.items)
+        (pair_trees (pair_list pairs.now))) }
     ensures path { OnOk result (path.new.items ≡ path.old.items) }
 {
     let mut out = Pairs::new(alloc);
@@ -185,7 +197,9 @@ fn redact_fields(
     alloc: Global,
     path: &mut Vec<PathItem>,
 ) -> Result<Fields, OutOfMemory>
-    ensures ok { IfOk result (λ out. field_trees (field_list out) ≡ redacted_fields (segments_of selector.now) (tree put.now) (map step_of path.old.items) (field_trees (field_list fields.now))) }
+    ensures ok { IfOk result (λ out. field_trees (field_list out)
+        ≡ redacted_fields (segments_of selector.now) (tree put.now) (map step_of path.old.items)
+        (field_trees (field_list fields.now))) }
     ensures path { OnOk result (path.new.items ≡ path.old.items) }
 {
     let mut out = Fields::new(alloc);
@@ -204,7 +218,8 @@ fn redact_tree(
     put: &Content,
     alloc: Global,
 ) -> Result<Content, OutOfMemory>
-    ensures { IfOk result (λ out. tree out ≡ redacted (segments_of selector.now) (tree put.now) [] (tree value.now)) }
+    ensures { IfOk result (λ out. tree out
+        ≡ redacted (segments_of selector.now) (tree put.now) [] (tree value.now)) }
 {
     let mut path = Vec::new(alloc);
     redact_at(value, selector, put, alloc, &mut path)
@@ -224,10 +239,13 @@ impl Selector<'_> {
         value: Content,
         redaction: &Redaction,
     ) -> Result<Content, OutOfMemory>
-        ensures redacted { IfOk result (λ out. Redacts (segments_of self.now) (put_of redaction.now) (tree value) (tree out)) }
-        ensures untouched { IfOk result (λ out. ((position : List ℕ) → ¬ IsHit (segments_of self.now) [] (tree value) position) → tree out ≡ tree value) }
+        ensures redacted { IfOk result (λ out.
+            Redacts (segments_of self.now) (put_of redaction.now) (tree value) (tree out)) }
+        ensures untouched { IfOk result (λ out. ((position : List ℕ)
+            → ¬ IsHit (segments_of self.now) [] (tree value) position) → tree out ≡ tree value) }
         // Part by part, for who has to name the tree. That both say the same is a law.
-        ensures parts { IfOk result (λ out. tree out ≡ redacted (segments_of self.now) (put_of redaction.now) [] (tree value)) }
+        ensures parts { IfOk result (λ out. tree out
+            ≡ redacted (segments_of self.now) (put_of redaction.now) [] (tree value)) }
     {
         redact_tree(&value, self, redaction.content(), alloc)
     }

@@ -33,7 +33,8 @@ fn undotted(text: &str) -> &str
 
 /// The segments of a text that begins with one.
 fn read_segments<'a>(alloc: Global, text: &'a str) -> Result<Vec<Segment<'a>>, Stop<'a>>
-    ensures ok { IfOk result (λ segments. outcome (ready []) (chars text.now) ≡ selects segments.items) }
+    ensures ok { IfOk result (λ segments. outcome (ready []) (chars text.now)
+        ≡ selects segments.items) }
     ensures stop { IfErr result (λ s. IsStop (outcome (ready []) (chars text.now)) s) }
 {
     let mut segments = Vec::new(alloc);
@@ -52,7 +53,8 @@ fn read_segments<'a>(alloc: Global, text: &'a str) -> Result<Vec<Segment<'a>>, S
 
 /// The segments of a selector's text.
 fn read_text<'a>(alloc: Global, text: &'a str) -> Result<Vec<Segment<'a>>, Stop<'a>>
-    ensures ok { IfOk result (λ segments. outcome at_start (chars text.now) ≡ selects segments.items) }
+    ensures ok { IfOk result (λ segments. outcome at_start (chars text.now)
+        ≡ selects segments.items) }
     ensures stop { IfErr result (λ s. IsStop (outcome at_start (chars text.now)) s) }
 {
     if is_same(text, "") {

@@ -47,7 +47,8 @@ impl Redactions {
         selector: &str,
         redaction: Redaction,
     ) -> Result<(), SelectError>
-        ensures ok { OnOk result ((made : RedactionView) × IsRedaction (chars selector.now) (put_of redaction) made
+        ensures ok { OnOk result ((made : RedactionView)
+            × IsRedaction (chars selector.now) (put_of redaction) made
             × (redactions_of self.new ≡ redactions_of self.old ++ made ∷ [])) }
         ensures refused { IfErr result (λ e. IsRefused (chars selector.now) e) }
         ensures err { OnErr result (redactions_of self.new ≡ redactions_of self.old) }
@@ -63,7 +64,8 @@ impl Redactions {
         selector: Selector<'static>,
         redaction: Redaction,
     ) -> Result<(), OutOfMemory>
-        ensures ok { OnOk result (redactions_of self.new ≡ redactions_of self.old ++ redaction_of (selector.entry, redaction) ∷ []) }
+        ensures ok { OnOk result (redactions_of self.new
+            ≡ redactions_of self.old ++ redaction_of (selector.entry, redaction) ∷ []) }
         ensures err { OnErr result (redactions_of self.new ≡ redactions_of self.old) }
     {
         self.items.push((selector, redaction))?;
@@ -72,7 +74,8 @@ impl Redactions {
 
     /// The tree with each redaction applied to it in turn. The one error is want of memory.
     pub fn apply(&self, alloc: Global, content: Content) -> Result<Content, OutOfMemory>
-        ensures { IfOk result (λ made. tree made ≡ redacted_by (redactions_of self.now) (tree content)) }
+        ensures { IfOk result (λ made. tree made
+            ≡ redacted_by (redactions_of self.now) (tree content)) }
     {
         let mut made = content;
         for (selector, redaction) in self.items.as_slice() {
@@ -82,7 +85,7 @@ impl Redactions {
     }
 
     /// Where the redactions are kept.
-    pub fn allocator(&self) -> Global {
+    pub(crate) fn allocator(&self) -> Global {
         *self.items.allocator()
     }
 }

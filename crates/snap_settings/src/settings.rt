@@ -63,7 +63,8 @@ impl Settings {
 
     /// What stands behind the name and an `@`; none where it is empty.
     pub fn snapshot_suffix(&self) -> Option<&str>
-        ensures { option_map (λ suffix. chars suffix.now) result ≡ shown_text (settings_of self.now).suffix }
+        ensures { option_map (λ suffix. chars suffix.now) result
+            ≡ shown_text (settings_of self.now).suffix }
     {
         None
     }
@@ -95,8 +96,13 @@ impl Settings {
         selector: &str,
         replacement: Redaction,
     ) -> Result<(), SelectError>
-        ensures ok { OnOk result ((made : RedactionView) × IsRedaction (chars selector.now) (put_of replacement) made
-            × (settings_of self.new ≡ record (settings_of self.old) { redactions = (settings_of self.old).redactions ++ made ∷ [] })) }
+        ensures ok { OnOk result ((made : RedactionView)
+            × IsRedaction (chars selector.now) (put_of replacement) made
+            × (settings_of self.new ≡ record
+            (settings_of self.old) {
+              redactions = (settings_of self.old).redactions
+                  ++ made ∷ [];
+            })) }
         ensures refused { IfErr result (λ e. IsRefused (chars selector.now) e) }
         ensures err { OnErr result (settings_of self.new ≡ settings_of self.old) }
     {
@@ -133,7 +139,8 @@ impl Settings {
 
     /// New settings but for the redactions.
     pub fn of_redactions(alloc: Global, redactions: Redactions) -> Result<Settings, OutOfMemory>
-        ensures { IfOk result (λ settings. settings_of settings ≡ record new_settings { redactions = redactions_of redactions }) }
+        ensures { IfOk result (λ settings. settings_of settings
+            ≡ record new_settings { redactions = redactions_of redactions }) }
     {
         let snapshot_path = Text::from_ascii(alloc, "snapshots")?;
         Ok(Settings {

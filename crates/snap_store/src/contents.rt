@@ -31,7 +31,8 @@ impl SnapshotContents {
 
     /// The text, where the contents are one.
     pub fn as_text(&self) -> Option<&TextSnapshotContents>
-        ensures { MatchOption result (text_in self.now ≡ None) (λ text. self.now ≡ SnapshotContents.Text text.now) }
+        ensures { MatchOption result (text_in self.now ≡ None)
+            (λ text. self.now ≡ SnapshotContents.Text text.now) }
     {
         match self {
             SnapshotContents::Text(text) => Some(text),

@@ -34,7 +34,8 @@ fn read_fields(
     pairs: &[(Content, Content)],
     kind: SnapshotKind,
 ) -> Result<MetaData, OutOfMemory>
-    ensures { (entries : Entries) → pair_trees pairs.now ≡ pairs_made entries → IfOk result (λ made. meta_of made ≡ fields entries kind) }
+    ensures { (entries : Entries) → pair_trees pairs.now ≡ pairs_made entries
+        → IfOk result (λ made. meta_of made ≡ fields entries kind) }
 {
     Ok(MetaData {
         source: read_text(alloc, pairs, "source")?,
@@ -52,7 +53,8 @@ fn read_kind(
     alloc: Global,
     pairs: &[(Content, Content)],
 ) -> Result<Option<SnapshotKind>, OutOfMemory>
-    ensures { (entries : Entries) → pair_trees pairs.now ≡ pairs_made entries → IfOk result (λ kind. kind ≡ kind_in entries) }
+    ensures { (entries : Entries) → pair_trees pairs.now ≡ pairs_made entries
+        → IfOk result (λ kind. kind ≡ kind_in entries) }
 {
     if !says_binary(pairs) {
         return Ok(Some(SnapshotKind::Text));
@@ -64,7 +66,8 @@ fn read_kind(
 }
 
 fn says_binary(pairs: &[(Content, Content)]) -> bool
-    ensures { (entries : Entries) → pair_trees pairs.now ≡ pairs_made entries → result ≡ is_binary entries }
+    ensures { (entries : Entries) → pair_trees pairs.now ≡ pairs_made entries
+        → result ≡ is_binary entries }
 {
     match text_named(pairs, "snapshot_kind") {
         None => false,
@@ -74,7 +77,8 @@ fn says_binary(pairs: &[(Content, Content)]) -> bool
 
 fn read_info(alloc: Global, pairs: &[(Content, Content)]) -> Result<Option<Content>, OutOfMemory>
     ensures { (entries : Entries) → pair_trees pairs.now ≡ pairs_made entries
-        → IfOk result (λ info. option_map tree info ≡ option_map content_of (last_filled (codes "info") entries)) }
+        → IfOk result (λ info. option_map tree info
+        ≡ option_map content_of (last_filled (codes "info") entries)) }
 {
     match filled_named(pairs, "info") {
         None => Ok(None),
@@ -88,7 +92,8 @@ fn read_text(
     name: &str,
 ) -> Result<Option<Text>, OutOfMemory>
     requires { IsTrue (list_all is_ascii name.now) }
-    ensures { (entries : Entries) → pair_trees pairs.now ≡ pairs_made entries → IfOk result (λ value. value ≡ text_value (last_value name.now entries)) }
+    ensures { (entries : Entries) → pair_trees pairs.now ≡ pairs_made entries
+        → IfOk result (λ value. value ≡ text_value (last_value name.now entries)) }
 {
     match text_named(pairs, name) {
         None => Ok(None),
@@ -111,7 +116,8 @@ pub fn text_named<'a>(pairs: &'a [(Content, Content)], name: &str) -> Option<&'a
 /// The line's number, below 2^32, that is the value of the last pair of this name.
 pub fn line_named(pairs: &[(Content, Content)], name: &str) -> Option<u32>
     requires { IsTrue (list_all is_ascii name.now) }
-    ensures { (entries : Entries) → pair_trees pairs.now ≡ pairs_made entries → result ≡ line_value (last_value name.now entries) }
+    ensures { (entries : Entries) → pair_trees pairs.now ≡ pairs_made entries
+        → result ≡ line_value (last_value name.now entries) }
 {
     match value_named(pairs, name) {
         None => None,
@@ -120,7 +126,8 @@ pub fn line_named(pairs: &[(Content, Content)], name: &str) -> Option<u32>
 }
 
 fn line_of(value: &Content) -> Option<u32>
-    ensures { (plain : Plain) → tree value.now ≡ content_of plain → result ≡ line_value (Some plain) }
+    ensures { (plain : Plain) → tree value.now ≡ content_of plain
+        → result ≡ line_value (Some plain) }
 {
     match value.as_u64() {
         None => None,
@@ -132,7 +139,8 @@ fn line_of(value: &Content) -> Option<u32>
 pub fn value_named<'a>(pairs: &'a [(Content, Content)], name: &str) -> Option<&'a Content>
     requires { IsTrue (list_all is_ascii name.now) }
     ensures { (entries : Entries) → pair_trees pairs.now ≡ pairs_made entries
-        → option_map (λ value. tree value.now) result ≡ option_map content_of (last_value name.now entries) }
+        → option_map (λ value. tree value.now) result
+        ≡ option_map content_of (last_value name.now entries) }
 {
     let mut found = None;
     for (key, value) in pairs {
@@ -147,7 +155,8 @@ pub fn value_named<'a>(pairs: &'a [(Content, Content)], name: &str) -> Option<&'
 fn filled_named<'a>(pairs: &'a [(Content, Content)], name: &str) -> Option<&'a Content>
     requires { IsTrue (list_all is_ascii name.now) }
     ensures { (entries : Entries) → pair_trees pairs.now ≡ pairs_made entries
-        → option_map (λ value. tree value.now) result ≡ option_map content_of (last_filled name.now entries) }
+        → option_map (λ value. tree value.now) result
+        ≡ option_map content_of (last_filled name.now entries) }
 {
     let mut found = None;
     for (key, value) in pairs {
@@ -170,7 +179,8 @@ fn is_named(key: &Content, name: &str) -> bool
 
 fn is_filled(key: &Content, value: &Content, name: &str) -> bool
     requires { IsTrue (list_all is_ascii name.now) }
-    ensures { result ≡ (is_key name.now (tree key.now) && not (is_nil_tree (resolved (tree value.now)))) }
+    ensures { result ≡ (is_key name.now (tree key.now) && not
+        (is_nil_tree (resolved (tree value.now)))) }
 {
     is_named(key, name) && !value.is_nil()
 }

@@ -18,7 +18,8 @@ pub(crate) fn header_content(
     metadata: &MetaData,
     line: Option<u32>,
 ) -> Result<Content, OutOfMemory>
-    ensures { IfOk result (λ made. plain (tree made) ≡ header_tree (record (meta_of metadata.now) { assertion_line = line })) }
+    ensures { IfOk result (λ made. plain (tree made)
+        ≡ header_tree (record (meta_of metadata.now) { assertion_line = line })) }
 {
     let mut pairs = Pairs::new(alloc);
     push_text(alloc, &mut pairs, "source", &metadata.source)?;
@@ -38,7 +39,9 @@ fn push_field(
     value: Content,
 ) -> Result<(), OutOfMemory>
     requires { IsTrue (list_all is_ascii name.now) }
-    ensures { OnOk result ((rest : Entries) → in_front (pair_list pairs.new) rest ≡ in_front (pair_list pairs.old) (entry (text name.now) (plain (tree value)) rest)) }
+    ensures { OnOk result ((rest : Entries)
+        → in_front (pair_list pairs.new) rest
+        ≡ in_front (pair_list pairs.old) (entry (text name.now) (plain (tree value)) rest)) }
 {
     let key = Content::String(Text::from_ascii(alloc, name)?);
     pairs.push((key, value))?;
@@ -52,7 +55,9 @@ fn push_text(
     value: &Option<Text>,
 ) -> Result<(), OutOfMemory>
     requires { IsTrue (list_all is_ascii name.now) }
-    ensures { OnOk result ((rest : Entries) → in_front (pair_list pairs.new) rest ≡ in_front (pair_list pairs.old) (text_field name.now value.now rest)) }
+    ensures { OnOk result ((rest : Entries)
+        → in_front (pair_list pairs.new) rest
+        ≡ in_front (pair_list pairs.old) (text_field name.now value.now rest)) }
 {
     if let Some(value) = value {
         push_field(alloc, pairs, name, Content::String(value.try_clone(alloc)?))?;
@@ -61,7 +66,9 @@ fn push_text(
 }
 
 fn push_line(alloc: Global, pairs: &mut Pairs, line: Option<u32>) -> Result<(), OutOfMemory>
-    ensures { OnOk result ((rest : Entries) → in_front (pair_list pairs.new) rest ≡ in_front (pair_list pairs.old) (line_field line rest)) }
+    ensures { OnOk result ((rest : Entries)
+        → in_front (pair_list pairs.new) rest
+        ≡ in_front (pair_list pairs.old) (line_field line rest)) }
 {
     if let Some(line) = line {
         push_field(alloc, pairs, "assertion_line", Content::U32(line))?;
@@ -70,7 +77,9 @@ fn push_line(alloc: Global, pairs: &mut Pairs, line: Option<u32>) -> Result<(), 
 }
 
 fn push_info(alloc: Global, pairs: &mut Pairs, info: &Option<Content>) -> Result<(), OutOfMemory>
-    ensures { OnOk result ((rest : Entries) → in_front (pair_list pairs.new) rest ≡ in_front (pair_list pairs.old) (info_field (option_map tree info.now) rest)) }
+    ensures { OnOk result ((rest : Entries)
+        → in_front (pair_list pairs.new) rest
+        ≡ in_front (pair_list pairs.old) (info_field (option_map tree info.now) rest)) }
 {
     if let Some(info) = info {
         push_field(alloc, pairs, "info", info.try_clone(alloc)?)?;
@@ -79,7 +88,8 @@ fn push_info(alloc: Global, pairs: &mut Pairs, info: &Option<Content>) -> Result
 }
 
 fn push_kind(alloc: Global, pairs: &mut Pairs, kind: &SnapshotKind) -> Result<(), OutOfMemory>
-    ensures { OnOk result (in_front (pair_list pairs.new) no_entries ≡ in_front (pair_list pairs.old) (kind_fields kind.now)) }
+    ensures { OnOk result (in_front (pair_list pairs.new) no_entries
+        ≡ in_front (pair_list pairs.old) (kind_fields kind.now)) }
 {
     if let SnapshotKind::Binary { extension } = kind {
         let extension = Content::String(extension.try_clone(alloc)?);

@@ -17,6 +17,7 @@ pub const fn agreement_goes_both_ways()
 
 /// A text whose normal form is that of a printed tree is saved as the file of that tree, without the line of its assertion.
 pub const fn an_agreeing_text_is_saved_as_the_tree()
-    ensures { (meta : Meta) (raw : List ℕ) (p : Plain) → IsWithin p → normal raw ≡ normal (text_of p)
+    ensures { (meta : Meta) (raw : List ℕ) (p : Plain) → IsWithin p
+        → normal raw ≡ normal (text_of p)
         → saved_text meta raw ≡ file_of (header_tree (without_line meta)) p }
 {}

@@ -51,7 +51,8 @@ fn is_blank(line: &str) -> bool
 
 /// What stands behind the first blank line.
 fn behind_blank(text: &str) -> &str
-    ensures { map line_of (pieces (chars result.now)) ≡ past_blank (map line_of (pieces (chars text.now))) }
+    ensures { map line_of (pieces (chars result.now))
+        ≡ past_blank (map line_of (pieces (chars text.now))) }
 {
     let mut rest = text;
     while let Some((piece, more)) = split_piece(rest) {
@@ -64,7 +65,8 @@ fn behind_blank(text: &str) -> &str
 }
 
 fn read_field(alloc: Global, text: &str, name: &str) -> Result<Option<Text>, OutOfMemory>
-    ensures { IfOk result (λ value. value ≡ legacy_field (chars name.now) (before_blank (map line_of (pieces (chars text.now))))) }
+    ensures { IfOk result (λ value. value
+        ≡ legacy_field (chars name.now) (before_blank (map line_of (pieces (chars text.now))))) }
 {
     match last_field(text, name) {
         None => Ok(None),
@@ -74,7 +76,8 @@ fn read_field(alloc: Global, text: &str, name: &str) -> Result<Option<Text>, Out
 
 /// The value of the last line, of those before the first blank one, that names the field.
 fn last_field<'a>(text: &'a str, name: &str) -> Option<&'a str>
-    ensures { option_map (λ value. chars value.now) result ≡ legacy_field (chars name.now) (before_blank (map line_of (pieces (chars text.now)))) }
+    ensures { option_map (λ value. chars value.now) result
+        ≡ legacy_field (chars name.now) (before_blank (map line_of (pieces (chars text.now)))) }
 {
     let mut found = None;
     let mut rest = text;
@@ -91,7 +94,8 @@ fn last_field<'a>(text: &'a str, name: &str) -> Option<&'a str>
 
 /// The value of the field, where the line names it.
 fn field_value<'a>(line: &'a str, name: &str) -> Option<&'a str>
-    ensures { option_map (λ value. chars value.now) result ≡ option_map value_of (behind_name (chars name.now) (chars line.now)) }
+    ensures { option_map (λ value. chars value.now) result
+        ≡ option_map value_of (behind_name (chars name.now) (chars line.now)) }
 {
     match behind_name(line, name) {
         None => None,
@@ -101,7 +105,8 @@ fn field_value<'a>(line: &'a str, name: &str) -> Option<&'a str>
 
 /// What stands behind the name and a colon, where the line begins with them. The name is in small letters.
 fn behind_name<'a>(line: &'a str, name: &str) -> Option<&'a str>
-    ensures { option_map (λ rest. chars rest.now) result ≡ behind_name (chars name.now) (chars line.now) }
+    ensures { option_map (λ rest. chars rest.now) result
+        ≡ behind_name (chars name.now) (chars line.now) }
 {
     let mut rest = line;
     let mut letters = name;

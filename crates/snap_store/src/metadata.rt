@@ -74,7 +74,8 @@ impl MetaData {
 
     /// The description. An empty one is kept and written, and not shown here.
     pub fn description(&self) -> Option<&str>
-        ensures { option_map (λ text. chars text.now) result ≡ shown_text (meta_of self.now).description }
+        ensures { option_map (λ text. chars text.now) result
+            ≡ shown_text (meta_of self.now).description }
     {
         match &self.description {
             Some(text) if text.len() > 0 => Some(text.as_str()),

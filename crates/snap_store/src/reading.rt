@@ -54,7 +54,8 @@ fn snapshot_of_file(alloc: Global, file: Option<Blob>, path: Text) -> Result<Sna
 }
 
 fn snapshot_of_text(alloc: Global, text: &str, path: Text) -> Result<Snapshot, Error>
-    ensures end { (file : Option (List ℕ)) → IsTextFile file (chars text.now) → FileEnd path file result }
+    ensures end { (file : Option (List ℕ)) → IsTextFile file (chars text.now)
+        → FileEnd path file result }
     ensures names { IfOk result (λ snapshot. HasNames path snapshot) }
     ensures no_fault { (count : ℕ) → FileCause count count result }
 {
@@ -66,7 +67,8 @@ fn snapshot_of_text(alloc: Global, text: &str, path: Text) -> Result<Snapshot, E
 
 /// The snapshot of a file with a header.
 fn headed_snapshot(alloc: Global, headed: Headed, path: Text) -> Result<Snapshot, Error>
-    ensures end { (file : Option (List ℕ)) → (text : List ℕ) → IsTextFile file text → IsSplit headed text → FileEnd path file result }
+    ensures end { (file : Option (List ℕ)) → (text : List ℕ) → IsTextFile file text
+        → IsSplit headed text → FileEnd path file result }
     ensures names { IfOk result (λ snapshot. HasNames path snapshot) }
     ensures no_fault { (count : ℕ) → FileCause count count result }
 {
@@ -86,7 +88,8 @@ fn headed_snapshot(alloc: Global, headed: Headed, path: Text) -> Result<Snapshot
 
 /// The snapshot of a file without a header. The one error is want of memory.
 fn legacy_snapshot(alloc: Global, text: &str, path: &Text) -> Result<Snapshot, OutOfMemory>
-    ensures read { (file : Option (List ℕ)) → IsTextFile file (chars text.now) → is_headed (chars text.now) ≡ false
+    ensures read { (file : Option (List ℕ)) → IsTextFile file (chars text.now)
+        → is_headed (chars text.now) ≡ false
         → IfOk result (λ snapshot. IsReadAs file snapshot) }
     ensures names { IfOk result (λ snapshot. HasNames path.now snapshot) }
 {

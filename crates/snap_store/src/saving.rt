@@ -23,9 +23,12 @@ impl Snapshot {
     /// After an error only that file is unknown. Payloads are not built yet, so the contents are a text.
     pub fn save<S: Store>(&self, alloc: Global, store: &mut S, path: &Text) -> Result<(), Error>
         requires { IsSome (text_in (contents_in self.now)) }
-        ensures written { OnOk result ((m : Files) (raw : List ℕ) → S.files store.old ≡ Some m → text_in (contents_in self.now) ≡ Some raw
-            → S.files store.new ≡ Some (insert m path.now (encode_utf8_all (saved_text (meta_in self.now) raw)))) }
-        ensures unknown { OnErr result ((m : Files) → S.files store.old ≡ Some m → SameBut path.now m (S.files store.new)) }
+        ensures written { OnOk result ((m : Files) (raw : List ℕ) → S.files store.old ≡ Some m
+            → text_in (contents_in self.now) ≡ Some raw
+            → S.files store.new ≡ Some (insert m path.now
+            (encode_utf8_all (saved_text (meta_in self.now) raw)))) }
+        ensures unknown { OnErr result ((m : Files) → S.files store.old ≡ Some m
+            → SameBut path.now m (S.files store.new)) }
         ensures error { SaveEnd path.now result }
         ensures cause { FileCause (S.faults store.old) (S.faults store.new) result }
     {
@@ -42,10 +45,13 @@ impl Snapshot {
         path: &Text,
     ) -> Result<Text, Error>
         requires { IsSome (text_in (contents_in self.now)) }
-        ensures written { OnOk result ((m : Files) (raw : List ℕ) → S.files store.old ≡ Some m → text_in (contents_in self.now) ≡ Some raw
-            → S.files store.new ≡ Some (insert m (pending_path path.now) (encode_utf8_all (text_under (meta_in self.now) raw)))) }
+        ensures written { OnOk result ((m : Files) (raw : List ℕ) → S.files store.old ≡ Some m
+            → text_in (contents_in self.now) ≡ Some raw
+            → S.files store.new ≡ Some (insert m (pending_path path.now)
+            (encode_utf8_all (text_under (meta_in self.now) raw)))) }
         ensures path { IfOk result (λ pending. pending ≡ pending_path path.now) }
-        ensures unknown { OnErr result ((m : Files) → S.files store.old ≡ Some m → SameBut (pending_path path.now) m (S.files store.new)) }
+        ensures unknown { OnErr result ((m : Files) → S.files store.old ≡ Some m
+            → SameBut (pending_path path.now) m (S.files store.new)) }
         ensures error { SaveEnd (pending_path path.now) result }
         ensures cause { FileCause (S.faults store.old) (S.faults store.new) result }
     {
@@ -67,8 +73,10 @@ fn pending_text(alloc: Global, path: &Text) -> Result<Text, OutOfMemory>
 
 /// Writes the text to the file at the path. After an error only that file is unknown.
 fn write_text<S: Store>(alloc: Global, store: &mut S, path: &Text, text: &Text) -> Result<(), Error>
-    ensures written { OnOk result ((m : Files) → S.files store.old ≡ Some m → S.files store.new ≡ Some (insert m path.now (encode_utf8_all text.now))) }
-    ensures unknown { OnErr result ((m : Files) → S.files store.old ≡ Some m → SameBut path.now m (S.files store.new)) }
+    ensures written { OnOk result ((m : Files) → S.files store.old ≡ Some m
+        → S.files store.new ≡ Some (insert m path.now (encode_utf8_all text.now))) }
+    ensures unknown { OnErr result ((m : Files) → S.files store.old ≡ Some m
+        → SameBut path.now m (S.files store.new)) }
     ensures error { SaveEnd path.now result }
     ensures cause { FileCause (S.faults store.old) (S.faults store.new) result }
 {
@@ -82,7 +90,8 @@ fn write_text<S: Store>(alloc: Global, store: &mut S, path: &Text, text: &Text) 
 
 /// The text of the header of these metadata. The line of the assertion is the one given.
 fn header_text(alloc: Global, metadata: &MetaData, line: Option<u32>) -> Result<Text, OutOfMemory>
-    ensures { IfOk result (λ text. text ≡ document_of (header_tree (record (meta_of metadata.now) { assertion_line = line }))) }
+    ensures { IfOk result (λ text. text ≡ document_of
+        (header_tree (record (meta_of metadata.now) { assertion_line = line }))) }
 {
     let header = header_content(alloc, metadata, line)?;
     yaml::to_string(alloc, &header, false)

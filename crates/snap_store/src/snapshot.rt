@@ -83,7 +83,8 @@ impl Snapshot {
 
     /// The text, where the contents are one.
     pub fn as_text(&self) -> Option<&TextSnapshotContents>
-        ensures { MatchOption result (text_in (contents_in self.now) ≡ None) (λ text. contents_in self.now ≡ SnapshotContents.Text text.now) }
+        ensures { MatchOption result (text_in (contents_in self.now) ≡ None)
+            (λ text. contents_in self.now ≡ SnapshotContents.Text text.now) }
     {
         self.contents.as_text()
     }

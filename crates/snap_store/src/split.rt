@@ -23,7 +23,8 @@ pub struct Headed {
 
 /// The first line with its end, and what follows; none where nothing is left.
 pub(crate) fn split_piece(text: &str) -> Option<(&str, &str)>
-    ensures piece { MatchOption result (chars text.now ≡ []) (λ p. pieces (chars text.now) ≡ chars p.0.now ∷ pieces (chars p.1.now)) }
+    ensures piece { MatchOption result (chars text.now ≡ [])
+        (λ p. pieces (chars text.now) ≡ chars p.0.now ∷ pieces (chars p.1.now)) }
     ensures shorter { IfSome result (λ p. length (chars p.1.now) < length (chars text.now)) }
 {
     split_first(text)?;
@@ -42,7 +43,8 @@ fn is_fence(piece: &str) -> bool
 
 /// What stands before the character, where the text ends with it.
 fn before_character(text: &str, character: char) -> Option<&str>
-    ensures { MatchOption result ((cs : List ℕ) → chars text.now ≡ cs ++ character ∷ [] → ⊥) (λ front. chars text.now ≡ chars front.now ++ character ∷ []) }
+    ensures { MatchOption result ((cs : List ℕ) → chars text.now ≡ cs ++ character ∷ [] → ⊥)
+        (λ front. chars text.now ≡ chars front.now ++ character ∷ []) }
 {
     match split_last(text) {
         Some((front, last)) if last == character => Some(front),
@@ -65,7 +67,8 @@ pub(crate) fn line_text(piece: &str) -> &str
 
 /// Adds the lines up to the next fence, with their ends.
 fn push_header(alloc: Global, header: &mut Text, text: &str) -> Result<(), OutOfMemory>
-    ensures { OnOk result (header.new ≡ header.old ++ concat (up_to_fence (pieces (chars text.now)))) }
+    ensures { OnOk result (header.new ≡ header.old
+        ++ concat (up_to_fence (pieces (chars text.now)))) }
 {
     let mut rest = text;
     while let Some((piece, more)) = split_piece(rest) {

@@ -25,7 +25,8 @@ pub fn strip_suffix<'a>(text: &'a str, suffix: &str) -> Option<&'a str>
 pub fn split_once(text: &str, mark: char) -> Option<(&str, &str)>
     ensures cut { MatchOption result (Lacks mark (chars text.now))
         (λ parts. IsCutAtFirst mark (chars text.now) (chars parts.0.now) (chars parts.1.now)) }
-    ensures shorter { IfSome result (λ parts. length (chars parts.1.now) < length (chars text.now)) }
+    ensures shorter { IfSome result (λ parts.
+        length (chars parts.1.now) < length (chars text.now)) }
 {
     text.split_once(mark)
 }
@@ -34,7 +35,8 @@ pub fn split_once(text: &str, mark: char) -> Option<(&str, &str)>
 pub fn rsplit_once(text: &str, mark: char) -> Option<(&str, &str)>
     ensures cut { MatchOption result (Lacks mark (chars text.now))
         (λ parts. IsCutAtLast mark (chars text.now) (chars parts.0.now) (chars parts.1.now)) }
-    ensures shorter { IfSome result (λ parts. length (chars parts.0.now) < length (chars text.now)) }
+    ensures shorter { IfSome result (λ parts.
+        length (chars parts.0.now) < length (chars text.now)) }
 {
     text.rsplit_once(mark)
 }

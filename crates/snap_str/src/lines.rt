@@ -19,7 +19,8 @@ fn without_return(line: &str) -> &str
 pub fn next_line(text: &str) -> Option<(&str, &str)>
     ensures line { MatchOption result (chars text.now ≡ [])
         (λ parts. lines (chars text.now) ≡ chars parts.0.now ∷ lines (chars parts.1.now)) }
-    ensures shorter { IfSome result (λ parts. length (chars parts.1.now) < length (chars text.now)) }
+    ensures shorter { IfSome result (λ parts.
+        length (chars parts.1.now) < length (chars text.now)) }
 {
     match split_once(text, '\n') {
         Some((line, rest)) => Some((without_return(line), rest)),
@@ -31,8 +32,10 @@ pub fn next_line(text: &str) -> Option<(&str, &str)>
 /// The first line with its end, and what follows it; none where the text is empty.
 pub fn next_ended_line(text: &str) -> Option<(&str, &str)>
     ensures line { MatchOption result (chars text.now ≡ [])
-        (λ parts. ended_lines (chars text.now) ≡ chars parts.0.now ∷ ended_lines (chars parts.1.now)) }
-    ensures shorter { IfSome result (λ parts. length (chars parts.1.now) < length (chars text.now)) }
+        (λ parts. ended_lines (chars text.now)
+        ≡ chars parts.0.now ∷ ended_lines (chars parts.1.now)) }
+    ensures shorter { IfSome result (λ parts.
+        length (chars parts.1.now) < length (chars text.now)) }
 {
     match text.find('\n') {
         Some(at) => Some(text.split_at(at + 1)),

@@ -26,8 +26,10 @@ fn read_piece<S: Source>(
     buffer: &mut [u8],
     bytes: &mut Vec<u8>,
 ) -> Result<usize, ReadError>
-    ensures piece { IfOk result (λ count. TakesPiece count bytes.old.items bytes.new.items (S.left source.old) (S.left source.new)) }
-    ensures end { IfOk result (λ count. count ≡ 0 → 0 < length buffer.old → (xs : List ℕ) → S.left source.old ≡ Some xs → xs ≡ []) }
+    ensures piece { IfOk result (λ count.
+        TakesPiece count bytes.old.items bytes.new.items (S.left source.old) (S.left source.new)) }
+    ensures end { IfOk result (λ count. count ≡ 0 → 0 < length buffer.old → (xs : List ℕ)
+        → S.left source.old ≡ Some xs → xs ≡ []) }
     ensures within { IfOk result (λ count. count ≤ length buffer.old) }
     ensures taken { TakesAtMost (length buffer.old) (S.left source.old) (S.left source.new) }
     ensures kept { IsErrOf result ReadError.Fault → S.left source.new ≡ S.left source.old }
@@ -49,12 +51,16 @@ fn read_piece<S: Source>(
 /// Reads the source to its end, within the limit. At most one byte more than the limit is ever taken, and where it is,
 /// the source is not read again.
 pub fn read_all<S: Source>(alloc: Global, source: &mut S) -> Result<Vec<u8>, ReadError>
-    ensures all { IfOk result (λ bytes. (xs : List ℕ) → S.left source.old ≡ Some xs → bytes.items ≡ xs) }
-    ensures end { IfOk result (λ bytes. (xs : List ℕ) → S.left source.old ≡ Some xs → S.left source.new ≡ Some []) }
+    ensures all { IfOk result (λ bytes. (xs : List ℕ) → S.left source.old ≡ Some xs
+        → bytes.items ≡ xs) }
+    ensures end { IfOk result (λ bytes. (xs : List ℕ) → S.left source.old ≡ Some xs
+        → S.left source.new ≡ Some []) }
     ensures within { IfOk result (λ bytes. length bytes.items ≤ input_limit) }
     ensures taken { TakesAtMost (input_limit + 1) (S.left source.old) (S.left source.new) }
-    ensures fault { IsErrOf result ReadError.Fault → TakesAtMost input_limit (S.left source.old) (S.left source.new) }
-    ensures too_long { IsErrOf result ReadError.TooLong → TakesExactly (input_limit + 1) (S.left source.old) (S.left source.new) }
+    ensures fault { IsErrOf result ReadError.Fault
+        → TakesAtMost input_limit (S.left source.old) (S.left source.new) }
+    ensures too_long { IsErrOf result ReadError.TooLong
+        → TakesExactly (input_limit + 1) (S.left source.old) (S.left source.new) }
     ensures cause { ReadCause (S.faults source.old) (S.faults source.new) result }
 {
     let mut bytes = Vec::new(alloc);
@@ -75,8 +81,10 @@ pub fn read_all<S: Source>(alloc: Global, source: &mut S) -> Result<Vec<u8>, Rea
 
 /// Writes all the bytes. After a fault a part of their front is written.
 pub fn write_all<K: Sink>(sink: &mut K, bytes: &[u8]) -> Result<(), Fault>
-    ensures all { OnOk result ((w : List ℕ) → K.written sink.old ≡ Some w → K.written sink.new ≡ Some (w ++ bytes.now)) }
-    ensures part { OnErr result ((w : List ℕ) → K.written sink.old ≡ Some w → HoldsFront bytes.now w (K.written sink.new)) }
+    ensures all { OnOk result ((w : List ℕ) → K.written sink.old ≡ Some w
+        → K.written sink.new ≡ Some (w ++ bytes.now)) }
+    ensures part { OnErr result ((w : List ℕ) → K.written sink.old ≡ Some w
+        → HoldsFront bytes.now w (K.written sink.new)) }
     ensures cause { HasCause (K.faults sink.old) (K.faults sink.new) result }
 {
     let mut done = 0;

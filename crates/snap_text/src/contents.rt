@@ -146,7 +146,8 @@ impl TextSnapshotContents {
     /// The normal form as a literal, at this indentation. For an inline text whose normal form is its own normal form, and
     /// an indentation of blanks and tabs, the literal reads as a text of which `from_inline_literal` makes contents that match.
     pub fn to_inline(&self, alloc: Global, indentation: &str) -> Result<Text, OutOfMemory>
-        ensures spelled { IfOk result (λ literal. literal ≡ spelled (chars indentation.now) (normal_of self.now)) }
+        ensures spelled { IfOk result (λ literal. literal
+            ≡ spelled (chars indentation.now) (normal_of self.now)) }
         ensures law { IfOk result (λ literal. InlineLaw literal (chars indentation.now) self.now) }
     {
         let normal = self.normal(alloc)?;

@@ -113,9 +113,11 @@ impl<'a> Cursor<'a> {
         ensures value { self.new ≡ skipped self.old }
         ensures onward { (p : Place) → Later p self.old → Later p self.new }
         ensures within { (all : List ℕ) → EndsIn all self.old.left → EndsIn all self.new.left }
-        ensures sum { self.new.index + length self.new.left ≡ self.old.index + length self.old.left }
+        ensures sum { self.new.index + length self.new.left
+            ≡ self.old.index + length self.old.left }
         ensures lighter { length self.new.left ≤ length self.old.left }
-        ensures falls { slice_index self.old.left 0 ≢ 0 → length self.new.left + 1 ≤ length self.old.left }
+        ensures falls { slice_index self.old.left 0 ≢ 0
+            → length self.new.left + 1 ≤ length self.old.left }
     {
         if let Some((first, rest)) = split_first(self.rest) {
             self.rest = rest;
@@ -134,7 +136,8 @@ impl<'a> Cursor<'a> {
         ensures value { self.new ≡ skipped_while (is_of kind) self.old }
         ensures onward { (p : Place) → Later p self.old → Later p self.new }
         ensures within { (all : List ℕ) → EndsIn all self.old.left → EndsIn all self.new.left }
-        ensures sum { self.new.index + length self.new.left ≡ self.old.index + length self.old.left }
+        ensures sum { self.new.index + length self.new.left
+            ≡ self.old.index + length self.old.left }
         ensures lighter { length self.new.left ≤ length self.old.left }
         ensures end { is_of kind (slice_index self.new.left 0) ≡ false }
     {
@@ -148,9 +151,11 @@ impl<'a> Cursor<'a> {
         ensures value { self.new ≡ past_break self.old }
         ensures onward { (p : Place) → Later p self.old → Later p self.new }
         ensures within { (all : List ℕ) → EndsIn all self.old.left → EndsIn all self.new.left }
-        ensures sum { self.new.index + length self.new.left ≡ self.old.index + length self.old.left }
+        ensures sum { self.new.index + length self.new.left
+            ≡ self.old.index + length self.old.left }
         ensures lighter { length self.new.left ≤ length self.old.left }
-        ensures falls { slice_index self.old.left 0 ≢ 0 → length self.new.left + 1 ≤ length self.old.left }
+        ensures falls { slice_index self.old.left 0 ≢ 0
+            → length self.new.left + 1 ≤ length self.old.left }
     {
         if self.ch() == '\r' && self.peek(1) == '\n' {
             self.skip();
@@ -163,7 +168,8 @@ impl<'a> Cursor<'a> {
         ensures value { self.new ≡ past_comment self.old }
         ensures onward { (p : Place) → Later p self.old → Later p self.new }
         ensures within { (all : List ℕ) → EndsIn all self.old.left → EndsIn all self.new.left }
-        ensures sum { self.new.index + length self.new.left ≡ self.old.index + length self.old.left }
+        ensures sum { self.new.index + length self.new.left
+            ≡ self.old.index + length self.old.left }
         ensures lighter { length self.new.left ≤ length self.old.left }
     {
         self.skip_while(Kind::Blank);

@@ -72,10 +72,14 @@ fn character(code: u32) -> Option<char>
 /// The character whose code stands here in hexadecimal digits: one, and so many further ones.
 fn scan_code(cursor: &mut Cursor, further: usize) -> Result<char, ScanInfo>
     requires { further ≤ 7 }
-    ensures value { MatchResult result (λ c. (text : List ℕ) → digits further 0 text cursor.old.left cursor.old ≡ double no_gap (text ++ c ∷ []) cursor.new.left cursor.new) (λ _. (text : List ℕ) → digits further 0 text cursor.old.left cursor.old ≡ None) }
+    ensures value { MatchResult result (λ c. (text : List ℕ)
+        → digits further 0 text cursor.old.left cursor.old
+        ≡ double no_gap (text ++ c ∷ []) cursor.new.left cursor.new)
+        (λ _. (text : List ℕ) → digits further 0 text cursor.old.left cursor.old ≡ None) }
     ensures onward { (p : Place) → Later p cursor.old → Later p cursor.new }
     ensures within { (all : List ℕ) → EndsIn all cursor.old.left → EndsIn all cursor.new.left }
-    ensures sum { cursor.new.index + length cursor.new.left ≡ cursor.old.index + length cursor.old.left }
+    ensures sum { cursor.new.index + length cursor.new.left
+        ≡ cursor.old.index + length cursor.old.left }
     ensures lighter { length cursor.new.left ≤ length cursor.old.left }
     ensures cause { IfErr result IsBadEscape }
 {
@@ -100,10 +104,16 @@ fn scan_code(cursor: &mut Cursor, further: usize) -> Result<char, ScanInfo>
 
 /// Reads what stands behind a backslash: the character that it stands for, or none at the end of a line.
 pub fn scan_escape(cursor: &mut Cursor) -> Result<Option<char>, ScanInfo>
-    ensures value { MatchResult result (λ found. MatchOption found ((text : List ℕ) → escape text cursor.old.left cursor.old ≡ double escaped_gap text cursor.new.left cursor.new) (λ c. (text : List ℕ) → escape text cursor.old.left cursor.old ≡ double no_gap (text ++ c ∷ []) cursor.new.left cursor.new)) (λ _. (text : List ℕ) → escape text cursor.old.left cursor.old ≡ None) }
+    ensures value { MatchResult result (λ found. MatchOption found ((text : List ℕ)
+        → escape text cursor.old.left cursor.old
+        ≡ double escaped_gap text cursor.new.left cursor.new)
+        (λ c. (text : List ℕ) → escape text cursor.old.left cursor.old
+        ≡ double no_gap (text ++ c ∷ []) cursor.new.left cursor.new))
+        (λ _. (text : List ℕ) → escape text cursor.old.left cursor.old ≡ None) }
     ensures onward { (p : Place) → Later p cursor.old → Later p cursor.new }
     ensures within { (all : List ℕ) → EndsIn all cursor.old.left → EndsIn all cursor.new.left }
-    ensures sum { cursor.new.index + length cursor.new.left ≡ cursor.old.index + length cursor.old.left }
+    ensures sum { cursor.new.index + length cursor.new.left
+        ≡ cursor.old.index + length cursor.old.left }
     ensures lighter { length cursor.new.left ≤ length cursor.old.left }
     ensures cause { IfErr result IsBadEscape }
 {

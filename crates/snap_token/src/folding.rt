@@ -131,14 +131,22 @@ impl<'a> Gathered<'a> {
     /// Adds what stands before the rest of the source.
     pub fn extend(&mut self, rest: &'a str)
         requires { EndsIn self.old.behind (chars rest.now) }
-        ensures { self.new ≡ record { text = self.old.text ++ before self.old.behind (chars rest.now); behind = chars rest.now } }
+        ensures { self.new ≡ record {
+          text = self.old.text
+              ++ before self.old.behind (chars rest.now);
+          behind = chars rest.now;
+        } }
     {
         self.rest = rest;
     }
 
     /// Adds a text that doesn't stand in the source, and goes on before the rest of it.
     fn add(&mut self, alloc: Global, text: &Text, rest: &'a str) -> Result<(), OutOfMemory>
-        ensures { OnOk result (self.new ≡ record { text = self.old.text ++ text.now; behind = chars rest.now }) }
+        ensures { OnOk result (self.new ≡ record {
+          text = self.old.text
+              ++ text.now;
+          behind = chars rest.now;
+        }) }
     {
         self.copied
             .push_str(alloc, before_rest(self.from, self.rest))?;
@@ -150,7 +158,11 @@ impl<'a> Gathered<'a> {
 
     /// Adds a character that doesn't stand in the source so, and goes on before the rest of it.
     pub fn push(&mut self, alloc: Global, c: char, rest: &'a str) -> Result<(), OutOfMemory>
-        ensures { OnOk result (self.new ≡ record { text = self.old.text ++ c ∷ []; behind = chars rest.now }) }
+        ensures { OnOk result (self.new ≡ record {
+          text = self.old.text
+              ++ c ∷ [];
+          behind = chars rest.now;
+        }) }
     {
         self.copied
             .push_str(alloc, before_rest(self.from, self.rest))?;
@@ -162,7 +174,8 @@ impl<'a> Gathered<'a> {
 
     /// Goes on before the rest of the source, without what stands before that.
     pub fn pass(&mut self, alloc: Global, rest: &'a str) -> Result<(), OutOfMemory>
-        ensures { OnOk result (self.new ≡ record { text = self.old.text; behind = chars rest.now }) }
+        ensures { OnOk result (self.new
+            ≡ record { text = self.old.text; behind = chars rest.now }) }
     {
         self.copied
             .push_str(alloc, before_rest(self.from, self.rest))?;
@@ -174,7 +187,12 @@ impl<'a> Gathered<'a> {
     /// Adds what white space stands for, and goes on before the rest of the source.
     pub fn join(&mut self, alloc: Global, gap: &Gap, rest: &'a str) -> Result<(), OutOfMemory>
         requires { EndsIn self.old.behind (chars rest.now) }
-        ensures { OnOk result (self.new ≡ record { text = self.old.text ++ joined (gap_of gap.now (before self.old.behind (chars rest.now))); behind = chars rest.now }) }
+        ensures { OnOk result (self.new ≡ record {
+          text = self.old.text
+              ++ joined (gap_of gap.now (before self.old.behind
+              (chars rest.now)));
+          behind = chars rest.now;
+        }) }
     {
         match gap.fold {
             Fold::Inline => {

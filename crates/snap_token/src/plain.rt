@@ -47,7 +47,8 @@ fn ends_plain(
     gap: &Gap,
 ) -> bool
     requires { EndsIn text.now.behind cursor.now.left }
-    ensures { result ≡ ends_plain indent in_flow (gap_of gap.now (before text.now.behind cursor.now.left)) cursor.now }
+    ensures { result ≡ ends_plain indent in_flow
+        (gap_of gap.now (before text.now.behind cursor.now.left)) cursor.now }
 {
     let c = cursor.ch();
     if c == '\0' {
@@ -70,11 +71,15 @@ fn ends_plain(
 /// Takes the first character of a plain scalar. A blank there is a part of the text if a character follows on its line.
 fn begin<'a>(cursor: &mut Cursor<'a>) -> Gathered<'a>
     requires { slice_index cursor.old.left 0 ≢ 0 }
-    ensures value { (indent : Option ℕ) (flow : Bool) → plain indent flow (gap_of no_gap (before result.behind cursor.new.left)) result.text cursor.new.left cursor.new ≡ plain_from indent flow cursor.old }
+    ensures value { (indent : Option ℕ) (flow : Bool)
+        → plain indent flow (gap_of no_gap
+        (before result.behind cursor.new.left)) result.text cursor.new.left cursor.new
+        ≡ plain_from indent flow cursor.old }
     ensures behind { EndsIn result.behind cursor.new.left }
     ensures onward { (p : Place) → Later p cursor.old → Later p cursor.new }
     ensures within { (all : List ℕ) → EndsIn all cursor.old.left → EndsIn all cursor.new.left }
-    ensures sum { cursor.new.index + length cursor.new.left ≡ cursor.old.index + length cursor.old.left }
+    ensures sum { cursor.new.index + length cursor.new.left
+        ≡ cursor.old.index + length cursor.old.left }
     ensures falls { length cursor.new.left + 1 ≤ length cursor.old.left }
 {
     let mut text = Gathered::new(cursor.rest());
@@ -97,7 +102,8 @@ pub fn scan_plain_scalar<'a>(
     requires { slice_index cursor.old.left 0 ≢ 0 }
     ensures value { ReadsPlain (plain_from indent in_flow cursor.old) result cursor.new }
     ensures onward { (p : Place) → Later p cursor.old → Later p cursor.new }
-    ensures sum { cursor.new.index + length cursor.new.left ≡ cursor.old.index + length cursor.old.left }
+    ensures sum { cursor.new.index + length cursor.new.left
+        ≡ cursor.old.index + length cursor.old.left }
     ensures lighter { length cursor.new.left ≤ length cursor.old.left }
     ensures falls { OnOk result (length cursor.new.left + 1 ≤ length cursor.old.left) }
     ensures cause { IfErr result (λ e. IsExplained cursor.old e) }

@@ -25,14 +25,22 @@ pub(crate) fn take_word<'a>(
     kind: Kind,
 ) -> Result<(), OutOfMemory>
     requires { EndsIn text.old.behind cursor.old.left }
-    ensures text { OnOk result (text.new ≡ record { text = (text.old.text ++ joined (gap_of gap.old (before text.old.behind cursor.old.left))) ++ before cursor.old.left cursor.new.left; behind = cursor.new.left }) }
+    ensures text { OnOk result (text.new
+        ≡ record {
+          text = (text.old.text
+              ++ joined (gap_of gap.old (before text.old.behind cursor.old.left)))
+              ++ before cursor.old.left cursor.new.left;
+          behind = cursor.new.left;
+        }) }
     ensures gap { OnOk result (gap.new ≡ no_gap) }
     ensures place { OnOk result (cursor.new ≡ skipped_while (is_of kind) (skipped cursor.old)) }
     ensures onward { (p : Place) → Later p cursor.old → Later p cursor.new }
     ensures within { (all : List ℕ) → EndsIn all cursor.old.left → EndsIn all cursor.new.left }
-    ensures sum { cursor.new.index + length cursor.new.left ≡ cursor.old.index + length cursor.old.left }
+    ensures sum { cursor.new.index + length cursor.new.left
+        ≡ cursor.old.index + length cursor.old.left }
     ensures lighter { length cursor.new.left ≤ length cursor.old.left }
-    ensures falls { OnOk result (slice_index cursor.old.left 0 ≢ 0 → length cursor.new.left + 1 ≤ length cursor.old.left) }
+    ensures falls { OnOk result (slice_index cursor.old.left 0 ≢ 0
+        → length cursor.new.left + 1 ≤ length cursor.old.left) }
 {
     text.join(alloc, gap, cursor.rest())?;
     *gap = Gap::none();
@@ -50,14 +58,22 @@ fn take_doubled<'a>(
     gap: &mut Gap,
 ) -> Result<(), OutOfMemory>
     requires { EndsIn text.old.behind cursor.old.left }
-    ensures text { OnOk result (text.new ≡ record { text = (text.old.text ++ joined (gap_of gap.old (before text.old.behind cursor.old.left))) ++ 39 ∷ []; behind = cursor.new.left }) }
+    ensures text { OnOk result (text.new
+        ≡ record {
+          text = (text.old.text
+              ++ joined (gap_of gap.old (before text.old.behind cursor.old.left)))
+              ++ 39 ∷ [];
+          behind = cursor.new.left;
+        }) }
     ensures gap { OnOk result (gap.new ≡ no_gap) }
     ensures place { OnOk result (cursor.new ≡ skipped (skipped cursor.old)) }
     ensures onward { (p : Place) → Later p cursor.old → Later p cursor.new }
     ensures within { (all : List ℕ) → EndsIn all cursor.old.left → EndsIn all cursor.new.left }
-    ensures sum { cursor.new.index + length cursor.new.left ≡ cursor.old.index + length cursor.old.left }
+    ensures sum { cursor.new.index + length cursor.new.left
+        ≡ cursor.old.index + length cursor.old.left }
     ensures lighter { length cursor.new.left ≤ length cursor.old.left }
-    ensures falls { OnOk result (slice_index cursor.old.left 0 ≢ 0 → length cursor.new.left + 1 ≤ length cursor.old.left) }
+    ensures falls { OnOk result (slice_index cursor.old.left 0 ≢ 0
+        → length cursor.new.left + 1 ≤ length cursor.old.left) }
 {
     text.join(alloc, gap, cursor.rest())?;
     *gap = Gap::none();
@@ -78,11 +94,13 @@ fn take_escape<'a>(
     requires behind { EndsIn text.old.behind cursor.old.left }
     requires sign { slice_index cursor.old.left 0 ≡ 92 }
     requires place { is_document_indicator cursor.old ≡ false }
-    ensures value { Continues (double_at text.old gap.old cursor.old) (double_at text.new gap.new cursor.new) result }
+    ensures value { Continues (double_at text.old gap.old cursor.old)
+        (double_at text.new gap.new cursor.new) result }
     ensures behind { OnOk result (EndsIn text.new.behind cursor.new.left) }
     ensures onward { (p : Place) → Later p cursor.old → Later p cursor.new }
     ensures within { (all : List ℕ) → EndsIn all cursor.old.left → EndsIn all cursor.new.left }
-    ensures sum { cursor.new.index + length cursor.new.left ≡ cursor.old.index + length cursor.old.left }
+    ensures sum { cursor.new.index + length cursor.new.left
+        ≡ cursor.old.index + length cursor.old.left }
     ensures lighter { length cursor.new.left ≤ length cursor.old.left }
     ensures falls { OnOk result (length cursor.new.left + 1 ≤ length cursor.old.left) }
     ensures cause { IfErr result (λ e. IsRefusedBy (codes "\"") mark e) }
@@ -112,10 +130,12 @@ fn close<'a>(
     gap: &Gap,
 ) -> Result<Lent<'a>, OutOfMemory>
     requires { EndsIn text.behind cursor.old.left }
-    ensures text { IfOk result (λ all. all ≡ text.entry.text ++ joined (gap_of gap.now (before text.entry.behind cursor.old.left))) }
+    ensures text { IfOk result (λ all. all
+        ≡ text.entry.text ++ joined (gap_of gap.now (before text.entry.behind cursor.old.left))) }
     ensures place { OnOk result (cursor.new ≡ skipped cursor.old) }
     ensures onward { (p : Place) → Later p cursor.old → Later p cursor.new }
-    ensures sum { cursor.new.index + length cursor.new.left ≡ cursor.old.index + length cursor.old.left }
+    ensures sum { cursor.new.index + length cursor.new.left
+        ≡ cursor.old.index + length cursor.old.left }
     ensures lighter { length cursor.new.left ≤ length cursor.old.left }
 {
     text.join(alloc, gap, cursor.rest())?;
@@ -128,7 +148,8 @@ pub fn scan_single_quoted<'a>(alloc: Global, cursor: &mut Cursor<'a>) -> Result<
     requires { slice_index cursor.old.left 0 ≡ 39 }
     ensures value { ReadsQuoted (single_from cursor.old) result cursor.new }
     ensures onward { (p : Place) → Later p cursor.old → Later p cursor.new }
-    ensures sum { cursor.new.index + length cursor.new.left ≡ cursor.old.index + length cursor.old.left }
+    ensures sum { cursor.new.index + length cursor.new.left
+        ≡ cursor.old.index + length cursor.old.left }
     ensures lighter { length cursor.new.left ≤ length cursor.old.left }
     ensures falls { OnOk result (length cursor.new.left + 1 ≤ length cursor.old.left) }
     ensures cause { IfErr result (λ e. IsExplained cursor.old e) }
@@ -164,7 +185,8 @@ pub fn scan_double_quoted<'a>(alloc: Global, cursor: &mut Cursor<'a>) -> Result<
     requires { slice_index cursor.old.left 0 ≡ 34 }
     ensures value { ReadsQuoted (double_from cursor.old) result cursor.new }
     ensures onward { (p : Place) → Later p cursor.old → Later p cursor.new }
-    ensures sum { cursor.new.index + length cursor.new.left ≡ cursor.old.index + length cursor.old.left }
+    ensures sum { cursor.new.index + length cursor.new.left
+        ≡ cursor.old.index + length cursor.old.left }
     ensures lighter { length cursor.new.left ≤ length cursor.old.left }
     ensures falls { OnOk result (length cursor.new.left + 1 ≤ length cursor.old.left) }
     ensures cause { IfErr result (λ e. IsExplained cursor.old e) }
