@@ -60,8 +60,8 @@ impl<'a> Scanner<'a> {
         ensures failed { left self.new ≤ left self.old }
         ensures source { self.new.source ≡ self.old.source }
     {
-        if let Some(error) = self.get_error() {
-            return Err(error);
+        if let Some(failure) = &self.error {
+            return Err(*failure);
         }
         match self.fetcher.next_token() {
             Ok(token) => Ok(token),
