@@ -9,7 +9,7 @@ use Rattle.snap_scan.specs.Kinds.{kind_of, kind_of_sign, is_alone}
 use Rattle.snap_scan.specs.declared.kind.TokenKind.{TokenKind}
 use Rattle.snap_scan.specs.declared.kind.TokenKind.TheVariants as k
 use Rattle.snap_owed.specs.Forms.{is_sign, is_word_start, is_word_character, is_start, Brackets, square, curly, open_sign, close_sign}
-use Rattle.snap_owed.specs.Steps.{here}
+use Rattle.snap_owed.specs.Stands.{here}
 use Rattle.snap_owed.proofs.Skips.{none_of, and_false, stops_at}
 use Rattle.snap_owed.proofs.Escapes.{apart, other}
 use Rattle.snap_owed.proofs.Words.{both_of, not-true, word_character}

@@ -6,22 +6,25 @@ use Rattle.std.specs.List.{flat_map}
 use Rattle.snap_content.specs.Lines as l
 use Rattle.snap_content.specs.Plain.{Plain}
 use Rattle.snap_token.specs.Mark.{Mark}
-use Rattle.snap_token.specs.Place.{Place, mark_of, forced}
+use Rattle.snap_token.specs.Place.{Place, before_nul, mark_of}
 use Rattle.snap_token.specs.declared.token.Token.{Token}
 use Rattle.snap_token.specs.declared.token.TEncoding.TheVariants.{Utf8}
 use Rattle.snap_token.specs.declared.token.TokenType.TheVariants as k
 use Rattle.snap_token.specs.declared.token.TokenType.{TokenType}
 use Rattle.snap_scan.specs.Fetching.{kind_step, closed}
+use Rattle.snap_scan.specs.Scan.{start_scan}
 use Rattle.snap_scan.specs.State.{State, start_state, kept, ends, is_right_of, at, pushed, unrolled}
 use Rattle.snap_scan.specs.declared.kind.TokenKind.{TokenKind}
 use Rattle.snap_scan.specs.declared.kind.TokenKind.TheVariants as kind
 use Rattle.snap_owed.specs.FormLines.{document_of}
 use Rattle.snap_owed.specs.Forms.{Form, IsPrintable, text_at, tokens_of, document_at}
 use Rattle.snap_owed.specs.PlainForms.{form_of}
-use Rattle.snap_owed.specs.Steps.{left_by, fetched, here, calm, Settles, Steps, none_more, one_more, type_of, closing, Owes}
+use Rattle.snap_scan.specs.Owed.{left_by, fetched, Steps, none_more, one_more, type_of, Owes}
+use Rattle.snap_owed.specs.Stands.{here, calm, Settles, closing}
 use Rattle.snap_owed.specs.Tokens.{document_with, document_tokens}
 use Rattle.snap_owed.proofs.Forms.{node, begins, steps-append, at_end}
 use Rattle.snap_owed.proofs.LaidOut.{lines-text}
+use Rattle.snap_owed.proofs.Nuls.{without-nul, form-nul}
 use Rattle.snap_owed.proofs.Pieces.{step-at, types-ends}
 use Rattle.snap_owed.proofs.Printables.{printable, same-lines, same-tokens}
 use Rattle.snap_owed.proofs.Skips.{stops_at, to_next-stops, settles-by}
@@ -92,6 +95,7 @@ form_by_columns t is =
       steps = one_more s0 s1 (stopped u) refl refl (one_more s1 s2 (stopped u) refl refl
           (steps-append s2 tree.to (stopped u) tree.steps (one_more tree.to (stopped u) (stopped u) tree.settles.ended last (none_more (stopped u)))));
       ended = refl;
+      timely = refl;
       given = finish tree.held tree.columns (mark_of (here [] tree.index tree.line 0)) (mark_of (here [] tree.index tree.line 0))
           (at (mark_of (here [] tree.index tree.line 0)) k.StreamEnd) (k.StreamStart Utf8 ∷ k.DocumentStart ∷ []) (tokens_of t) tree.given;
     }
@@ -107,3 +111,14 @@ plain-document p =
     let P : List ℕ → Type 0 = λ x. Owes (start_state x) (document_tokens p) in
     let Q : List TokenType → Type 0 = λ x. Owes (start_state (document_of (form_of p))) (document_with x) in
     subst P (sym (ap text (same-lines p))) (subst Q (same-tokens p) (form-document (form_of p) (printable p)))
+
+-- a printed text ends at no NUL, and owes its tokens
+pub plain-source : (p : Plain) → Owes (start_scan (before_nul (l.document_of p))).state (document_tokens p)
+plain-source p =
+    let text : List (List ℕ) → List ℕ = λ x. 45 ∷ 45 ∷ 45 ∷ 10 ∷ flat_map l.ended x in
+    let same : l.document_of p ≡ 45 ∷ 45 ∷ 45 ∷ 10 ∷ text_at 0 (form_of p) =
+    ap text (same-lines p) ∙ ap (λ (x : List ℕ). 45 ∷ 45 ∷ 45 ∷ 10 ∷ x) (lines-text (form_of p)) in
+    let P : List ℕ → Type 0 = λ x. before_nul x ≡ x in
+    let whole : before_nul (l.document_of p) ≡ l.document_of p = subst P (sym same) (ap (λ (x : List ℕ). 45 ∷ 45 ∷ 45 ∷ 10 ∷ x) (without-nul (text_at 0 (form_of p)) (form-nul (form_of p) 0 (printable p)))) in
+    let Q : List ℕ → Type 0 = λ x. Owes (start_scan x).state (document_tokens p) in
+    subst Q (sym whole) (plain-document p)

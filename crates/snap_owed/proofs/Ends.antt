@@ -9,7 +9,7 @@ use Rattle.snap_scan.specs.Keys.{fresh, is_overdue}
 use Rattle.snap_scan.specs.State.{State}
 use Rattle.snap_scan.specs.declared.keys.SimpleKey.{SimpleKey}
 use Rattle.snap_owed.specs.Forms.{blanks}
-use Rattle.snap_owed.specs.Steps.{here, calm, Settles}
+use Rattle.snap_owed.specs.Stands.{here, calm, Settles}
 use Rattle.snap_owed.proofs.Skips.{stops_at, to_next-stops, to_next-blanks, with_place, settles-by}
 
 -- the key that a token may be

@@ -6,7 +6,7 @@ use Rattle.std.specs.Fmt.{digit_glyph}
 use Rattle.snap_token.specs.Folding.{no_gap}
 use Rattle.snap_token.specs.Place.{Place, skipped}
 use Rattle.snap_token.specs.Quoted.{Quoted, double, digits, hexadecimal, is_code}
-use Rattle.snap_owed.specs.Steps.{here}
+use Rattle.snap_owed.specs.Stands.{here}
 
 apart-by : (P : ℕ → Bool) (a c : ℕ) → P a ≡ false → P c ≡ true → (b : Bool) → (c == a) ≡ b → b ≡ false
 apart-by P a c fails passes false e = refl

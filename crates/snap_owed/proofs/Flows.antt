@@ -11,7 +11,8 @@ use Rattle.snap_scan.specs.State.{State, kept, ends, at}
 use Rattle.snap_scan.specs.declared.keys.SimpleKey.{SimpleKey}
 use Rattle.snap_scan.specs.declared.kind.TokenKind.{TokenKind}
 use Rattle.snap_owed.specs.Forms.{blanks, Brackets, square, curly, open_sign, close_sign, open_token, close_token}
-use Rattle.snap_owed.specs.Steps.{left_by, fetched, arrived, settled, here, calm, Settles}
+use Rattle.snap_scan.specs.Owed.{left_by, fetched}
+use Rattle.snap_owed.specs.Stands.{arrived, settled, here, calm, Settles}
 use Rattle.snap_owed.proofs.Beginnings.{open_kind, close_kind, opened-kind, closed-kind}
 use Rattle.snap_owed.proofs.Ends.{outside, key_of, settles-end, then-stale, in-time}
 use Rattle.snap_owed.proofs.Pieces.{fetch-settled, step-at}

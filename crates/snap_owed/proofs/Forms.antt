@@ -10,7 +10,8 @@ use Rattle.snap_token.specs.declared.token.TokenType.{TokenType}
 use Rattle.snap_token.specs.declared.token.TokenType.TheVariants as k
 use Rattle.snap_scan.specs.State.{State, kept, ends, is_deeper, is_right_of, at}
 use Rattle.snap_owed.specs.Forms.{Form, Forms, Entry, Entries, Scalar, bare, quote, Brackets, square, curly, open_sign, close_sign, open_token, close_token, scalar, hollow, list, dict, last, item, simple, complex, only, pair, IsPrintable, ArePrintable, IsEntry, AreEntries, text_at, inside, entry_at, entries_at, value_block, spelled, scalar_token, tokens_of, inside_tokens, entry_tokens, entries_tokens, blanks, is_scalar, is_key, is_start, is_tail}
-use Rattle.snap_owed.specs.Steps.{here, calm, Settles, Steps, none_more, one_more, type_of, closing, Lands}
+use Rattle.snap_scan.specs.Owed.{Steps, none_more, one_more, type_of}
+use Rattle.snap_owed.specs.Stands.{here, calm, Settles, closing, Lands}
 use Rattle.snap_owed.proofs.Beginnings.{starts}
 use Rattle.snap_owed.proofs.Flows.{step-empty}
 use Rattle.snap_owed.proofs.Keys.{step-key, step-colon, key-new, key-again, settles-flat, settles-line, with_key, adjacent_behind, keeps-deeper, keeps-level}

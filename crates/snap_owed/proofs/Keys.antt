@@ -18,7 +18,8 @@ use Rattle.snap_scan.specs.declared.keys.SimpleKey.{SimpleKey}
 use Rattle.snap_scan.specs.declared.kind.TokenKind.{TokenKind}
 use Rattle.snap_scan.specs.declared.kind.TokenKind.TheVariants as k
 use Rattle.snap_owed.specs.Forms.{is_tail, is_start, is_scalar, Scalar, bare, quote, spelled, scalar_token, blanks}
-use Rattle.snap_owed.specs.Steps.{left_by, fetched, settled, here, calm, Settles}
+use Rattle.snap_scan.specs.Owed.{left_by, fetched}
+use Rattle.snap_owed.specs.Stands.{settled, here, calm, Settles}
 use Rattle.snap_owed.proofs.Beginnings.{starts, colon-kind}
 use Rattle.snap_owed.proofs.Ends.{outside}
 use Rattle.snap_owed.proofs.Pieces.{with_scalar, fetch_at, fetch-settled, step-at, plain_from-letter, read-plain, step-quote}

@@ -11,3 +11,4 @@ pub mod Forms
 pub mod LaidOut
 pub mod Printables
 pub mod Documents
+pub mod Nuls

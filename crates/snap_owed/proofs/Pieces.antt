@@ -18,7 +18,8 @@ use Rattle.snap_scan.specs.State.{State, unrolled, stale, kept, ends, is_deeper,
 use Rattle.snap_scan.specs.declared.kind.TokenKind.{TokenKind}
 use Rattle.snap_scan.specs.declared.kind.TokenKind.TheVariants as k
 use Rattle.snap_owed.specs.Forms.{blanks, is_tail, is_start, is_bare, is_scalar, Scalar, bare, quote, spelled, scalar_token}
-use Rattle.snap_owed.specs.Steps.{left_by, fetched, arrived, settled, here, calm, Settles, type_of, closing}
+use Rattle.snap_scan.specs.Owed.{left_by, fetched, type_of}
+use Rattle.snap_owed.specs.Stands.{arrived, settled, here, calm, Settles, closing}
 use Rattle.snap_owed.proofs.Skips.{stops_at, and_false, to_next-stops, settles-by}
 use Rattle.snap_owed.proofs.Beginnings.{Starts, starts, entry-kind, mark-kind, colon-kind, quote-kind}
 use Rattle.snap_owed.proofs.Ends.{outside, key_of, settles-end, then-stale, in-time}

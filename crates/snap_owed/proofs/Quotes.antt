@@ -12,7 +12,7 @@ use Rattle.snap_token.specs.Quoted.{Quoted, double, double_from, digits, is_code
 use Rattle.snap_token.specs.declared.folding.Fold.TheVariants.{Inline}
 use Rattle.snap_token.specs.declared.folding.Gap.{Gap}
 use Rattle.snap_owed.specs.Forms.{spelled, quote}
-use Rattle.snap_owed.specs.Steps.{here}
+use Rattle.snap_owed.specs.Stands.{here}
 use Rattle.snap_owed.proofs.Escapes.{coded, glyph, passed}
 use Rattle.snap_owed.proofs.Skips.{none_of}
 

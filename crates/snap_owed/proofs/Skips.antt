@@ -7,7 +7,7 @@ use Rattle.snap_token.specs.declared.token.Token.{Token}
 use Rattle.snap_scan.specs.Keys.{any_overdue}
 use Rattle.snap_scan.specs.State.{State, to_next, is_space, in_flow, stale}
 use Rattle.snap_owed.specs.Forms.{blanks}
-use Rattle.snap_owed.specs.Steps.{here, calm, arrived, Settles}
+use Rattle.snap_owed.specs.Stands.{here, calm, arrived, Settles}
 
 abbrev pub with_place : Place → State → State
 with_place p s = record s { place = p }

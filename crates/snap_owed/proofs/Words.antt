@@ -10,7 +10,7 @@ use Rattle.snap_token.specs.declared.folding.Fold.TheVariants.{Broken}
 use Rattle.snap_token.specs.declared.folding.Gap.{Gap}
 use Rattle.snap_scan.specs.Fetching.{innermost}
 use Rattle.snap_owed.specs.Forms.{blanks, is_word_character, is_tail}
-use Rattle.snap_owed.specs.Steps.{here}
+use Rattle.snap_owed.specs.Stands.{here}
 use Rattle.snap_owed.proofs.Quotes.{gap_in_line}
 use Rattle.snap_owed.proofs.Skips.{none_of, stops_at}
 

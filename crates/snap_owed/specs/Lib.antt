@@ -1,5 +1,5 @@
 pub mod Forms
 pub mod FormLines
-pub mod Steps
+pub mod Stands
 pub mod PlainForms
 pub mod Tokens

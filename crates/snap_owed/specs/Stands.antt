@@ -1,36 +1,12 @@
--- Fetches one after the other, and the tokens that they come to.
+-- Where a scanner stands between the pieces of a printed text, and the tokens that it has come to.
 use Rattle.std.specs.Prelude.{ℕ, ◌≡◌, List, [], ◌∷◌, ◌++◌, if◌then◌else◌, map, Bool, true, false, Option, None, Some}
 use Rattle.snap_token.specs.Place.{Place, mark_of}
 use Rattle.snap_token.specs.declared.token.Token.{Token}
 use Rattle.snap_token.specs.declared.token.TokenType.{TokenType}
 use Rattle.snap_token.specs.declared.token.TokenType.TheVariants as kind
 use Rattle.snap_scan.specs.Keys.{no_keys, any_overdue}
+use Rattle.snap_scan.specs.Owed.{Steps, type_of}
 use Rattle.snap_scan.specs.State.{State, stale, to_next, is_right_of, kept}
-use Rattle.snap_scan.specs.Fetching.{Outcome, done, told, step}
-
--- the state that a fetch leaves
-abbrev pub left_by : Outcome → Option State
-left_by (done s) = Some s
-left_by (told p s) = Some s
-left_by _ = None
-
-abbrev pub fetched : State → Option State
-fetched s = left_by (step s)
-
--- fetches that lead from one state to another
-pub data Steps : State → State → Type 0 where
-  none_more : (s : State) → Steps s s
-  one_more : (s t u : State) → s.ended ≡ false → fetched s ≡ Some t → Steps t u → Steps s u
-
-abbrev pub type_of : Token → TokenType
-type_of t = t.1
-
--- the tokens that a scanner will give
-pub record Owes (s : State) (ts : List TokenType) : Type 0 where
-  pub end : State
-  pub steps : Steps s end
-  pub ended : end.ended ≡ true
-  pub given : map type_of end.held ≡ ts
 
 -- the state at the next character that isn't skipped, its keys as they were
 abbrev pub arrived : State → State
