@@ -1,11 +1,10 @@
 -- What begins at the pieces of a printed text.
-use Rattle.std.proofs.Common.{◌≡◌, ℕ, List, [], ◌∷◌, ◌++◌, Bool, true, false, refl, ap, ◌∙◌, arith}
+use Rattle.std.proofs.Common.{◌≡◌, ℕ, List, [], ◌∷◌, ◌++◌, Bool, true, false, refl, ◌∙◌, arith}
 use Rattle.std.proofs.lemmas.Bool.Decides.{nat_tests}
 use Rattle.std.specs.Prelude.{◌||◌, ◌&&◌, ◌==◌, slice_index, if◌then◌else◌}
 use Rattle.snap_token.specs.Characters.{is_blank_or_end, is_digit, is_document_start, is_document_end}
 use Rattle.snap_token.specs.Place.{Place}
-use Rattle.snap_token.specs.declared.info.ScanInfo.TheVariants as info
-use Rattle.snap_scan.specs.Kinds.{kind_of, kind_of_sign, is_alone}
+use Rattle.snap_scan.specs.Kinds.{kind_of, kind_of_sign}
 use Rattle.snap_scan.specs.declared.kind.TokenKind.{TokenKind}
 use Rattle.snap_scan.specs.declared.kind.TokenKind.TheVariants as k
 use Rattle.snap_owed.specs.Forms.{is_sign, is_word_start, is_word_character, is_start, Brackets, square, curly, open_sign, close_sign}

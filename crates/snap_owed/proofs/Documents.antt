@@ -6,20 +6,18 @@ use Rattle.std.specs.List.{flat_map}
 use Rattle.snap_content.specs.Lines as l
 use Rattle.snap_content.specs.Plain.{Plain}
 use Rattle.snap_token.specs.Mark.{Mark}
-use Rattle.snap_token.specs.Place.{Place, before_nul, mark_of}
+use Rattle.snap_token.specs.Place.{before_nul, mark_of}
 use Rattle.snap_token.specs.declared.token.Token.{Token}
 use Rattle.snap_token.specs.declared.token.TEncoding.TheVariants.{Utf8}
 use Rattle.snap_token.specs.declared.token.TokenType.TheVariants as k
 use Rattle.snap_token.specs.declared.token.TokenType.{TokenType}
-use Rattle.snap_scan.specs.Fetching.{kind_step, closed}
+use Rattle.snap_scan.specs.Fetching.{closed}
 use Rattle.snap_scan.specs.Scan.{start_scan}
 use Rattle.snap_scan.specs.State.{State, start_state, kept, ends, is_right_of, at, pushed, unrolled}
-use Rattle.snap_scan.specs.declared.kind.TokenKind.{TokenKind}
-use Rattle.snap_scan.specs.declared.kind.TokenKind.TheVariants as kind
 use Rattle.snap_owed.specs.FormLines.{document_of}
 use Rattle.snap_owed.specs.Forms.{Form, IsPrintable, text_at, tokens_of, document_at}
 use Rattle.snap_owed.specs.PlainForms.{form_of}
-use Rattle.snap_scan.specs.Owed.{left_by, fetched, Steps, none_more, one_more, type_of, Owes}
+use Rattle.snap_scan.specs.Owed.{fetched, none_more, one_more, type_of, Owes}
 use Rattle.snap_owed.specs.Stands.{here, calm, Settles, closing}
 use Rattle.snap_owed.specs.Tokens.{document_with, document_tokens}
 use Rattle.snap_owed.proofs.Forms.{node, begins, steps-append, at_end}

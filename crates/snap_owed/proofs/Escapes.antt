@@ -1,11 +1,11 @@
 -- Codes in double quotes.
-use Rattle.std.proofs.Common.{◌≡◌, ◌<◌, ℕ, zero, suc, ◌+◌, ◌-◌, ◌*◌, ◌/◌, ◌%◌, List, [], ◌∷◌, ◌++◌, Bool, true, false, refl, ap, ◌∙◌, arith, sym, subst, Some, None, Option, nat_lt, nat_le}
+use Rattle.std.proofs.Common.{◌≡◌, ◌<◌, ℕ, ◌+◌, ◌-◌, ◌*◌, List, [], ◌∷◌, ◌++◌, Bool, true, false, refl, ap, ◌∙◌, arith, sym, Some, Option, nat_lt, nat_le}
 use Rattle.std.proofs.lemmas.Bool.Decides.{nat_tests}
-use Rattle.std.specs.Prelude.{◌||◌, ◌&&◌, ◌==◌, slice_index, not, if◌then◌else◌, is_some}
+use Rattle.std.specs.Prelude.{◌==◌}
 use Rattle.std.specs.Fmt.{digit_glyph}
 use Rattle.snap_token.specs.Folding.{no_gap}
-use Rattle.snap_token.specs.Place.{Place, skipped}
-use Rattle.snap_token.specs.Quoted.{Quoted, double, digits, hexadecimal, is_code}
+use Rattle.snap_token.specs.Place.{skipped}
+use Rattle.snap_token.specs.Quoted.{double, digits, hexadecimal, is_code}
 use Rattle.snap_owed.specs.Stands.{here}
 
 apart-by : (P : ℕ → Bool) (a c : ℕ) → P a ≡ false → P c ≡ true → (b : Bool) → (c == a) ≡ b → b ≡ false

@@ -1,7 +1,7 @@
 -- An empty list or dict at the end of a line.
-use Rattle.std.proofs.Common.{◌≡◌, ℕ, ◌+◌, ◌-◌, List, [], ◌∷◌, ◌++◌, Bool, true, false, refl, ap, ◌∙◌, arith, zero-add, Some, None, Option, nat_lt, length, subst}
+use Rattle.std.proofs.Common.{◌≡◌, ℕ, ◌+◌, ◌-◌, List, [], ◌∷◌, ◌++◌, Bool, true, false, refl, ap, ◌∙◌, arith, zero-add, Some, None, Option, nat_lt, subst}
 use Rattle.std.proofs.lemmas.Bool.Decides.{nat_tests}
-use Rattle.std.specs.Prelude.{◌==◌, ◌||◌, slice_index}
+use Rattle.std.specs.Prelude.{slice_index}
 use Rattle.snap_token.specs.Mark.{Mark}
 use Rattle.snap_token.specs.Place.{Place, mark_of}
 use Rattle.snap_token.specs.declared.token.Token.{Token}

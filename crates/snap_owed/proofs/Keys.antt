@@ -1,8 +1,8 @@
 -- A simple key and its colon.
-use Rattle.std.proofs.Common.{◌≡◌, ℕ, suc, ◌+◌, ◌-◌, ◌≤◌, List, [], ◌∷◌, ◌++◌, Bool, true, false, refl, ap, ◌∙◌, arith, append-nil, Some, Option, nat_lt, length, min, length-append}
+use Rattle.std.proofs.Common.{◌≡◌, ℕ, suc, ◌+◌, ◌-◌, ◌≤◌, List, [], ◌∷◌, ◌++◌, true, false, refl, ap, ◌∙◌, arith, append-nil, Some, Option, nat_lt, length, min, length-append}
 use Rattle.std.proofs.lemmas.Bool.Decides.{nat_tests}
 use Rattle.std.proofs.Math.Seq.{take-append_seam, drop-append_seam}
-use Rattle.std.specs.Prelude.{◌==◌, ◌||◌, slice_index}
+use Rattle.std.specs.Prelude.{slice_index}
 use Rattle.std.specs.List.{insert}
 use Rattle.snap_token.specs.Characters.{is_blank_or_end}
 use Rattle.snap_token.specs.Folding.{no_gap}
@@ -22,7 +22,7 @@ use Rattle.snap_scan.specs.Owed.{left_by, fetched}
 use Rattle.snap_owed.specs.Stands.{settled, here, calm, Settles}
 use Rattle.snap_owed.proofs.Beginnings.{starts, colon-kind}
 use Rattle.snap_owed.proofs.Ends.{outside}
-use Rattle.snap_owed.proofs.Pieces.{with_scalar, fetch_at, fetch-settled, step-at, plain_from-letter, read-plain, step-quote}
+use Rattle.snap_owed.proofs.Pieces.{fetch-settled, step-at, plain_from-letter, read-plain, step-quote}
 use Rattle.snap_owed.proofs.Skips.{stops_at, to_next-stops, to_next-blanks, settles-by}
 use Rattle.snap_owed.proofs.Words.{both_of, plain-text}
 

@@ -1,5 +1,5 @@
 -- The text by columns is the text by lines and prefixes.
-use Rattle.std.proofs.Common.{◌≡◌, ℕ, zero, suc, ◌+◌, List, [], ◌∷◌, ◌++◌, map, refl, ap, ◌∙◌, arith, sym, subst, append_assoc}
+use Rattle.std.proofs.Common.{◌≡◌, ℕ, zero, suc, ◌+◌, List, [], ◌∷◌, ◌++◌, map, refl, ap, ◌∙◌, arith, sym, append_assoc}
 use Rattle.std.specs.List.{flat_map}
 use Rattle.snap_content.specs.Lines.{indented, behind, ended}
 use Rattle.snap_owed.specs.FormLines.{key_block, lines_of, item_lines, entry_block, entry_lines, text_of}

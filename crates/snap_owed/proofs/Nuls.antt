@@ -1,5 +1,5 @@
 -- No NUL stands in a printed text.
-use Rattle.std.proofs.Common.{◌≡◌, ℕ, zero, suc, ◌+◌, ◌/◌, ◌%◌, ◌<◌, List, [], ◌∷◌, ◌++◌, Bool, true, false, not, refl, ap, ◌∙◌, arith, nat_lt, append_assoc}
+use Rattle.std.proofs.Common.{◌≡◌, ℕ, zero, suc, ◌+◌, ◌/◌, ◌%◌, ◌<◌, List, [], ◌∷◌, ◌++◌, Bool, true, false, not, refl, ap, arith, nat_lt, append_assoc}
 use Rattle.std.proofs.lemmas.Bool.Decides.{nat_tests}
 use Rattle.std.specs.Prelude.{◌||◌, ◌&&◌, ◌==◌, slice_index, if◌then◌else◌, is_some}
 use Rattle.std.specs.Fmt.{digit_glyph}
@@ -8,7 +8,7 @@ use Rattle.snap_content.specs.Spell.{escaped, escaped_code}
 use Rattle.snap_token.specs.Characters.{is_digit}
 use Rattle.snap_token.specs.Place.{before_nul}
 use Rattle.snap_token.specs.Quoted.{hexadecimal}
-use Rattle.snap_owed.specs.Forms.{Form, Forms, Entry, Entries, Scalar, bare, quote, Brackets, square, curly, scalar, hollow, list, dict, last, item, simple, complex, only, pair, IsPrintable, ArePrintable, IsEntry, AreEntries, text_at, inside, entry_at, entries_at, value_block, spelled, blanks, is_scalar, is_key, is_bare, is_start, is_tail, is_word_start, is_word_character}
+use Rattle.snap_owed.specs.Forms.{Form, Forms, Entry, Entries, Scalar, bare, quote, square, curly, scalar, hollow, list, dict, last, item, simple, complex, only, pair, IsPrintable, ArePrintable, IsEntry, AreEntries, text_at, inside, entry_at, entries_at, value_block, spelled, blanks, is_scalar, is_start, is_tail, is_word_start, is_word_character}
 use Rattle.snap_owed.proofs.Escapes.{apart, glyph}
 use Rattle.snap_owed.proofs.Forms.{key_facts}
 use Rattle.snap_owed.proofs.Skips.{none_of}

@@ -1,27 +1,27 @@
 -- One fetch at each piece of a printed line.
-use Rattle.std.proofs.Common.{◌≡◌, ℕ, ◌+◌, List, [], ◌∷◌, ◌++◌, Bool, true, false, refl, ap, ◌∙◌, arith, append-nil, zero-add, length, subst, Some, None, Option, map, nat_lt}
+use Rattle.std.proofs.Common.{◌≡◌, ℕ, ◌+◌, List, [], ◌∷◌, ◌++◌, Bool, true, false, refl, ap, ◌∙◌, arith, append-nil, zero-add, length, subst, Some, Option, map, nat_lt}
 use Rattle.std.proofs.lemmas.Bool.Decides.{nat_tests}
-use Rattle.std.specs.Prelude.{◌||◌, ◌&&◌, ◌==◌, slice_index, if◌then◌else◌}
+use Rattle.std.specs.Prelude.{◌||◌, ◌==◌, slice_index, if◌then◌else◌}
 use Rattle.snap_token.specs.Folding.{no_gap}
 use Rattle.snap_token.specs.Mark.{Mark}
-use Rattle.snap_token.specs.Place.{Place, mark_of, skipped}
+use Rattle.snap_token.specs.Place.{Place, mark_of}
 use Rattle.snap_token.specs.Plain.{Plain, plain, plain_from}
 use Rattle.snap_token.specs.Quoted.{Quoted, double_from}
 use Rattle.snap_token.specs.declared.info.ScanInfo.TheVariants as info
 use Rattle.snap_token.specs.declared.token.Token.{Token}
 use Rattle.snap_token.specs.declared.token.TokenType.TheVariants as t
 use Rattle.snap_token.specs.declared.token.TScalarStyle.TheVariants as style
-use Rattle.snap_scan.specs.Fetching.{Outcome, done, told, refused, step, token_step, stream_started, kind_step, innermost, plain_read, quoted_read}
+use Rattle.snap_scan.specs.Fetching.{Outcome, done, refused, stream_started, kind_step, innermost}
 use Rattle.snap_scan.specs.Keys.{any_overdue}
 use Rattle.snap_scan.specs.Kinds.{kind_of}
-use Rattle.snap_scan.specs.State.{State, unrolled, stale, kept, ends, is_deeper, is_right_of, at, pushed, saved, in_flow}
+use Rattle.snap_scan.specs.State.{State, unrolled, kept, ends, is_deeper, is_right_of, at, pushed, saved, in_flow}
 use Rattle.snap_scan.specs.declared.kind.TokenKind.{TokenKind}
 use Rattle.snap_scan.specs.declared.kind.TokenKind.TheVariants as k
 use Rattle.snap_owed.specs.Forms.{blanks, is_tail, is_start, is_bare, is_scalar, Scalar, bare, quote, spelled, scalar_token}
 use Rattle.snap_scan.specs.Owed.{left_by, fetched, type_of}
 use Rattle.snap_owed.specs.Stands.{arrived, settled, here, calm, Settles, closing}
 use Rattle.snap_owed.proofs.Skips.{stops_at, and_false, to_next-stops, settles-by}
-use Rattle.snap_owed.proofs.Beginnings.{Starts, starts, entry-kind, mark-kind, colon-kind, quote-kind}
+use Rattle.snap_owed.proofs.Beginnings.{starts, quote-kind}
 use Rattle.snap_owed.proofs.Ends.{outside, key_of, settles-end, then-stale, in-time}
 use Rattle.snap_owed.proofs.Quotes.{between_quotes, read_quote, quoted-whole}
 use Rattle.snap_owed.proofs.Words.{EndsWord, word_end, plain-text, plain-ends, both_of}
@@ -132,7 +132,6 @@ plain_from-letter c tail indent i l j blank h = rw (blank, h) refl
 abbrev pub with_scalar : Bool → ℕ → Place → List Token → List ℕ → Plain → State
 with_scalar b a p h os r = pushed (at (mark_of p) (t.Scalar style.Plain r.text)) (record (saved (calm b a p h os)) { allowed = r.is_broken; place = r.place })
 
-
 settles-word : (b : Bool) (a : ℕ) (p : Place) (h : List Token) (os text cs : List ℕ) (i m : ℕ) → stops_at (slice_index cs 0) ≡ false
     → Settles true (with_scalar b a p h os (word_end text (here cs i (p.line + 1) m))) (here cs i (p.line + 1) m) (h ++ at (mark_of p) (t.Scalar style.Plain text) ∷ []) os
 settles-word true a p h os text cs i m stop =
@@ -150,7 +149,6 @@ pub read-plain : (b : Bool) (a : ℕ) (p : Place) (h : List Token) (os : List �
     → left_by (kind_step k.Plain (calm b a p h os)) ≡ Some (with_scalar b a p h os r)
 read-plain true a p h os r is = rw is refl
 read-plain false a p h os r is = rw is refl
-
 
 step-bare : (b : Bool) (s : State) (w cs : List ℕ) (i l j m : ℕ) (h : List Token) (columns os : List ℕ)
     → Settles b s (here (w ++ (10 ∷ (blanks m ++ cs))) i l j) h columns → is_bare w ≡ true → kept (Some j) columns ≡ os

@@ -1,11 +1,11 @@
 -- A text of one line that needs no quotes is one plain scalar.
-use Rattle.std.proofs.Common.{◌≡◌, ℕ, zero, suc, ◌+◌, List, [], ◌∷◌, ◌++◌, Bool, true, false, refl, ap, ◌∙◌, arith, add-zero, append_assoc, append-nil, zero-add, length, ◌⊎◌, inl, inr, Option, Some, None}
+use Rattle.std.proofs.Common.{◌≡◌, ℕ, zero, suc, ◌+◌, List, [], ◌∷◌, ◌++◌, Bool, true, false, refl, ◌∙◌, arith, add-zero, append_assoc, append-nil, zero-add, length, ◌⊎◌, inl, inr, Some}
 use Rattle.std.proofs.lemmas.Bool.Decides.{nat_tests}
 use Rattle.std.specs.Prelude.{◌||◌, ◌&&◌, ◌==◌, slice_index, not, if◌then◌else◌}
-use Rattle.snap_token.specs.Characters.{is_break, is_blank, is_blank_or_end, is_flow_sign, is_document_indicator}
-use Rattle.snap_token.specs.Folding.{no_gap, is_nil}
+use Rattle.snap_token.specs.Characters.{is_break, is_blank, is_document_indicator}
+use Rattle.snap_token.specs.Folding.{no_gap}
 use Rattle.snap_token.specs.Place.{Place}
-use Rattle.snap_token.specs.Plain.{Plain, plain, is_outside, is_apart, ends_plain}
+use Rattle.snap_token.specs.Plain.{Plain, plain, is_outside, ends_plain}
 use Rattle.snap_token.specs.declared.folding.Fold.TheVariants.{Broken}
 use Rattle.snap_token.specs.declared.folding.Gap.{Gap}
 use Rattle.snap_scan.specs.Fetching.{innermost}

@@ -2,7 +2,7 @@
 use Rattle.std.specs.Prelude.{ℕ, List, [], ◌∷◌, ◌++◌, map, codes}
 use Rattle.std.specs.List.{flat_map}
 use Rattle.snap_content.specs.Lines.{indented, behind, ended}
-use Rattle.snap_owed.specs.Forms.{Form, Forms, Entry, Entries, Brackets, scalar, hollow, list, dict, last, item, simple, complex, only, pair, spelled, open_sign, close_sign}
+use Rattle.snap_owed.specs.Forms.{Form, Forms, Entry, Entries, scalar, hollow, list, dict, last, item, simple, complex, only, pair, spelled, open_sign, close_sign}
 
 -- the lines of an entry with a simple key, from the key as it is written, the value and its lines
 abbrev pub key_block : List ℕ → Form → List (List ℕ) → List (List ℕ)

@@ -1,5 +1,5 @@
 -- Where a scanner stands between the pieces of a printed text, and the tokens that it has come to.
-use Rattle.std.specs.Prelude.{ℕ, ◌≡◌, List, [], ◌∷◌, ◌++◌, if◌then◌else◌, map, Bool, true, false, Option, None, Some}
+use Rattle.std.specs.Prelude.{ℕ, ◌≡◌, List, [], ◌∷◌, ◌++◌, if◌then◌else◌, map, Bool, true, false, Option}
 use Rattle.snap_token.specs.Place.{Place, mark_of}
 use Rattle.snap_token.specs.declared.token.Token.{Token}
 use Rattle.snap_token.specs.declared.token.TokenType.{TokenType}

@@ -1,8 +1,8 @@
 -- What is owed stays owed from one call to the next.
-use Rattle.std.proofs.Common.{◌≡◌, ℕ, suc, ◌+◌, ◌-◌, ◌≤◌, ◌⊎◌, List, [], ◌∷◌, ◌++◌, Bool, true, false, refl, sym, ap, ◌∙◌, arith, Some, None, Option, map, nat_lt, length, subst, drop, inl, inr, Result, Ok, Err}
+use Rattle.std.proofs.Common.{◌≡◌, ℕ, suc, ◌-◌, ◌⊎◌, List, [], ◌∷◌, Bool, true, false, refl, sym, ap, ◌∙◌, arith, Some, None, Option, map, subst, drop, inl, inr, Ok}
 use Rattle.std.proofs.lemmas.Bool.Decides.{nat_tests}
 use Rattle.std.specs.List.{list_any}
-use Rattle.std.specs.Prelude.{not, ◌||◌, ◌&&◌, ◌==◌, MatchOption, MatchResult, if◌then◌else◌}
+use Rattle.std.specs.Prelude.{not, ◌||◌, ◌&&◌, ◌==◌, MatchOption, if◌then◌else◌}
 use Rattle.snap_token.specs.Mark.{Mark}
 use Rattle.snap_token.specs.Place.{Place, mark_of}
 use Rattle.snap_token.specs.declared.info.ScanError.{ScanError}
@@ -10,13 +10,13 @@ use Rattle.snap_token.specs.declared.info.ScanError.TheVariants.{Syntax, OutOfMe
 use Rattle.snap_token.specs.declared.info.ScanInfo.TheVariants as info
 use Rattle.snap_token.specs.declared.token.Token.{Token}
 use Rattle.snap_token.specs.declared.token.TokenType.{TokenType}
-use Rattle.snap_scan.specs.Fetching.{Outcome, done, told, refused, read, unreadable, step, token_step, stream_started, Does, Leaves, MayFail, kind_step}
+use Rattle.snap_scan.specs.Fetching.{Outcome, done, told, refused, read, unreadable, step, token_step, stream_started, Leaves, MayFail, kind_step}
 use Rattle.snap_scan.specs.Kinds.{kind_of}
-use Rattle.snap_scan.specs.Keys.{Keys, no_keys, fresh, is_past, is_overdue, any_overdue, still_fresh, names_first, any_names_first, lowered, all_lowered}
-use Rattle.snap_scan.specs.Owed.{left_by, fetched, Steps, none_more, one_more, type_of, Owes, IsFirstSure, StillOwes, IsFirst, GivesFirst}
+use Rattle.snap_scan.specs.Keys.{Keys, fresh, is_past, is_overdue, any_overdue, still_fresh, names_first, any_names_first, lowered, all_lowered}
+use Rattle.snap_scan.specs.Owed.{left_by, fetched, Steps, none_more, one_more, type_of, Owes, IsFirstSure, IsFirst, GivesFirst}
 use Rattle.snap_scan.specs.Scan.{Scan}
 use Rattle.snap_scan.specs.Sound.{IsSound, untouched, open_still, over}
-use Rattle.snap_scan.specs.State.{State, start_state, to_next, past_comment, advanced, line_ended, is_space, stale, given, in_flow, unrolled}
+use Rattle.snap_scan.specs.State.{State, to_next, past_comment, advanced, line_ended, is_space, stale, given, in_flow, unrolled}
 use Rattle.snap_token.specs.Characters.{is_break}
 use Rattle.snap_scan.specs.declared.keys.SimpleKey.{SimpleKey}
 use Rattle.snap_scan.proofs.Fronts.{IsOnward, to_next-onward, to_next-rekeyed, raised, in_front, fronts, step-front, any-overdue-front}
@@ -323,13 +323,16 @@ gives-first (Some x) s t ts (inl ended) ready (is, same) o =
     let Q : State → Type 0 = λ v. any_overdue (mark_of v.place) v.keys ≡ false in
     let timely : any_overdue (mark_of s.place) s.keys ≡ false = subst Q (none-left s o.end o.steps ended) o.timely in
     let P : List TokenType → Type 0 = λ v. IsFirst x t v in
-    subst P (sym e) (refl, record {
-      end = t;
-      steps = none_more t;
-      ended = ap ended_of same ∙ ended;
-      timely = ap late same ∙ any-overdue-lowered (mark_of s.place) s.keys ∙ timely;
-      given = refl;
-    })
+    subst P (sym e) (
+      refl,
+      record {
+        end = t;
+        steps = none_more t;
+        ended = ap ended_of same ∙ ended;
+        timely = ap late same ∙ any-overdue-lowered (mark_of s.place) s.keys ∙ timely;
+        given = refl;
+      },
+    )
 gives-first (Some x) s t ts (inr sure) ready (is, same) o =
     let Q : State → Type 0 = λ v. Owes v ts in
     let f = owes-front x (given s) ts (subst Q (sym (front-given x t.held s is sure)) o) in

@@ -1,6 +1,6 @@
 -- The tokens that a scanner will give, where its fetches are known up to StreamEnd.
 use Rattle.std.specs.Prelude.{ℕ, ◌≡◌, ◌⊎◌, List, [], ◌∷◌, map, Bool, true, false, Option, None, Some, Result, Ok, Err, MatchOption}
-use Rattle.snap_token.specs.Place.{Place, mark_of}
+use Rattle.snap_token.specs.Place.{mark_of}
 use Rattle.snap_token.specs.declared.info.ScanError.{ScanError}
 use Rattle.snap_token.specs.declared.info.ScanError.TheVariants.{OutOfMemory}
 use Rattle.snap_token.specs.declared.token.Token.{Token}

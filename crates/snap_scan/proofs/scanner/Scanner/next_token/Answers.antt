@@ -5,7 +5,7 @@ use Rattle.snap_token.specs.declared.info.ScanError.{ScanError}
 use Rattle.snap_token.specs.declared.info.ScanError.TheVariants.{OutOfMemory}
 use Rattle.snap_token.specs.declared.token.TokenType.{TokenType}
 use Rattle.snap_scan.specs.Owed.{Owes, GivesFirst}
-use Rattle.snap_scan.specs.State.{state_of, has_ended}
+use Rattle.snap_scan.specs.State.{state_of}
 use Rattle.snap_scan.specs.Sound.{IsFounded, is_start_ahead}
 use Rattle.snap_scan.specs.Scan.{Scan, GivesNext}
 use Rattle.snap_scan.proofs.Order.{gives-next, sound-after, whole-sound, whole-open, whole-failed}
