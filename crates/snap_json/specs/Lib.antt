@@ -1,0 +1,6 @@
+pub mod Strings
+pub mod Layout
+pub mod JsonPlain
+pub mod JsonText
+pub mod Written
+pub mod Walked

@@ -1,0 +1,12 @@
+//! Laws of JSON texts.
+ghost use Rattle.std.specs.Prelude.{◌≡◌, false};
+ghost use Rattle.snap_content.specs.Plain.{content_of};
+ghost use Rattle.snap_content.specs.Tree.{Tree};
+ghost use Rattle.snap_json.specs.JsonPlain.{json_plain};
+ghost use Rattle.snap_json.specs.JsonText.{json_text, json_refuses};
+ghost use Rattle.snap_json.specs.declared.format.Format.{Format};
+
+/// What JSON keeps of a tree has the text of the tree, in each layout.
+pub const fn what_json_keeps_has_the_same_text()
+    ensures { (layout : Format) (t : Tree) → json_refuses t ≡ false → json_text layout (content_of (json_plain t)) ≡ json_text layout t }
+{}
