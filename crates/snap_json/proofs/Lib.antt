@@ -6,3 +6,4 @@ pub mod Trees
 pub mod Accepted
 pub mod Calls
 pub mod Kept
+pub mod OneLine

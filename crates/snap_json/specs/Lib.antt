@@ -4,3 +4,4 @@ pub mod JsonPlain
 pub mod JsonText
 pub mod Written
 pub mod Walked
+pub mod OneLine
