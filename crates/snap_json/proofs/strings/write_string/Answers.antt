@@ -1,0 +1,23 @@
+use Rattle.std.proofs.Common.{[], ◌∷◌, ◌++◌}
+use Rattle.std.specs.List.{flat_map}
+use Rattle.std.specs.Str.{chars}
+use Rattle.snap_json.specs.Strings.{json_escaped}
+use Rattle.snap_json.specs.Written.{whole}
+use Rattle.snap_json.proofs.Behind.{on_exit, stopped_first, stopped_behind, wrote_behind}
+use Rattle.snap_json.proofs.strings.write_string.Goals as goal
+
+pub returns-in_err-write_char : goal.returns-in_err-write_char
+returns-in_err-write_char c =
+    on_exit c.from_residual.result c.from_residual.ensures.1
+    (stopped_first (whole (flat_map json_escaped (chars c.args.value.now) ++ 34 ∷ [])) c.in_err-write_char.ensures)
+
+pub returns-in_err-write_characters : goal.returns-in_err-write_characters
+returns-in_err-write_characters c =
+    on_exit c.from_residual-in_err-write_characters.result c.from_residual-in_err-write_characters.ensures.1
+    (stopped_behind c.in_ok-write_char.ensures (stopped_first (whole (34 ∷ [])) c.in_err-write_characters.ensures))
+
+pub returns : goal.returns
+returns c =
+    wrote_behind c.write_char-2.result c.write_char-2.new.out (whole (flat_map json_escaped (chars c.args.value.now) ++ 34 ∷ []))
+    c.in_ok-write_char.ensures
+    (wrote_behind c.write_char-2.result c.write_char-2.new.out (whole (34 ∷ [])) c.in_ok-write_characters.ensures c.write_char-2.ensures)

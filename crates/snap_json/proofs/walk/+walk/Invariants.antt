@@ -1,0 +1,16 @@
+use Rattle.std.proofs.Common.{take}
+use Rattle.snap_json.specs.Written.{IsAdded}
+use Rattle.snap_json.specs.Walked.{all_written, further, value_written, pair_written, field_written}
+use Rattle.snap_json.proofs.walk.+walk.Given as goal
+
+abbrev pub invariant-write_items-loop-item : goal.invariant-write_items-loop-item
+invariant-write_items-loop-item l =
+    IsAdded l.initial.out l.out (all_written (further l.format l.inner (value_written l.format l.inner)) (take l.item-index l.rest))
+
+abbrev pub invariant-write_pairs-loop-key : goal.invariant-write_pairs-loop-key
+invariant-write_pairs-loop-key l =
+    IsAdded l.initial.out l.out (all_written (further l.format l.inner (pair_written l.format l.inner)) (take l.key-index l.rest))
+
+abbrev pub invariant-write_fields-loop-name : goal.invariant-write_fields-loop-name
+invariant-write_fields-loop-name l =
+    IsAdded l.initial.out l.out (all_written (further l.format l.inner (field_written l.format l.inner)) (take l.name-index l.rest))

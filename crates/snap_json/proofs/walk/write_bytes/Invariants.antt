@@ -1,0 +1,7 @@
+use Rattle.std.proofs.Common.{take}
+use Rattle.snap_json.specs.Written.{IsAdded}
+use Rattle.snap_json.specs.Walked.{all_written, further, byte_written}
+use Rattle.snap_json.proofs.walk.write_bytes.Given as goal
+
+abbrev pub invariant-loop-byte : goal.invariant-loop-byte
+invariant-loop-byte l = IsAdded l.initial.out l.out (all_written (further l.format l.inner (byte_written l.format l.inner)) (take l.byte-index l.rest))
