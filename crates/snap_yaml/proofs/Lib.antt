@@ -1,0 +1,4 @@
+pub mod SameValues
+pub mod Ordered
+mod Numerals
+pub mod Views

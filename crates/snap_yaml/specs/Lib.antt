@@ -1,0 +1,11 @@
+pub mod Value
+pub mod View
+pub mod Orders
+pub mod TotalOrder
+pub mod Compared
+pub mod OrderLaws
+pub mod Readers
+pub mod Lookup
+pub mod Typing
+pub mod Kinds
+pub mod Iter

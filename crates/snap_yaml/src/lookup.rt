@@ -1,0 +1,77 @@
+//! What stands in a value behind a key or at an index.
+ghost use Rattle.std.specs.Prelude.{◌≡◌, option_map};
+ghost use Rattle.std.specs.Str.{chars};
+ghost use Rattle.snap_yaml.specs.View.{value_of, hash_list, hash_values};
+ghost use Rattle.snap_yaml.specs.Lookup.{is_text, is_number, first_value, value_at_text, value_at_index};
+
+use crate::lists::Hash;
+use crate::yaml::Yaml;
+
+impl Yaml {
+    /// Whether the value is this text.
+    fn is_text(&self, text: &str) -> bool
+        ensures { result ≡ is_text (chars text.now) (value_of self.now) }
+    {
+        match self {
+            Yaml::String(own) => own.as_str() == text,
+            _ => false,
+        }
+    }
+
+    /// Whether the value is this whole number.
+    fn is_number(&self, number: usize) -> bool
+        ensures { result ≡ is_number number (value_of self.now) }
+    {
+        match self {
+            Yaml::Integer(own) => usize::try_from(*own) == Ok(number),
+            _ => false,
+        }
+    }
+
+    /// The value of the first pair of a hash with this text as its key.
+    pub fn get(&self, key: &str) -> Option<&Yaml>
+        ensures { option_map (λ found. value_of found.now) result ≡ value_at_text (chars key.now) (value_of self.now) }
+    {
+        match self {
+            Yaml::Hash(pairs) => pairs.at_text(key),
+            _ => None,
+        }
+    }
+
+    /// The item of an array at the index, or the value of the first pair of a hash with that number as its key.
+    pub fn get_at(&self, index: usize) -> Option<&Yaml>
+        ensures { option_map (λ found. value_of found.now) result ≡ value_at_index index (value_of self.now) }
+    {
+        match self {
+            Yaml::Array(items) => items.get(index),
+            Yaml::Hash(pairs) => pairs.at_number(index),
+            _ => None,
+        }
+    }
+}
+
+impl Hash {
+    /// The value of the first pair with this text as its key.
+    fn at_text(&self, text: &str) -> Option<&Yaml>
+        ensures { option_map (λ found. value_of found.now) result ≡ first_value (is_text (chars text.now)) (hash_values (hash_list self.now)) }
+    {
+        for (key, found) in self.as_slice() {
+            if key.is_text(text) {
+                return Some(found);
+            }
+        }
+        None
+    }
+
+    /// The value of the first pair with this number as its key.
+    fn at_number(&self, number: usize) -> Option<&Yaml>
+        ensures { option_map (λ found. value_of found.now) result ≡ first_value (is_number number) (hash_values (hash_list self.now)) }
+    {
+        for (key, found) in self.as_slice() {
+            if key.is_number(number) {
+                return Some(found);
+            }
+        }
+        None
+    }
+}
