@@ -6,6 +6,7 @@ pub mod Compared
 pub mod OrderLaws
 pub mod Readers
 pub mod Lookup
+pub mod Keys
 pub mod Typing
 pub mod Kinds
 pub mod Iter

@@ -2,12 +2,34 @@
 ghost use Rattle.std.specs.Prelude.{◌≡◌, option_map};
 ghost use Rattle.std.specs.Str.{chars};
 ghost use Rattle.snap_yaml.specs.View.{value_of, hash_list, hash_values};
-ghost use Rattle.snap_yaml.specs.Lookup.{is_text, is_number, first_value, value_at_text, value_at_index};
+ghost use Rattle.snap_yaml.specs.Lookup.{first_value, value_at_text, value_at_index};
+ghost use Rattle.snap_yaml.specs.Keys.{is_key};
 
 use crate::lists::Hash;
 use crate::yaml::Yaml;
 
+/// What is looked for in a hash.
+#[derive(Clone, Copy)]
+pub(crate) enum Key<'a> {
+    Text(&'a str),
+    Number(usize),
+}
+
+impl Key<'_> {
+    /// Whether the value is this key.
+    fn is(self, value: &Yaml) -> bool
+        ensures { result ≡ is_key self.entry (value_of value.now) }
+    {
+        match self {
+            Key::Text(text) => value.is_text(text),
+            Key::Number(number) => value.is_number(number),
+        }
+    }
+}
+
 impl Yaml {
+    ghost use Rattle.snap_yaml.specs.Lookup.{is_text, is_number};
+
     /// Whether the value is this text.
     fn is_text(&self, text: &str) -> bool
         ensures { result ≡ is_text (chars text.now) (value_of self.now) }
@@ -33,7 +55,7 @@ impl Yaml {
         ensures { option_map (λ found. value_of found.now) result ≡ value_at_text (chars key.now) (value_of self.now) }
     {
         match self {
-            Yaml::Hash(pairs) => pairs.at_text(key),
+            Yaml::Hash(pairs) => pairs.first_value(Key::Text(key)),
             _ => None,
         }
     }
@@ -44,31 +66,19 @@ impl Yaml {
     {
         match self {
             Yaml::Array(items) => items.get(index),
-            Yaml::Hash(pairs) => pairs.at_number(index),
+            Yaml::Hash(pairs) => pairs.first_value(Key::Number(index)),
             _ => None,
         }
     }
 }
 
 impl Hash {
-    /// The value of the first pair with this text as its key.
-    fn at_text(&self, text: &str) -> Option<&Yaml>
-        ensures { option_map (λ found. value_of found.now) result ≡ first_value (is_text (chars text.now)) (hash_values (hash_list self.now)) }
+    /// The value of the first pair with this key.
+    fn first_value(&self, sought: Key<'_>) -> Option<&Yaml>
+        ensures { option_map (λ found. value_of found.now) result ≡ first_value (is_key sought.entry) (hash_values (hash_list self.now)) }
     {
         for (key, found) in self.as_slice() {
-            if key.is_text(text) {
-                return Some(found);
-            }
-        }
-        None
-    }
-
-    /// The value of the first pair with this number as its key.
-    fn at_number(&self, number: usize) -> Option<&Yaml>
-        ensures { option_map (λ found. value_of found.now) result ≡ first_value (is_number number) (hash_values (hash_list self.now)) }
-    {
-        for (key, found) in self.as_slice() {
-            if key.is_number(number) {
+            if sought.is(key) {
                 return Some(found);
             }
         }
