@@ -60,11 +60,7 @@ impl Loader {
             }
             Some(Frame::Dict(pairs, due)) => match due {
                 None => {
-                    let key = if made.is_badvalue() {
-                        None
-                    } else {
-                        Some(made)
-                    };
+                    let key = if made.is_badvalue() { None } else { Some(made) };
                     self.open.push_front(Frame::Dict(pairs, key))?;
                 }
                 Some(key) => {

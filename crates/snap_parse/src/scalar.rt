@@ -2,14 +2,13 @@
 ghost use Rattle.std.specs.Prelude.{◌≡◌, IfOk};
 ghost use Rattle.std.specs.Str.{chars};
 ghost use Rattle.snap_parse.specs.Documents.{plain_value, scalar_value};
+ghost use Rattle.snap_yaml.specs.View.{value_of};
 
 use snap_content::{OutOfMemory, Text};
 use snap_event::Tag;
 use snap_token::TScalarStyle;
 use snap_yaml::Yaml;
 use std::alloc::Global;
-
-ghost use Rattle.snap_yaml.specs.View.{value_of};
 
 /// The value of a plain scalar.
 fn plain(alloc: Global, text: &str, tag: Option<Tag>) -> Result<Yaml, OutOfMemory>

@@ -30,6 +30,7 @@ impl Iterator for YamlIter {
 /// The items of an array. Another value has none.
 impl IntoIterator for Yaml {
     type Item = Yaml;
+
     type IntoIter = YamlIter;
 
     ghost use Rattle.std.specs.Prelude.{◌≡◌, map};

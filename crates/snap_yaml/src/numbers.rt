@@ -60,7 +60,10 @@ fn is_named(text: &str) -> bool
             } else {
                 text
             };
-            is_inf(unsigned) || is_same(text, ".nan") || is_same(text, "NaN") || is_same(text, ".NAN")
+            is_inf(unsigned)
+                || is_same(text, ".nan")
+                || is_same(text, "NaN")
+                || is_same(text, ".NAN")
         }
     }
 }

@@ -186,12 +186,7 @@ impl Yaml {
 
     /// The value of a plain scalar behind a tag. With the handle `!!` the suffixes `bool`, `int`, `float` and `null` ask
     /// for a value of that type, and a text that is none is a bad value. Behind any other tag the scalar is a text.
-    pub fn tagged(
-        alloc: Global,
-        handle: &str,
-        suffix: &str,
-        v: &str,
-    ) -> Result<Yaml, OutOfMemory>
+    pub fn tagged(alloc: Global, handle: &str, suffix: &str, v: &str) -> Result<Yaml, OutOfMemory>
         ensures { IfOk result (λ made. value_of made ≡ tagged (chars handle.now) (chars suffix.now) (chars v.now)) }
     {
         tagged_kind(handle, suffix, v).with_text(alloc, v)

@@ -51,7 +51,11 @@ fn a_reader_gives_nothing_of_another_variant(rt: HostRuntime) -> Result<(), Fail
     assert!(rt; !number.is_null() && !number.is_badvalue() && !number.is_array());
     assert!(rt; Yaml::Null.as_i64().is_none() && Yaml::Null.into_bool().is_none());
     assert!(rt; Yaml::Boolean(true).into_i64().is_none());
-    assert!(rt; Yaml::Real(Text::from_str(rt.alloc(), "1.5")?).into_string().is_none());
+    assert!(rt;
+        Yaml::Real(Text::from_str(rt.alloc(), "1.5")?)
+            .into_string()
+            .is_none()
+    );
     assert!(rt; Yaml::Null.into_vec().is_none() && Yaml::Null.into_hash().is_none());
     Ok(())
 }
@@ -102,7 +106,12 @@ fn the_items_of_an_array_come_in_order(rt: HostRuntime) -> Result<(), Fail> {
     assert!(rt; items.next() == Some(text(rt.alloc(), "a")?));
     assert!(rt; items.next() == Some(Yaml::Integer(7)));
     assert!(rt; items.next().is_none() && items.next().is_none());
-    assert!(rt; Yaml::Hash(small_hash(rt.alloc())?).into_iter().next().is_none());
+    assert!(rt;
+        Yaml::Hash(small_hash(rt.alloc())?)
+            .into_iter()
+            .next()
+            .is_none()
+    );
     assert!(rt; Yaml::Integer(7).into_iter().next().is_none());
     Ok(())
 }
