@@ -8,5 +8,6 @@ pub mod Readers
 pub mod Lookup
 pub mod Keys
 pub mod Typing
+pub mod Through
 pub mod Kinds
 pub mod Iter

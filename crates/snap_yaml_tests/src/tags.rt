@@ -153,8 +153,8 @@ const ROWS: [Row; 24] = [
         variant: "String",
     },
     Row {
-        handle: "!!",
-        suffix: "",
+        handle: "!e!",
+        suffix: "int",
         text: "1",
         variant: "String",
     },
