@@ -1,5 +1,5 @@
 -- What `from_str_radix` reads at 64 bits with a sign, in the words of typing.
-use Rattle.std.proofs.Common.{◌≡◌, ℕ, zero, suc, ℤ, pos, negsuc, ◌<◌, ◌≤◌, ◌^◌, List, [], ◌∷◌, Bool, true, false, ◌&&◌, ◌||◌, not, Option, Some, None, length, nat_lt, nat_eq, refl, sym, ap, ◌∙◌, arith, subst, cond, drop}
+use Rattle.std.proofs.Common.{◌≡◌, ℕ, zero, suc, ℤ, pos, negsuc, ◌≤◌, ◌^◌, List, [], ◌∷◌, Bool, true, false, ◌&&◌, ◌||◌, Option, Some, None, nat_lt, refl, sym, ap, ◌∙◌, arith, subst, cond, drop}
 use Rattle.std.specs.Prelude.{IsTrue, if◌then◌else◌, neg_ℤ, ◌==◌}
 use Rattle.std.specs.Char.{digit_value, is_ascii}
 use Rattle.std.specs.List.{list_all}
@@ -10,7 +10,6 @@ use borrow.Author.Tests.{ltb-true, lt-ltb}
 use mir.Syntax.{w64}
 use mir.Val.{SFits, to_z, of_z}
 use Rattle.std.proofs.lemmas.Int.{to_z-of_z}
-use Rattle.snap_content.specs.Numbers.{is_nothing}
 use Rattle.snap_content.specs.Typed.{number_in, below_zero, has_64_bits}
 use Rattle.snap_content.proofs.Ascii.{IsAscii-list_all, chars-ascii}
 use Rattle.snap_content.proofs.Ends.{bytes_are}

@@ -1,8 +1,8 @@
 -- Values that the order does not tell apart are equal.
-use Rattle.std.proofs.Common.{◌≡◌, ℕ, ℤ, List, [], ◌∷◌, Bool, true, false, refl, sym, ap, ◌∙◌}
+use Rattle.std.proofs.Common.{◌≡◌, ℕ, List, [], ◌∷◌, Bool, true, false, refl, sym, ap, ◌∙◌}
 use Rattle.std.specs.declared.cmp.Ordering.{Ordering}
 use Rattle.std.specs.declared.cmp.Ordering.TheVariants.{Less, Equal, Greater}
-use Rattle.std.specs.Ordering.{ordering_then, nat_cmp, int_cmp, bool_cmp, is_eq}
+use Rattle.std.specs.Ordering.{ordering_then, nat_cmp, bool_cmp, is_eq}
 use Rattle.std.proofs.lemmas.Cmp.{ranked, int_ranked}
 use mathlib.Core.Bool.{true≢false}
 use Rattle.snap_content.specs.Orders.{text_cmp}

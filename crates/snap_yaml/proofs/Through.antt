@@ -11,8 +11,8 @@ use Rattle.snap_content.specs.Plain as p
 use Rattle.snap_content.specs.Typed as t
 use Rattle.snap_print.proofs.Digits.{digits_decimal}
 use Rattle.snap_yaml.specs.Value as v
-use Rattle.snap_yaml.specs.Through.{kept_number, plain_typed}
-use Rattle.snap_yaml.specs.Typing.{is_digits_in, is_integer_in, integer_of, behind_zero, prefixed_number, is_real_text, integer_or, typed_number, typed_word, typed_yaml}
+use Rattle.snap_yaml.specs.Through.{plain_typed}
+use Rattle.snap_yaml.specs.Typing.{is_digits_in, is_integer_in, integer_of, prefixed_number, is_real_text, integer_or, typed_number, typed_word, typed_yaml}
 
 both : (a b : Bool) → (a && b) ≡ true → (a ≡ true) × (b ≡ true)
 both true b h = (refl, h)

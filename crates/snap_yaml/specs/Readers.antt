@@ -1,6 +1,6 @@
 -- What is read of a value: its content, where it is of the variant that is asked for.
 use Rattle.std.specs.Prelude.{ℕ, ℤ, Bool, true, false, List, [], ◌∷◌, Option, None, Some}
-use Rattle.snap_yaml.specs.Value.{Value, real, integer, string, boolean, array, hash, null, bad_value, Values, no_values, value, ValuePairs}
+use Rattle.snap_yaml.specs.Value.{Value, integer, string, boolean, array, hash, null, bad_value, Values, no_values, value, ValuePairs}
 
 abbrev pub boolean_in : Value → Option Bool
 boolean_in (boolean b) = Some b

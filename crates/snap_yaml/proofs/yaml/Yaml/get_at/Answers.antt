@@ -1,4 +1,4 @@
-use Rattle.std.proofs.Common.{◌≡◌, Option, sym, ap, ◌∙◌}
+use Rattle.std.proofs.Common.{Option, sym, ap, ◌∙◌}
 use Rattle.snap_yaml.specs.Value.{Value}
 use Rattle.snap_yaml.specs.View.{value_of, array_list}
 use Rattle.snap_yaml.specs.Lookup.{value_at_index}

@@ -1,4 +1,4 @@
-use Rattle.std.proofs.Common.{◌≡◌, List, ℕ, Bool, sym, ap, ◌∙◌}
+use Rattle.std.proofs.Common.{List, ℕ, Bool, sym, ap, ◌∙◌}
 use Rattle.std.specs.Str.{chars, bytes_eq}
 use Rattle.snap_content.proofs.Ends.{same_texts}
 use Rattle.snap_yaml.specs.Value.{Value}
