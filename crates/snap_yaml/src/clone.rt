@@ -30,7 +30,8 @@ impl Array {
     /// An equal list.
     #[cycle(clone)]
     pub fn try_clone(&self, alloc: Global) -> Result<Array, OutOfMemory>
-        ensures { IfOk result (λ copy. array_values (array_list copy) ≡ array_values (array_list self.now)) }
+        ensures { IfOk result (λ copy. array_values (array_list copy)
+            ≡ array_values (array_list self.now)) }
     {
         let mut copy = Array::new(alloc);
         for item in self.as_slice() {
@@ -44,7 +45,8 @@ impl Hash {
     /// An equal list.
     #[cycle(clone)]
     pub fn try_clone(&self, alloc: Global) -> Result<Hash, OutOfMemory>
-        ensures { IfOk result (λ copy. hash_values (hash_list copy) ≡ hash_values (hash_list self.now)) }
+        ensures { IfOk result (λ copy. hash_values (hash_list copy)
+            ≡ hash_values (hash_list self.now)) }
     {
         let mut copy = Hash::new(alloc);
         for (key, found) in self.as_slice() {

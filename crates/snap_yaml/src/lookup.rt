@@ -52,7 +52,8 @@ impl Yaml {
 
     /// The value of the first pair of a hash with this text as its key.
     pub fn get(&self, key: &str) -> Option<&Yaml>
-        ensures { option_map (λ found. value_of found.now) result ≡ value_at_text (chars key.now) (value_of self.now) }
+        ensures { option_map (λ found. value_of found.now) result
+            ≡ value_at_text (chars key.now) (value_of self.now) }
     {
         match self {
             Yaml::Hash(pairs) => pairs.first_value(Key::Text(key)),
@@ -62,7 +63,8 @@ impl Yaml {
 
     /// The item of an array at the index, or the value of the first pair of a hash with that number as its key.
     pub fn get_at(&self, index: usize) -> Option<&Yaml>
-        ensures { option_map (λ found. value_of found.now) result ≡ value_at_index index (value_of self.now) }
+        ensures { option_map (λ found. value_of found.now) result
+            ≡ value_at_index index (value_of self.now) }
     {
         match self {
             Yaml::Array(items) => items.get(index),
@@ -75,7 +77,8 @@ impl Yaml {
 impl Hash {
     /// The value of the first pair with this key.
     fn first_value(&self, sought: Key<'_>) -> Option<&Yaml>
-        ensures { option_map (λ found. value_of found.now) result ≡ first_value (is_key sought.entry) (hash_values (hash_list self.now)) }
+        ensures { option_map (λ found. value_of found.now) result
+            ≡ first_value (is_key sought.entry) (hash_values (hash_list self.now)) }
     {
         for (key, found) in self.as_slice() {
             if sought.is(key) {

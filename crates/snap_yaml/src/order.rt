@@ -73,7 +73,8 @@ impl Array {
     /// Item by item, a list before one that begins with it.
     #[cycle(order)]
     pub fn compare(&self, other: &Array) -> Ordering
-        ensures { result ≡ values_cmp (array_values (array_list self.now)) (array_values (array_list other.now)) }
+        ensures { result ≡ values_cmp (array_values (array_list self.now))
+            (array_values (array_list other.now)) }
     {
         let mut rest = other.as_slice();
         for item in self.as_slice() {
@@ -97,7 +98,8 @@ impl Hash {
     /// Pair by pair, the key first, a list before one that begins with it.
     #[cycle(order)]
     pub fn compare(&self, other: &Hash) -> Ordering
-        ensures { result ≡ pairs_cmp (hash_values (hash_list self.now)) (hash_values (hash_list other.now)) }
+        ensures { result ≡ pairs_cmp (hash_values (hash_list self.now))
+            (hash_values (hash_list other.now)) }
     {
         let mut rest = other.as_slice();
         for (key, found) in self.as_slice() {

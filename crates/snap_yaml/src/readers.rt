@@ -37,7 +37,8 @@ impl Yaml {
     }
 
     pub fn as_hash(&self) -> Option<&Hash>
-        ensures { option_map (λ pairs. hash_values (hash_list pairs.now)) result ≡ hash_in (value_of self.now) }
+        ensures { option_map (λ pairs. hash_values (hash_list pairs.now)) result
+            ≡ hash_in (value_of self.now) }
     {
         match self {
             Yaml::Hash(pairs) => Some(pairs),
@@ -46,7 +47,8 @@ impl Yaml {
     }
 
     pub fn as_vec(&self) -> Option<&Array>
-        ensures { option_map (λ items. array_values (array_list items.now)) result ≡ array_in (value_of self.now) }
+        ensures { option_map (λ items. array_values (array_list items.now)) result
+            ≡ array_in (value_of self.now) }
     {
         match self {
             Yaml::Array(items) => Some(items),
@@ -82,7 +84,8 @@ impl Yaml {
     }
 
     pub fn into_hash(self) -> Option<Hash>
-        ensures { option_map (λ pairs. hash_values (hash_list pairs)) result ≡ hash_in (value_of self) }
+        ensures { option_map (λ pairs. hash_values (hash_list pairs)) result
+            ≡ hash_in (value_of self) }
     {
         match self {
             Yaml::Hash(pairs) => Some(pairs),
@@ -91,7 +94,8 @@ impl Yaml {
     }
 
     pub fn into_vec(self) -> Option<Array>
-        ensures { option_map (λ items. array_values (array_list items)) result ≡ array_in (value_of self) }
+        ensures { option_map (λ items. array_values (array_list items)) result
+            ≡ array_in (value_of self) }
     {
         match self {
             Yaml::Array(items) => Some(items),

@@ -150,7 +150,8 @@ fn suffix_kind(suffix: &str, text: &str) -> Kind
 
 /// What a plain scalar is behind a tag.
 fn tagged_kind(handle: &str, suffix: &str, text: &str) -> Kind
-    ensures { value_of_kind result (chars text.now) ≡ tagged (chars handle.now) (chars suffix.now) (chars text.now) }
+    ensures { value_of_kind result (chars text.now)
+        ≡ tagged (chars handle.now) (chars suffix.now) (chars text.now) }
 {
     if is_same(handle, "!!") {
         suffix_kind(suffix, text)
@@ -187,7 +188,8 @@ impl Yaml {
     /// The value of a plain scalar behind a tag. With the handle `!!` the suffixes `bool`, `int`, `float` and `null` ask
     /// for a value of that type, and a text that is none is a bad value. Behind any other tag the scalar is a text.
     pub fn tagged(alloc: Global, handle: &str, suffix: &str, v: &str) -> Result<Yaml, OutOfMemory>
-        ensures { IfOk result (λ made. value_of made ≡ tagged (chars handle.now) (chars suffix.now) (chars v.now)) }
+        ensures { IfOk result (λ made. value_of made
+            ≡ tagged (chars handle.now) (chars suffix.now) (chars v.now)) }
     {
         tagged_kind(handle, suffix, v).with_text(alloc, v)
     }
