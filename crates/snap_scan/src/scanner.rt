@@ -60,8 +60,8 @@ impl<'a> Scanner<'a> {
         ensures failed { left self.new ≤ left self.old }
         ensures source { self.new.source ≡ self.old.source }
     {
-        if let Some(error) = &self.error {
-            return Err(*error);
+        if let Some(failure) = &self.error {
+            return Err(*failure);
         }
         match self.fetcher.next_token() {
             Ok(token) => Ok(token),
@@ -123,7 +123,8 @@ impl<'a> Scanner<'a> {
 
     /// The place that the scanner has come to; after the end that of the end.
     pub fn mark(&self) -> Marker
-        ensures { result ≡ mark_of self.now.state.place }
+        ensures place { result ≡ mark_of self.now.state.place }
+        ensures inside { self.now.error ≡ None → result.index ≤ length self.now.source }
     {
         self.fetcher.cursor.mark()
     }
