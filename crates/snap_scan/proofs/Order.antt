@@ -1,13 +1,13 @@
 -- The order of StreamStart and StreamEnd among the tokens that are given.
-use Rattle.std.proofs.Common.{◌≡◌, ◌≤◌, ◌+◌, ◌∷◌, [], ℕ, Bool, true, false, List, Option, Some, None, Result, Ok, Err, length, drop, subst, sym, ap, arith, refl, ◌∙◌, ◌==◌, ◌&&◌, if◌then◌else◌}
+use Rattle.std.proofs.Common.{◌≡◌, ◌≤◌, ◌∷◌, [], ℕ, Bool, true, false, List, Option, Some, None, Ok, length, subst, sym, ap, arith, refl, ◌∙◌, ◌==◌, ◌&&◌, if◌then◌else◌}
 use Rattle.std.specs.Prelude.{All, MatchOption, not, ◌||◌}
 use Rattle.std.proofs.lemmas.List.Elements.{All-head}
 use Rattle.snap_token.specs.declared.token.Token.{Token}
 use Rattle.snap_token.specs.declared.info.ScanError.{ScanError}
-use Rattle.snap_scan.specs.State.{State, start_state, has_ended, given, to_next}
-use Rattle.snap_scan.specs.Fetching.{Outcome, done, Leaves, step, token_step, stream_started}
+use Rattle.snap_scan.specs.State.{State, has_ended, given}
+use Rattle.snap_scan.specs.Fetching.{Outcome, done, Leaves, step}
 use Rattle.snap_scan.specs.Sound.{IsShown, IsNoEnd, IsFounded, IsSound, IsSoundFrom, untouched, open_still, over, EndsStream, begins_stream, is_start, is_end, is_start_ahead, GivesSound}
-use Rattle.snap_scan.specs.Scan.{IsWholeWhile, IsNext, GivesNext}
+use Rattle.snap_scan.specs.Scan.{IsWholeWhile, GivesNext}
 use Rattle.snap_scan.proofs.Ending.{holding, not-both}
 use Rattle.snap_scan.proofs.Growing.{step-holds}
 use Rattle.snap_scan.proofs.Possible.{in-source}
