@@ -1,4 +1,8 @@
 //! What the parser makes of a text, as lines.
+ghost use Rattle.std.specs.Prelude.{◌≡◌, ◌<◌, IfOk, true};
+ghost use Rattle.snap_event.specs.Meaning.{is_stream_end};
+ghost use Rattle.snap_parser.specs.Parsing.{events_left};
+
 use snap_content::{OutOfMemory, Text};
 use snap_event::{Event, Tag};
 use snap_parser::Parser;
@@ -15,17 +19,25 @@ pub fn event_lines(alloc: Global, text: &str) -> Result<Text, OutOfMemory> {
 }
 
 /// Adds the line of the next event, and says whether further ones are to come.
-fn add_next(alloc: Global, lines: &mut Text, parser: &mut Parser) -> Result<bool, OutOfMemory> {
+fn add_next(alloc: Global, lines: &mut Text, parser: &mut Parser) -> Result<bool, OutOfMemory>
+    ensures { IfOk result (λ more. more ≡ true → events_left parser.new < events_left parser.old) }
+{
     match parser.next() {
         Ok((event, mark)) => {
             add_event(alloc, lines, &event, mark)?;
-            Ok(event != Event::StreamEnd)
+            Ok(!is_end(&event))
         }
         Err(error) => {
             add_error(alloc, lines, &error)?;
             Ok(false)
         }
     }
+}
+
+fn is_end(event: &Event) -> bool
+    ensures { result ≡ is_stream_end event.now }
+{
+    matches!(event, Event::StreamEnd)
 }
 
 /// The line of a refusal. After want of memory there are no lines.

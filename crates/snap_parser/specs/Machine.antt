@@ -38,13 +38,14 @@ pub record IsSoundIn (source : List ℕ) (f : Tokens) (y : State) (ys : List Sta
   pub outer : All (HasSigns source) ys
 
 -- before StreamStart
-pub record IsSoundAhead (source : List ℕ) (f : Tokens) : Type 0 where
+pub record IsSoundAhead (source : List ℕ) (f : Tokens) (ys : List State) : Type 0 where
   pub feeds : Feeds source f
   pub start : starts f ≡ true
+  pub outer : All (HasSigns source) ys
 
 -- what holds between two events, of a parser that has not failed
 abbrev pub IsSoundAt : List ℕ → Tokens → Stage → List State → Type 0
-IsSoundAt source f g.Ahead ys = IsSoundAhead source f
+IsSoundAt source f g.Ahead ys = IsSoundAhead source f ys
 IsSoundAt source f (g.Open y) ys = IsSoundIn source f y ys
 IsSoundAt source f g.Ended ys = source_of f ≡ source
 

@@ -16,7 +16,7 @@ impl<'a> Machine<'a> {
         ensures left { OnOk result (events_now self.new + 1 ≤ 4 * tokens_left self.old.tokens) }
         ensures names { KeepsNames result self.old self.new }
         ensures same { StaysOnError result self.old self.new }
-        ensures sound { (source : List ℕ) → IsSoundAhead source self.old.tokens
+        ensures sound { (source : List ℕ) → IsSoundAhead source self.old.tokens self.old.outer.items
             → StaysSound source result self.new.tokens (spot_of self.new) }
     {
         match self.tokens.take()? {

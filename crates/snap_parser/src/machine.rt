@@ -53,6 +53,8 @@ impl<'a> Machine<'a> {
         ensures memory { IfErr result (λ e. e ≡ ScanError.OutOfMemory) }
         ensures tokens { self.new.tokens ≡ self.old.tokens }
         ensures names { self.new.anchors ≡ self.old.anchors }
+        ensures sound { (source : List ℕ) → IsSoundIn source self.old.tokens state self.old.outer.items
+            → HasSigns source behind → StaysSound source result self.new.tokens (spot_of self.new) }
     {
         self.outer.push_front(behind)?;
         self.stage = Stage::Open(state);

@@ -123,7 +123,7 @@ impl<'a> Machine<'a> {
         ensures event { GivesNode behind result self.old self.new }
         ensures left { OnOk result (events_now self.new
             ≤ events_before (tokens_left self.old.tokens) behind self.old + 5) }
-        ensures bare { anchor ≡ 0 → tag.entry ≡ None → is_indentless ≡ false
+        ensures bare { anchor ≡ 0 → tag ≡ None → is_indentless ≡ false
             → OnOk result (events_now self.new
             ≤ events_before (tokens_left self.old.tokens) behind self.old + 2) }
         ensures names { (old : Names) → IsAnchored anchor old self.old.anchors
@@ -174,7 +174,7 @@ impl<'a> Machine<'a> {
         ensures event { GivesNode behind result self.old self.new }
         ensures left { OnOk result (events_now self.new
             ≤ events_before (tokens_left self.old.tokens) behind self.old + 4) }
-        ensures bare { anchor ≡ 0 → tag.entry ≡ None → OnOk result (events_now self.new
+        ensures bare { anchor ≡ 0 → tag ≡ None → OnOk result (events_now self.new
             ≤ events_before (tokens_left self.old.tokens) behind self.old) }
         ensures names { (old : Names) → IsAnchored anchor old self.old.anchors
             → IfOk result (λ given. Naming given.0 old self.new.anchors) }
