@@ -1,8 +1,8 @@
 -- The stream's end in meanings and events.
-use Rattle.std.proofs.Common.{◌≡◌, List, [], ◌∷◌, Option, None, Some, Bool, true, false, not, refl, ap, sym, ◌∙◌}
+use Rattle.std.proofs.Common.{◌≡◌, List, [], ◌∷◌, Option, None, Some, Bool, true, false, not, refl, ap, sym}
 use Rattle.snap_event.specs.declared.event.Event.{Event}
 use Rattle.snap_event.specs.declared.event.Event.TheVariants as e
-use Rattle.snap_event.specs.Meaning.{Open, due, given, sequence, key, value, Meaning, ahead, open_in, ended, after, end_document, end_stream, is_inside, is_stream_end}
+use Rattle.snap_event.specs.Meaning.{due, given, sequence, key, value, Meaning, ahead, open_in, ended, after, end_document, end_stream, is_inside, is_stream_end}
 use Rattle.snap_parser.specs.declared.load.Passed.{Passed}
 use Rattle.snap_parser.specs.declared.load.Passed.TheVariants as w
 use Rattle.snap_parser.specs.declared.state.State.{State}

@@ -1,8 +1,8 @@
 -- Names and their numbers.
-use Rattle.std.proofs.Common.{◌≡◌, ◌≢◌, ◌≤◌, ◌+◌, ℕ, List, Option, Some, None, MatchOption, cond, refl, sym, ap, subst, arith}
+use Rattle.std.proofs.Common.{◌≡◌, ◌≤◌, ◌+◌, ℕ, List, Option, Some, None, MatchOption, cond, refl, sym, subst, arith}
 use Rattle.std.specs.Prelude.{⊤}
 use Rattle.std.specs.Map.{lookup}
-use Rattle.snap_parser.specs.Names.{Names, id_of, is_same, Registers, IsAnchored, IsKnown}
+use Rattle.snap_parser.specs.Names.{Names, id_of, is_same, IsAnchored, IsKnown}
 
 -- a number that is found is that of a name
 pub known-is : (o : Option ℕ) (name : List ℕ) (names : Names) → o ≡ id_of name names → MatchOption o ⊤ (λ id. IsKnown id names)

@@ -10,7 +10,7 @@ use Rattle.snap_scan.specs.Sound.{Holds, shown, is_end, IsFounded}
 use Rattle.snap_parser.specs.declared.tokens.Tokens.{Tokens}
 use Rattle.snap_parser.specs.declared.state.State.{State}
 use Rattle.snap_parser.specs.declared.state.State.TheVariants as s
-use Rattle.snap_parser.specs.Feed.{Feeds, Took}
+use Rattle.snap_parser.specs.Feed.{Took}
 use Rattle.snap_parser.specs.Machine.{HasSigns, IsSoundIn}
 use Rattle.snap_parser.proofs.Signs.{list-sign, dict-sign}
 

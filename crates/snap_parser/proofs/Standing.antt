@@ -1,5 +1,5 @@
 -- Where a parser stands, and what holds there.
-use Rattle.std.proofs.Common.{◌≡◌, List, ◌∷◌, [], subst, sym, ℕ}
+use Rattle.std.proofs.Common.{◌≡◌, List, ◌∷◌, subst, sym, ℕ}
 use Rattle.std.specs.Prelude.{All}
 use Rattle.std.proofs.lemmas.List.Elements.{All-head, All-tail, All-cons}
 use Rattle.snap_parser.specs.declared.tokens.Tokens.{Tokens}

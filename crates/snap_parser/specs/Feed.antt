@@ -1,5 +1,5 @@
 -- The tokens that a parser can still take.
-use Rattle.std.specs.Prelude.{◌≡◌, ◌≤◌, ◌+◌, ℕ, List, Bool, false, Option, None, Some, Result, Ok, Err}
+use Rattle.std.specs.Prelude.{◌≡◌, ◌+◌, ℕ, List, Bool, false, Option, None, Some, Result, Ok, Err}
 use Rattle.snap_token.specs.declared.token.Token.{Token}
 use Rattle.snap_token.specs.declared.info.ScanError.{ScanError}
 use Rattle.snap_scan.specs.Scan.{start_scan, left}

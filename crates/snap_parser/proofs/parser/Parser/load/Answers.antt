@@ -1,4 +1,4 @@
-use Rattle.std.proofs.Common.{◌≡◌, refl, sym, ◌∙◌}
+use Rattle.std.proofs.Common.{refl, sym, ◌∙◌}
 use Rattle.snap_parser.proofs.Running.{passing-start, passing-more, passing-stop, loads-stream}
 use Rattle.snap_parser.proofs.parser.Parser.load.Goals as goal
 
