@@ -24,14 +24,14 @@ impl EventReceiver for Counting {
     }
 }
 
-fn counting(limit: usize) -> Counting {
+fn up_to(limit: usize) -> Counting {
     Counting { count: 0, limit }
 }
 
 #[test]
 fn all_events_of_a_text_are_handed_on(rt: HostRuntime) {
     let mut parser = Parser::new(rt.alloc(), "a");
-    let mut receiver = counting(100);
+    let mut receiver = up_to(100);
     assert_eq!(rt; parser.load(&mut receiver, true), Ok(()));
     assert_eq!(rt; receiver.count, 5);
     assert_eq!(rt; parser.load(&mut receiver, true), Ok(()));
@@ -43,7 +43,7 @@ fn all_events_of_a_text_are_handed_on(rt: HostRuntime) {
 #[test]
 fn an_open_document_is_not_loaded(rt: HostRuntime) {
     let mut parser = Parser::new(rt.alloc(), "a");
-    let mut receiver = counting(100);
+    let mut receiver = up_to(100);
     let _ = parser.next();
     assert!(rt; is_event(&mut parser, &Event::DocumentStart));
     assert_eq!(rt;
@@ -67,7 +67,7 @@ fn is_event(parser: &mut Parser, wanted: &Event) -> bool {
 #[test]
 fn a_receiver_that_finds_no_memory_stops_loading(rt: HostRuntime) {
     let mut parser = Parser::new(rt.alloc(), "a");
-    let mut receiver = counting(2);
+    let mut receiver = up_to(2);
     assert_eq!(rt;
         parser.load(&mut receiver, true),
         Err(LoadError::OutOfMemory)
@@ -110,7 +110,7 @@ fn letter(event: &Event) -> &'static str {
     }
 }
 
-fn letters(alloc: Global) -> Letters {
+fn writing(alloc: Global) -> Letters {
     Letters {
         alloc,
         text: Text::empty(),
@@ -121,11 +121,11 @@ const DOCUMENTS: &str = "--- [a]\n--- {b: c}\n";
 
 #[test]
 fn one_by_one_gives_what_all_give(rt: HostRuntime) {
-    let mut all = letters(rt.alloc());
+    let mut all = writing(rt.alloc());
     let mut parser = Parser::new(rt.alloc(), DOCUMENTS);
     assert_eq!(rt; parser.load(&mut all, true), Ok(()));
     assert_eq!(rt; all.text.as_str(), "<0d0[1s1]1.0d0{1s1s1}1.0>0");
-    let mut each = letters(rt.alloc());
+    let mut each = writing(rt.alloc());
     let mut parser = Parser::new(rt.alloc(), DOCUMENTS);
     assert_eq!(rt; parser.load(&mut each, false), Ok(()));
     assert_eq!(rt; each.text.as_str(), "<0d0[1s1]1.0");
@@ -140,7 +140,7 @@ const ALIAS_BEHIND: &str = "--- &x a\n--- *x\n";
 #[test]
 fn names_are_forgotten_between_documents(rt: HostRuntime) {
     let mut parser = Parser::new(rt.alloc(), ALIAS_BEHIND);
-    let mut receiver = counting(100);
+    let mut receiver = up_to(100);
     match parser.load(&mut receiver, true) {
         Err(LoadError::Scan(ScanError::Syntax(_, info))) => assert_eq!(rt; info, ScanInfo::P3),
         _ => assert!(rt; false),
@@ -170,7 +170,7 @@ fn deep(alloc: Global) -> Result<Text, OutOfMemory> {
 fn deep_texts_need_no_deep_stack(rt: HostRuntime) -> Result<(), OutOfMemory> {
     let text = deep(rt.alloc())?;
     let mut parser = Parser::new(rt.alloc(), text.as_str());
-    let mut receiver = counting(1_000_000);
+    let mut receiver = up_to(1_000_000);
     assert_eq!(rt; parser.load(&mut receiver, true), Ok(()));
     assert_eq!(rt; receiver.count, 200_005);
     Ok(())
