@@ -13,6 +13,7 @@ use snap_yaml::Array;
 use std::alloc::Global;
 
 /// Loads documents.
+#[derive(Clone, Copy, Debug)]
 pub struct YamlLoader;
 
 impl YamlLoader {
