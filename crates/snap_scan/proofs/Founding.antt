@@ -1,6 +1,6 @@
 -- Why a fetch refuses, and what one fetch as a whole keeps.
-use Rattle.std.proofs.Common.{◌≡◌, ◌≢◌, ◌≤◌, ◌<◌, ◌+◌, ◌∷◌, [], ℕ, Bool, true, false, List, Option, Some, None, length, slice_index, length-append, subst, sym, ap, arith, refl, ◌∙◌, ◌&&◌, if◌then◌else◌}
-use Rattle.std.specs.Prelude.{All, count_by, codes, nat_lt, nat_le, not, ◌||◌}
+use Rattle.std.proofs.Common.{◌≡◌, ◌≢◌, ◌≤◌, ◌+◌, ◌∷◌, [], ℕ, Bool, true, false, List, Option, Some, None, length, slice_index, subst, sym, ap, arith, refl, ◌∙◌, ◌&&◌, if◌then◌else◌}
+use Rattle.std.specs.Prelude.{All, codes, nat_lt, nat_le, not, ◌||◌}
 use Rattle.std.specs.List.{list_any}
 use Rattle.std.proofs.lemmas.Bool.{ltb-false}
 use Rattle.std.proofs.lemmas.List.Elements.{All-nil, All-head, All-tail}
@@ -9,7 +9,6 @@ use Rattle.snap_token.specs.Place.{Place, skipped, forced, mark_of}
 use Rattle.snap_token.specs.Plain.{Plain, plain_from}
 use Rattle.snap_token.specs.Quoted.{Quoted, single_from, double_from}
 use Rattle.snap_token.specs.Causes.{needed, is_among, explains, IsExplained}
-use Rattle.snap_token.specs.declared.token.TokenType.{TokenType}
 use Rattle.snap_token.specs.declared.token.TokenType.TheVariants as t
 use Rattle.snap_token.specs.declared.token.TEncoding.TheVariants.{Utf8}
 use Rattle.snap_token.specs.declared.token.TScalarStyle.{TScalarStyle}
@@ -23,14 +22,14 @@ use Rattle.snap_scan.specs.declared.kind.TokenKind.TheVariants as k
 use Rattle.snap_scan.specs.declared.keys.SimpleKey.{SimpleKey}
 use Rattle.snap_scan.specs.Keys.{is_required, is_overdue, any_overdue, is_past, fresh}
 use Rattle.snap_scan.specs.Kinds.{Begins, kind_of}
-use Rattle.snap_scan.specs.State.{State, at, in_flow, start_state, unrolled, stale, is_key_owed, to_next}
-use Rattle.snap_scan.specs.Fetching.{Outcome, done, told, refused, read, unreadable, Leaves, Names, MayFail, closed, stream_started, plain_read, quoted_read, innermost, value_behind, kind_step, at_token, token_step, step}
-use Rattle.snap_scan.specs.Sound.{Holds, IsFounded, IsIn, IsShown, IsNoStart, IsNoEnd, IsPossible, IsSound, IsSoundFrom, untouched, open_still, over, block_signs}
+use Rattle.snap_scan.specs.State.{State, at, in_flow, start_state, stale, is_key_owed, to_next}
+use Rattle.snap_scan.specs.Fetching.{Outcome, done, refused, read, Leaves, Names, MayFail, closed, stream_started, plain_read, quoted_read, innermost, value_behind, kind_step, at_token, token_step, step}
+use Rattle.snap_scan.specs.Sound.{Holds, IsFounded, IsShown, IsNoStart, IsNoEnd, IsPossible, IsSound, IsSoundFrom, untouched, open_still, over, block_signs}
 use Rattle.snap_scan.proofs.Beginnings.{kind-begins}
 use Rattle.snap_scan.proofs.Growing.{unrefused}
 use Rattle.snap_scan.proofs.Possible.{in-source, in-bracket, in-holds, stands, stands-behind}
 use Rattle.snap_scan.proofs.Soundness.{either, only, second-true, sound-forced, sound-unrolled, sound-stale, sound-to-next}
-use Rattle.snap_scan.proofs.Sounding.{IsFresh, among, begun, some-of, left-done, left-open, sound-closed, sound-kind}
+use Rattle.snap_scan.proofs.Sounding.{IsFresh, among, begun, left-done, left-open, sound-closed, sound-kind}
 
 -- a fault that a test found, or that lies further on
 founded-if : (source : List ℕ) (b : Bool) (m n : Mark) (why info : ScanInfo) (o : Outcome) → (b ≡ true → IsFounded source (Syntax m why))

@@ -1,5 +1,5 @@
 -- A fetch puts a token behind the held ones.
-use Rattle.std.proofs.Common.{◌≡◌, ◌≤◌, ◌++◌, ◌∷◌, [], ℕ, Bool, true, false, List, Option, Some, None, Result, Ok, Err, length, length-append, subst, sym, ap, arith, refl, if◌then◌else◌}
+use Rattle.std.proofs.Common.{◌≡◌, ◌≤◌, ◌++◌, ◌∷◌, [], Bool, true, false, List, Option, Some, None, Result, Ok, Err, length, length-append, subst, sym, ap, arith, if◌then◌else◌}
 use Rattle.std.specs.Prelude.{OnOk, nat_lt, not, ◌&&◌}
 use Rattle.snap_token.specs.declared.info.ScanError.{ScanError}
 use Rattle.snap_token.specs.Mark.{Mark}
@@ -15,7 +15,7 @@ use Rattle.snap_scan.specs.declared.kind.TokenKind.{TokenKind}
 use Rattle.snap_scan.specs.declared.kind.TokenKind.TheVariants as k
 use Rattle.snap_scan.specs.Keys.{is_required, any_overdue}
 use Rattle.snap_scan.specs.State.{State, at, in_flow, is_key_owed, to_next}
-use Rattle.snap_scan.specs.Fetching.{Outcome, done, refused, read, IsRead, Leaves, Does, plain_read, quoted_read, read_key, value_behind, value_alone, innermost, kind_step, token_step, at_token, stream_started, step}
+use Rattle.snap_scan.specs.Fetching.{Outcome, done, refused, read, Leaves, Does, plain_read, quoted_read, read_key, value_behind, innermost, kind_step, token_step, at_token, stream_started, step}
 
 -- what is left once a refusal is out of the question
 pub unrefused : (b : Bool) (m : Mark) (i : ScanInfo) (o : Outcome) (new : State) → Leaves (if b then refused m i else o) new → Leaves o new

@@ -8,3 +8,5 @@ pub mod Soundness
 pub mod Sounding
 pub mod Founding
 pub mod Order
+pub mod Fronts
+pub mod Owing

@@ -1,7 +1,7 @@
 -- What the reading of a token makes of a state.
 use Rattle.std.proofs.Common.{◌≡◌, ◌≤◌, ◌+◌, ℕ, Bool, true, false, List, [], ◌∷◌, Option, Some, None, Result, Ok, Err, length, subst, sym, ap, arith, refl, ◌∙◌, if◌then◌else◌}
 use Rattle.std.specs.Prelude.{MatchOption}
-use Rattle.snap_token.specs.Place.{Place, Later, here, next, skip_from, skipped, mark_of}
+use Rattle.snap_token.specs.Place.{Place, Later, here, next, skip_from, mark_of}
 use Rattle.snap_token.specs.Mark.{Mark}
 use Rattle.snap_token.specs.Plain.{Plain, plain_from, ReadsPlain}
 use Rattle.snap_token.specs.Quoted.{Quoted, ReadsQuoted}
@@ -17,7 +17,7 @@ use Rattle.snap_scan.specs.declared.kind.TokenKind.{TokenKind}
 use Rattle.snap_scan.specs.declared.kind.TokenKind.TheVariants.{Directive}
 use Rattle.snap_scan.specs.Keys.{is_required}
 use Rattle.snap_scan.specs.State.{State, Gives, at, pushed, allowing, keyless, saved, unrolled, is_key_owed, in_flow}
-use Rattle.snap_scan.specs.Fetching.{Outcome, done, refused, read, told, IsTokenOf, IsRead, IsTold, Does, closed, directive, read_key, plain, plain_read, quoted_read, innermost}
+use Rattle.snap_scan.specs.Fetching.{Outcome, refused, read, IsTokenOf, IsRead, Does, closed, directive, read_key, plain, plain_read, quoted_read, innermost}
 
 skip-index : (cs : List ℕ) (p : Place) → p.index ≤ (skip_from cs p).index
 skip-index [] p = omega arith

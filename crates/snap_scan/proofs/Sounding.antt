@@ -1,12 +1,12 @@
 -- Each fetch keeps a scanner sound.
-use Rattle.std.proofs.Common.{◌≡◌, ◌≢◌, ◌≤◌, ◌<◌, ◌+◌, ◌-◌, ◌++◌, ◌∷◌, [], ℕ, Bool, true, false, List, Option, Some, None, length, drop, take, slice_index, slice_index_or, length-append, subst, sym, ap, arith, refl, ◌∙◌, ◌&&◌, inl, inr, zero, suc, min, if◌then◌else◌}
+use Rattle.std.proofs.Common.{◌≡◌, ◌≢◌, ◌≤◌, ◌+◌, ◌-◌, ◌++◌, ◌∷◌, [], ℕ, Bool, true, false, List, Option, Some, None, length, slice_index, slice_index_or, length-append, subst, sym, ap, arith, refl, ◌∙◌, ◌&&◌, inl, inr, if◌then◌else◌}
 use Rattle.std.specs.Prelude.{All, count_by, codes, nat_lt, not, ◌||◌}
 use Rattle.std.proofs.lemmas.Bool.{ltb-false}
 use Rattle.std.proofs.lemmas.List.{length-take}
 use Rattle.std.proofs.lemmas.List.Elements.{All-push, All-head, All-tail, All-take, All-get_or}
 use Rattle.snap_token.specs.Mark.{Mark}
-use Rattle.snap_token.specs.Place.{Place, Later, here, next, skipped, skip_from, forced, mark_of}
-use Rattle.snap_token.specs.Plain.{Plain, plain_from}
+use Rattle.snap_token.specs.Place.{Place, Later, skipped, forced, mark_of}
+use Rattle.snap_token.specs.Plain.{Plain}
 use Rattle.snap_token.specs.Quoted.{Quoted, single_from, double_from}
 use Rattle.snap_token.specs.Causes.{is_among}
 use Rattle.snap_token.specs.declared.token.Token.{Token}
@@ -17,14 +17,14 @@ use Rattle.snap_token.specs.declared.token.TScalarStyle.TheVariants as style
 use Rattle.snap_scan.specs.declared.kind.TokenKind.{TokenKind}
 use Rattle.snap_scan.specs.declared.kind.TokenKind.TheVariants as k
 use Rattle.snap_scan.specs.declared.keys.SimpleKey.{SimpleKey}
-use Rattle.snap_scan.specs.Keys.{Keys, is_required, is_past, has_levels, deeper, shallower}
+use Rattle.snap_scan.specs.Keys.{is_required, is_past, has_levels, deeper, shallower}
 use Rattle.snap_scan.specs.Kinds.{Begins}
 use Rattle.snap_scan.specs.State.{State, at, in_flow, pushed, inserted, put, advanced, allowing, unrolled, rolled, is_deeper, keyless, saved, is_key_owed}
-use Rattle.snap_scan.specs.Fetching.{Outcome, done, told, refused, read, unreadable, IsTokenOf, IsRead, IsTold, Leaves, closed, sign, document, plain_read, quoted_read, read_key, value_behind, value_alone, value_of_key, innermost, kind_step}
-use Rattle.snap_scan.specs.Sound.{Holds, shown, IsShown, IsIn, IsKeyBehind, HasQuestion, HasColon, KindStands, KeyStands, IsPossible, ArePossible, IsSound, IsSoundAt, IsSoundFrom, open_still, over, IsNoStart, IsNoEnd, EndsStream, begins_stream, is_start, is_end, block_signs, is_line_feed}
+use Rattle.snap_scan.specs.Fetching.{done, IsTokenOf, IsRead, Leaves, closed, sign, document, plain_read, quoted_read, read_key, value_behind, kind_step}
+use Rattle.snap_scan.specs.Sound.{Holds, shown, IsShown, IsIn, IsKeyBehind, HasQuestion, HasColon, KindStands, IsPossible, IsSound, IsSoundFrom, open_still, over, IsNoStart, IsNoEnd, EndsStream, is_start, is_end, block_signs}
 use Rattle.snap_scan.proofs.Growing.{unrefused, unrefused-else}
-use Rattle.snap_scan.proofs.Possible.{in-source, in-skipped, in-later, in-bracket, in-fewer, stands}
-use Rattle.snap_scan.proofs.Soundness.{only, begins-append, rest-append, sound-pushed, sound-inserted, sound-advanced, sound-passed, sound-at, sound-further, sound-forced, sound-keyless, sound-rolled, sound-unrolled, sound-saved}
+use Rattle.snap_scan.proofs.Possible.{in-source, in-later, in-bracket, in-fewer, stands}
+use Rattle.snap_scan.proofs.Soundness.{only, begins-append, rest-append, sound-pushed, sound-inserted, sound-advanced, sound-passed, sound-further, sound-forced, sound-keyless, sound-rolled, sound-unrolled, sound-saved}
 
 -- what is asked of a token that is no Key, StreamStart or StreamEnd, where it is put into the queue
 record IsFit (source : List ℕ) (kind : TokenType) : Type 0 where

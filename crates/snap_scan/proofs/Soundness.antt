@@ -1,20 +1,19 @@
 -- What the parts of a fetch keep.
-use Rattle.std.proofs.Common.{◌≡◌, ◌≢◌, ◌≤◌, ◌<◌, ◌+◌, ◌-◌, ◌++◌, ◌∷◌, [], ℕ, zero, suc, Bool, true, false, List, Option, Some, None, length, take, drop, slice_index, slice_index_or, min, map, length-append, subst, sym, ap, arith, refl, ◌∙◌, ◌==◌, ◌&&◌, if◌then◌else◌}
-use Rattle.std.specs.Prelude.{All, count_by, codes, nat_lt, not}
+use Rattle.std.proofs.Common.{◌≡◌, ◌≢◌, ◌≤◌, ◌<◌, ◌+◌, ◌++◌, ◌∷◌, [], ℕ, zero, suc, Bool, true, false, List, Option, Some, None, length, take, drop, slice_index, min, sym, ap, arith, refl, ◌∙◌, ◌==◌, ◌&&◌, if◌then◌else◌}
+use Rattle.std.specs.Prelude.{All}
 use Rattle.std.specs.List.{insert}
 use Rattle.std.proofs.lemmas.List.{length-map, append-nil}
-use Rattle.std.proofs.lemmas.List.Elements.{All-append, All-push, All-cons, All-nil, All-head, All-tail, All-take, All-drop, All-map, All-weaker}
+use Rattle.std.proofs.lemmas.List.Elements.{All-append, All-cons, All-nil, All-head, All-take, All-drop, All-map, All-weaker}
 use Rattle.snap_token.specs.Mark.{Mark}
 use Rattle.snap_token.specs.Place.{Place, Later, here, next, skipped, skip_from, forced, mark_of}
 use Rattle.snap_token.specs.Characters.{is_break}
 use Rattle.snap_token.specs.declared.token.Token.{Token}
-use Rattle.snap_token.specs.declared.token.TokenType.{TokenType}
 use Rattle.snap_token.specs.declared.token.TokenType.TheVariants as t
-use Rattle.snap_scan.specs.Keys.{Keys, is_past, fresh, is_required, lowered, still_fresh, all_lowered}
-use Rattle.snap_scan.specs.State.{State, at, in_flow, pushed, inserted, put, advanced, allowing, line_ended, is_space, to_next, past_comment, ends, kept, is_right_of, unrolled, rolled, is_deeper, keyless, saved, is_innermost, stale, given}
-use Rattle.snap_scan.specs.Sound.{Holds, IsShown, IsKeySound, IsPossible, ArePossible, IsSoundAt, IsSoundFrom, IsNoStart, IsNoEnd, IsEndLast, EndsStream, begins_stream, is_start, block_signs}
+use Rattle.snap_scan.specs.Keys.{is_past, fresh, lowered}
+use Rattle.snap_scan.specs.State.{State, at, in_flow, pushed, inserted, put, advanced, line_ended, is_space, to_next, past_comment, ends, kept, is_right_of, unrolled, rolled, is_deeper, keyless, saved, is_innermost, stale, given}
+use Rattle.snap_scan.specs.Sound.{Holds, IsShown, IsKeySound, IsPossible, IsSoundFrom, IsNoStart, IsNoEnd, IsEndLast, begins_stream, is_start, block_signs}
 use Rattle.snap_scan.specs.declared.keys.SimpleKey.{SimpleKey}
-use Rattle.snap_scan.proofs.Possible.{in-source, in-skipped, in-later, in-fewer, in-forced, keys-later, keys-further, keys-nearer, keys-forced}
+use Rattle.snap_scan.proofs.Possible.{in-source, in-later, in-fewer, in-forced, keys-later, keys-further, keys-nearer, keys-forced}
 
 pub either : (P : State → Type 0) (b : Bool) (x y : State) → P x → P y → P (if b then x else y)
 either P true x y left right = left

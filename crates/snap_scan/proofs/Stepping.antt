@@ -1,5 +1,5 @@
 -- One fetch, put together from its parts.
-use Rattle.std.proofs.Common.{◌≡◌, ℕ, Bool, true, false, Option, Some, None, Result, subst, sym, ap, refl, ◌∙◌, if◌then◌else◌}
+use Rattle.std.proofs.Common.{◌≡◌, ℕ, Bool, true, false, Some, Result, subst, sym, ap, refl, ◌∙◌, if◌then◌else◌}
 use Rattle.snap_token.specs.Place.{mark_of}
 use Rattle.snap_token.specs.declared.info.ScanError.{ScanError}
 use Rattle.snap_token.specs.declared.info.ScanInfo.TheVariants.{S1}

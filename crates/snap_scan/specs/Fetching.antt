@@ -1,5 +1,5 @@
 -- One fetch: the token that stands next is put into the queue.
-use Rattle.std.specs.Prelude.{ℕ, ◌+◌, ◌≡◌, ◌≤◌, ◌&&◌, ◌||◌, nat_lt, Some, Result, Ok, Err, List, [], ◌∷◌, length, Bool, true, false, not, Option, None, if◌then◌else◌}
+use Rattle.std.specs.Prelude.{ℕ, ◌+◌, ◌≡◌, ◌≤◌, ◌&&◌, nat_lt, Some, Result, Ok, Err, List, [], ◌∷◌, length, Bool, true, false, not, Option, None, if◌then◌else◌}
 use Rattle.snap_token.specs.Place.{Place, Later, mark_of, forced}
 use Rattle.snap_token.specs.Causes.{IsExplained}
 use Rattle.snap_token.specs.Plain.{Plain, plain_from}

@@ -1,5 +1,5 @@
 -- Simple keys: held tokens that a `:` may still make a key.
-use Rattle.std.specs.Prelude.{ℕ, ◌-◌, ◌==◌, ◌||◌, ◌&&◌, nat_lt, List, [], ◌∷◌, ◌++◌, length, take, map, slice_index_or, Bool, true, false, Option, None, Some, if◌then◌else◌}
+use Rattle.std.specs.Prelude.{◌-◌, ◌==◌, ◌||◌, ◌&&◌, nat_lt, List, [], ◌∷◌, ◌++◌, length, take, map, slice_index_or, Bool, true, false, Option, None, Some, if◌then◌else◌}
 use Rattle.std.specs.List.{list_any}
 use Rattle.snap_token.specs.Mark.{Mark}
 use Rattle.snap_scan.specs.declared.keys.SimpleKey.{SimpleKey}

@@ -4,3 +4,4 @@ pub mod State
 pub mod Fetching
 pub mod Sound
 pub mod Scan
+pub mod Owed

@@ -1,5 +1,5 @@
 -- What a scanner is seen as.
-use Rattle.std.specs.Prelude.{OnOk, ℕ, ◌+◌, ◌*◌, ◌≡◌, ◌<◌, ◌≤◌, ◌⊎◌, List, Bool, true, false, Option, Some, None, Result, Ok, Err, is_some}
+use Rattle.std.specs.Prelude.{OnOk, ℕ, ◌≡◌, ◌<◌, ◌≤◌, ◌⊎◌, List, true, false, Option, Some, None, Result, Ok, Err, is_some}
 use Rattle.snap_token.specs.declared.token.Token.{Token}
 use Rattle.snap_token.specs.declared.info.ScanError.{ScanError}
 use Rattle.snap_scan.specs.State.{State, start_state, left_of, has_ended}

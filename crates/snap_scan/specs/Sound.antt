@@ -1,7 +1,7 @@
 -- What holds of a scanner at any time, of the tokens that it gives, and of its errors.
 use Rattle.std.specs.Prelude.{ℕ, ◌+◌, ◌≡◌, ◌<◌, ◌≤◌, ◌⊎◌, ◌==◌, All, List, [], ◌∷◌, ◌++◌, drop, length, count_by, codes, Bool, true, false, not, ◌||◌, Option, Some, None, Result, Ok, Err}
 use Rattle.snap_token.specs.Mark.{Mark}
-use Rattle.snap_token.specs.Place.{Place, mark_of}
+use Rattle.snap_token.specs.Place.{Place}
 use Rattle.snap_token.specs.Causes.{Need, one_of, nothing, is_among, HasCause}
 use Rattle.snap_token.specs.declared.token.Token.{Token}
 use Rattle.snap_token.specs.declared.token.TokenType.{TokenType}

@@ -1,5 +1,5 @@
 -- What the fetching of tokens works on, and what its parts make of it.
-use Rattle.std.specs.Prelude.{ℕ, ◌+◌, ◌*◌, ◌==◌, ◌&&◌, ◌||◌, ◌-◌, ◌≡◌, nat_lt, min, Some, Result, Ok, Err, List, [], ◌∷◌, ◌++◌, drop, length, Bool, true, false, not, Option, None, if◌then◌else◌}
+use Rattle.std.specs.Prelude.{ℕ, ◌+◌, ◌*◌, ◌==◌, ◌&&◌, ◌||◌, ◌≡◌, nat_lt, min, Some, Result, Ok, Err, List, [], ◌∷◌, ◌++◌, drop, length, Bool, true, false, not, Option, None, if◌then◌else◌}
 use Rattle.std.specs.List.{insert}
 use Rattle.snap_token.specs.Characters.{is_break}
 use Rattle.snap_token.specs.Place.{Place, start_of, mark_of, skipped}

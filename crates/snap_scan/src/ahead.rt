@@ -2,6 +2,7 @@
 ghost use Rattle.std.specs.Prelude.{◌≡◌, ◌≤◌, OnOk, IfOk, MatchOption, [], ◌∷◌, true, false};
 ghost use Rattle.snap_scan.specs.State.{state_of, work, left_of, has_ended, given, IsReady};
 ghost use Rattle.snap_scan.specs.Sound.{KeepsSound, GivesOfSound};
+ghost use Rattle.snap_scan.specs.Owed.{IsFirstSure, KeepsOwed, GivesOfOwed};
 ghost use Rattle.snap_scan.specs.Scan.{Pays, IsNoneAtEnd};
 
 use crate::fetcher::{Fetcher, ScanResult};
@@ -24,6 +25,8 @@ impl<'a> Fetcher<'a> {
         ensures law { OnOk result (left_of (state_of self.new) ≡ left_of (state_of self.old)) }
         ensures work { OnOk result (work (state_of self.new) ≡ work (state_of self.old)) }
         ensures sound { KeepsSound result (state_of self.old) (state_of self.new) }
+        ensures first { IfOk result (λ ready. ready ≡ true → IsFirstSure (state_of self.new)) }
+        ensures owed { KeepsOwed result (state_of self.old) (state_of self.new) }
     {
         if self.tokens.is_empty() {
             return Ok(self.ended);
@@ -41,6 +44,8 @@ impl<'a> Fetcher<'a> {
             → OnOk result (has_ended (state_of self.new) ≡ false) }
         ensures law { OnOk result (left_of (state_of self.new) ≤ left_of (state_of self.old)) }
         ensures sound { KeepsSound result (state_of self.old) (state_of self.new) }
+        ensures first { OnOk result (IsFirstSure (state_of self.new)) }
+        ensures owed { KeepsOwed result (state_of self.old) (state_of self.new) }
     {
         if self.has_ended() {
             return Ok(());
@@ -74,6 +79,7 @@ impl<'a> Fetcher<'a> {
         ensures none { IsNoneAtEnd result (state_of self.old) (state_of self.new) }
         ensures law { Pays result (left_of (state_of self.old)) (left_of (state_of self.new)) }
         ensures sound { GivesOfSound result (state_of self.old) (state_of self.new) }
+        ensures owed { GivesOfOwed result (state_of self.old) (state_of self.new) }
     {
         self.fetch_more_tokens()?;
         Ok(self.take_first())

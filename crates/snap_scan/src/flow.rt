@@ -53,7 +53,7 @@ impl<'a> Fetcher<'a> {
         let mark = self.cursor.mark();
         self.remove_simple_key()?;
         self.allow_simple_key(true);
-        self.skip();
+        self.skip(); // The comma.
         self.push_token(mark, TokenType::FlowEntry)
     }
 }

@@ -5,6 +5,7 @@ ghost use Rattle.snap_token.specs.Place.{before_nul, mark_of};
 ghost use Rattle.snap_token.specs.declared.info.ScanError.{ScanError};
 ghost use Rattle.snap_scan.specs.Sound.{IsShown, IsFounded};
 ghost use Rattle.snap_scan.specs.Scan.{start_scan, left, Fails, Keeps, Pays, IsNoneAtEnd, HasStopped, IsGiven, IsNext, GivesNext, KeepsOrder};
+ghost use Rattle.snap_scan.specs.Owed.{GivesOwed, NextOwed};
 ghost use Rattle.snap_scan.specs.State.{has_ended};
 
 use crate::fetcher::{Fetcher, ScanResult};
@@ -55,13 +56,14 @@ impl<'a> Scanner<'a> {
         ensures kept { Keeps result self.new }
         ensures none { IsNoneAtEnd result self.old.state self.new.state }
         ensures next { GivesNext self.old.source result self.old.state self.new.state }
+        ensures owed { GivesOwed self.old result self.new }
         ensures cause { IfErr result (λ e. IsFounded self.old.source e) }
         ensures law { Pays result (left self.old) (left self.new) }
         ensures failed { left self.new ≤ left self.old }
         ensures source { self.new.source ≡ self.old.source }
     {
-        if let Some(error) = &self.error {
-            return Err(*error);
+        if let Some(failure) = &self.error {
+            return Err(*failure);
         }
         match self.fetcher.next_token() {
             Ok(token) => Ok(token),
@@ -110,6 +112,7 @@ impl<'a> Scanner<'a> {
         ensures none { MatchOption result (HasStopped self.old self.new)
             (λ _. IsGiven self.old self.new) }
         ensures next { MatchOption result ⊤ (λ token. IsNext token self.old.state self.new.state) }
+        ensures owed { NextOwed self.old result self.new }
         ensures shown { MatchOption result ⊤ (λ token. IsShown self.old.source token) }
         ensures law { MatchOption result (left self.new ≤ left self.old)
             (λ _. left self.new + 1 ≤ left self.old) }
@@ -123,7 +126,8 @@ impl<'a> Scanner<'a> {
 
     /// The place that the scanner has come to; after the end that of the end.
     pub fn mark(&self) -> Marker
-        ensures { result ≡ mark_of self.now.state.place }
+        ensures place { result ≡ mark_of self.now.state.place }
+        ensures inside { self.now.error ≡ None → result.index ≤ length self.now.source }
     {
         self.fetcher.cursor.mark()
     }

@@ -1,5 +1,7 @@
 use Rattle.std.proofs.Common.{◌≡◌, ◌≤◌, ℕ, List, Bool, false}
+use Rattle.snap_scan.specs.Owed.{Owes}
 use Rattle.snap_scan.specs.State.{state_of, work, left_of, has_ended}
+use Rattle.snap_token.specs.declared.token.TokenType.{TokenType}
 use Rattle.snap_scan.specs.Sound.{IsSound}
 use Rattle.snap_scan.proofs.fetcher.Fetcher.fetch_more_tokens.Given as goal
 
@@ -8,6 +10,7 @@ invariant-fetching l = record {
   fresh : has_ended (state_of l.self) ≡ false;
   law : left_of (state_of l.self) ≤ left_of (state_of l.fn.self);
   sound : (ahead : Bool) (source : List ℕ) → IsSound ahead source (state_of l.fn.self) → IsSound ahead source (state_of l.self);
+  owed : (ahead : Bool) (source : List ℕ) (ts : List TokenType) → IsSound ahead source (state_of l.fn.self) → Owes (state_of l.fn.self) ts → Owes (state_of l.self) ts;
 }
 
 abbrev pub decreases-fetching : goal.decreases-fetching

@@ -1,6 +1,9 @@
+use Rattle.std.proofs.Common.{sym, subst}
 use Rattle.std.proofs.lemmas.Result.{err_from_is_err_and}
-use Rattle.snap_scan.specs.State.{state_of}
+use Rattle.snap_scan.specs.Owed.{Owes}
+use Rattle.snap_scan.specs.State.{State, state_of}
 use Rattle.snap_scan.proofs.Founding.{sound-fresh, founded-stale}
+use Rattle.snap_scan.proofs.Owing.{owes-timely, owes-stale}
 use Rattle.snap_scan.proofs.fetcher.Fetcher.is_ready.Goals as goal
 
 pub returns-in_err-stale_simple_keys-clause-sound : goal.returns-in_err-stale_simple_keys-clause-sound
@@ -11,3 +14,16 @@ returns-in_err-stale_simple_keys-clause-sound c =
 pub returns-clause-sound : goal.returns-clause-sound
 returns-clause-sound c =
     λ ahead source is. sound-fresh source (state_of c.args.self.now) (state_of c.stale_simple_keys.new.self) is c.in_ok-stale_simple_keys.ensures.value.1
+
+pub returns-in_err-stale_simple_keys-clause-owed : goal.returns-in_err-stale_simple_keys-clause-owed
+returns-in_err-stale_simple_keys-clause-owed c =
+    λ ahead source ts is o.
+    let timely = owes-timely source (state_of c.args.self.now) ts is o in
+    let late = c.in_err-stale_simple_keys.ensures.value.0 in
+    absurd (cc)
+
+pub returns-clause-owed : goal.returns-clause-owed
+returns-clause-owed c =
+    λ ahead source ts is o.
+    let P : State → Type 0 = λ v. Owes v ts in
+    subst P (sym c.in_ok-stale_simple_keys.ensures.value.1) (owes-stale source (state_of c.args.self.now) ts is o)

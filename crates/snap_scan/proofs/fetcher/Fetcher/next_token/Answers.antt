@@ -2,6 +2,7 @@ use Rattle.std.proofs.lemmas.Result.{err_from_is_err_and}
 use Rattle.snap_scan.specs.State.{state_of}
 use Rattle.snap_scan.proofs.Ending.{gives-at-end, pays}
 use Rattle.snap_scan.proofs.Order.{gives-sound}
+use Rattle.snap_scan.proofs.Owing.{gives-first}
 use Rattle.snap_scan.proofs.fetcher.Fetcher.next_token.Goals as goal
 
 pub returns-clause-none : goal.returns-clause-none
@@ -23,3 +24,14 @@ pub returns-in_err-fetch_more_tokens-clause-sound : goal.returns-in_err-fetch_mo
 returns-in_err-fetch_more_tokens-clause-sound c =
     λ ahead source is. let p = err_from_is_err_and c.from_residual.result c.from_residual.ensures.1 in
     rw (p.1, p.2) (c.in_err-fetch_more_tokens.ensures.sound ahead source is)
+
+pub returns-clause-owed : goal.returns-clause-owed
+returns-clause-owed c =
+    λ ahead source ts is o. gives-first c.take_first.result (state_of c.fetch_more_tokens.new.self) (state_of c.take_first.new.self) ts
+    c.in_ok-fetch_more_tokens.ensures.first c.in_ok-fetch_more_tokens.ensures.ready c.take_first.ensures
+    (c.in_ok-fetch_more_tokens.ensures.owed ahead source ts is o)
+
+pub returns-in_err-fetch_more_tokens-clause-owed : goal.returns-in_err-fetch_more_tokens-clause-owed
+returns-in_err-fetch_more_tokens-clause-owed c =
+    λ ahead source ts is o. let p = err_from_is_err_and c.from_residual.result c.from_residual.ensures.1 in
+    rw (p.1, p.2) (c.in_err-fetch_more_tokens.ensures.owed ahead source ts is o)

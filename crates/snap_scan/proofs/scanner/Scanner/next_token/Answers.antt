@@ -1,8 +1,11 @@
-use Rattle.std.proofs.Common.{◌≡◌, subst, sym, Ok}
+use Rattle.std.proofs.Common.{◌≡◌, ◌∙◌, subst, sym, Ok, None, List}
 use Rattle.std.specs.Str.{chars}
 use Rattle.snap_token.specs.Place.{before_nul}
 use Rattle.snap_token.specs.declared.info.ScanError.{ScanError}
-use Rattle.snap_scan.specs.State.{state_of, has_ended}
+use Rattle.snap_token.specs.declared.info.ScanError.TheVariants.{OutOfMemory}
+use Rattle.snap_token.specs.declared.token.TokenType.{TokenType}
+use Rattle.snap_scan.specs.Owed.{Owes, GivesFirst}
+use Rattle.snap_scan.specs.State.{state_of}
 use Rattle.snap_scan.specs.Sound.{IsFounded, is_start_ahead}
 use Rattle.snap_scan.specs.Scan.{Scan, GivesNext}
 use Rattle.snap_scan.proofs.Order.{gives-next, sound-after, whole-sound, whole-open, whole-failed}
@@ -41,3 +44,20 @@ returns-in-Err-clause-cause c =
     let P : ScanError → Type 0 = IsFounded source in
     let Q : Scan → Type 0 = λ v. IsFounded v.source c.keep.result in
     subst Q c.self.view_is (subst P (sym c.keep.ensures.result) (c.in-Err.ensures.sound _ source is))
+
+pub returns-in-Ok-clause-owed : goal.returns-in-Ok-clause-owed
+returns-in-Ok-clause-owed c =
+    let source = before_nul (chars c.self.inside.source.now) in
+    let old = state_of c.self.inside.fetcher in
+    let new = state_of c.next_token.new.self in
+    let is = whole-sound c.self.inside.error source old c.in_default.is c.self.invariant in
+    let Q : Scan → Type 0 = λ v. (ts : List TokenType) → v.error ≡ None → Owes v.state ts → GivesFirst (Ok c.in-Ok.token) new ts in
+    subst Q c.self.view_is (λ ts none o. c.in-Ok.ensures.owed _ source ts is o)
+
+pub returns-in-Err-clause-owed : goal.returns-in-Err-clause-owed
+returns-in-Err-clause-owed c =
+    let source = before_nul (chars c.self.inside.source.now) in
+    let old = state_of c.self.inside.fetcher in
+    let is = whole-sound c.self.inside.error source old c.in_default.is c.self.invariant in
+    let Q : Scan → Type 0 = λ v. (ts : List TokenType) → v.error ≡ None → Owes v.state ts → c.keep.result ≡ OutOfMemory in
+    subst Q c.self.view_is (λ ts none o. c.keep.ensures.result ∙ c.in-Err.ensures.owed _ source ts is o)

@@ -1,0 +1,5 @@
+use Rattle.snap_parser.specs.Parsing.{events_left}
+use Rattle.parse_lines.proofs.lines.event_lines.Given as goal
+
+abbrev pub decreases-events : goal.decreases-events
+decreases-events l = events_left l.parser

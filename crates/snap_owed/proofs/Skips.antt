@@ -1,0 +1,53 @@
+-- Skipping, on texts of a known form.
+use Rattle.std.proofs.Common.{◌≡◌, ℕ, zero, suc, ◌+◌, List, [], ◌∷◌, ◌++◌, Bool, true, false, refl, ap, ◌∙◌, arith, add-zero}
+use Rattle.std.specs.Prelude.{◌||◌, ◌&&◌, ◌==◌, slice_index, not}
+use Rattle.snap_token.specs.Characters.{is_break, is_blank}
+use Rattle.snap_token.specs.Place.{Place, mark_of}
+use Rattle.snap_token.specs.declared.token.Token.{Token}
+use Rattle.snap_scan.specs.Keys.{any_overdue}
+use Rattle.snap_scan.specs.State.{State, to_next, is_space, in_flow, stale}
+use Rattle.snap_owed.specs.Forms.{blanks}
+use Rattle.snap_owed.specs.Stands.{here, calm, arrived, Settles}
+
+abbrev pub with_place : Place → State → State
+with_place p s = record s { place = p }
+
+pub to_next-blanks : (n : ℕ) (cs : List ℕ) (s : State) (i l j : ℕ)
+    → to_next (blanks n ++ cs) (with_place (here (blanks n ++ cs) i l j) s) ≡ to_next cs (with_place (here cs (i + n) l (j + n)) s)
+to_next-blanks zero cs s i l j = rw (add-zero i, add-zero j) refl
+to_next-blanks (suc n) cs s i l j =
+    let e : i + 1 + n ≡ i + suc n = omega arith in
+    let f : j + 1 + n ≡ j + suc n = omega arith in
+    rw (← e, ← f) (to_next-blanks n cs s (i + 1) l (j + 1))
+
+-- a character at which skipping stops
+abbrev pub stops_at : ℕ → Bool
+stops_at c = is_blank c || is_break c || c == 35
+
+pub none_of : (a b : Bool) → a || b ≡ false → (a ≡ false) × (b ≡ false)
+none_of false b h = (refl, h)
+none_of true b h = (cc, cc)
+
+pub and_false : (b : Bool) → b && false ≡ false
+and_false true = refl
+and_false false = refl
+
+no_space : (a b x : Bool) → a || b ≡ false → a || (b && x) ≡ false
+no_space false false x h = refl
+no_space false true x h = cc
+no_space true b x h = cc
+
+pub to_next-stops : (cs : List ℕ) (s : State) → stops_at (slice_index cs 0) ≡ false → to_next cs s ≡ s
+to_next-stops [] s stop = refl
+to_next-stops (c ∷ cs) s stop =
+    let first = none_of (is_blank c || is_break c) (c == 35) stop in
+    let both = none_of (is_blank c) (is_break c) first.0 in
+    let space : is_space c s ≡ false = no_space (c == 32) (c == 9) (in_flow s || not s.allowed) both.0 in
+    rw (space, both.1, first.1) refl
+
+-- a state that arrives at another one, whose keys are in time, settles as that one does
+pub settles-by : (b : Bool) (a : ℕ) (s t : State) (p : Place) (h : List Token) (columns : List ℕ) → s.started ≡ true → s.ended ≡ false → arrived s ≡ t
+    → any_overdue (mark_of t.place) t.keys ≡ false → stale t ≡ calm b a p h columns → Settles b s p h columns
+settles-by b a s t p h columns started ended there timely calms =
+    let late : State → Bool = λ v. any_overdue (mark_of v.place) v.keys in
+    record { adjacent = a; started = started; ended = ended; timely = ap late there ∙ timely; calm = ap stale there ∙ calms }

@@ -1,0 +1,6 @@
+pub mod Endings
+pub mod Running
+pub mod Naming
+pub mod Signs
+pub mod Standing
+pub mod Openings
