@@ -1,3 +1,4 @@
 pub mod Documents
 pub mod Steps
 pub mod Loader
+pub mod Loaded

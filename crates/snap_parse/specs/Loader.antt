@@ -1,6 +1,7 @@
 -- What a loader is seen as.
 use Rattle.std.specs.Prelude.{◌≡◌, List, map, option_map, false}
 use Rattle.snap_event.specs.declared.event.Event.{Event}
+use Rattle.snap_yaml.specs.declared.lists.Array.{Array}
 use Rattle.snap_yaml.specs.View.{value_of, array_list, pair_value, hash_list}
 use Rattle.snap_parse.specs.Steps.{Held, in_list, in_dict, LoadState, steps, start}
 use Rattle.snap_parse.specs.declared.loader.Frame.{Frame}
@@ -17,3 +18,7 @@ state_of l = record { documents = map value_of (array_list l.documents); node = 
 -- one that has lost no event has made of these events what they come to
 abbrev pub HasLoaded : Loader → List Event → Type 0
 HasLoaded l events = l.is_broken ≡ false → state_of l ≡ steps events start
+
+-- the list has the documents that the loader has made of its events
+abbrev pub HoldsDocuments : Loader → Array → Type 0
+HoldsDocuments l made = (events : List Event) → HasLoaded l events → map value_of (array_list made) ≡ (steps events start).documents

@@ -1,8 +1,16 @@
-//! Documents of a YAML text, as values.
+//! Documents of a YAML text, as values, and all that they are made by: events, the parser, the values themselves.
 //!
-//! In the order in which data flows: `scalar` (the values of scalars), `loader` (documents from events), `laws`.
+//! In the order in which data flows: `scalar` (the values of scalars), `loader` (documents from events), `load` (all documents
+//! of a text), `laws` (what the documents of events are).
 #![tactic(auto)]
 
 pub mod laws;
+mod load;
 mod loader;
 mod scalar;
+
+pub use load::YamlLoader;
+pub use snap_event::{Event, EventReceiver, MarkedEventReceiver, Tag};
+pub use snap_parser::{LoadError, ParseResult, Parser};
+pub use snap_token::{Marker, ScanError, ScanInfo, TScalarStyle};
+pub use snap_yaml::{Array, Hash, Yaml, YamlIter};

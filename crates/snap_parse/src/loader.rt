@@ -1,11 +1,11 @@
 //! The receiver that makes documents of events.
-ghost use Rattle.std.specs.Prelude.{◌≡◌, [], OnOk, true, false};
+ghost use Rattle.std.specs.Prelude.{◌≡◌, [], OnOk, IfOk, IfErr, true, false};
 ghost use Rattle.snap_yaml.specs.View.{value_of};
 
 use crate::scalar::scalar;
 use snap_content::OutOfMemory;
 use snap_event::{Event, MarkedEventReceiver};
-use snap_token::Marker;
+use snap_token::{Marker, ScanError};
 use snap_yaml::{Array, Hash, Yaml};
 use std::alloc::Global;
 use std::collections::VecDeque;
@@ -32,8 +32,8 @@ pub(crate) struct Loader {
 }
 
 impl Loader {
-    ghost use Rattle.snap_parse.specs.Steps.{put, close, end_document, step, start};
-    ghost use Rattle.snap_parse.specs.Loader.{state_of, HasLoaded};
+    ghost use Rattle.snap_parse.specs.Steps.{put, close, end_document, step};
+    ghost use Rattle.snap_parse.specs.Loader.{state_of, HasLoaded, HoldsDocuments};
 
     pub(crate) fn new(alloc: Global) -> Loader
         ensures { HasLoaded result [] }
@@ -45,6 +45,17 @@ impl Loader {
             open: VecDeque::new(alloc),
             is_broken: false,
         }
+    }
+
+    /// The documents, unless an event was lost.
+    pub(crate) fn into_documents(self) -> Result<Array, ScanError>
+        ensures ok { IfOk result (λ made. HoldsDocuments self made) }
+        ensures err { IfErr result (λ e. e ≡ ScanError.OutOfMemory) }
+    {
+        if self.is_broken {
+            return Err(ScanError::OutOfMemory);
+        }
+        Ok(self.documents)
     }
 
     /// Puts a value where it belongs.

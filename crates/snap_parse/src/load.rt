@@ -1,0 +1,44 @@
+//! All documents of a text.
+ghost use Rattle.std.specs.Prelude.{◌≡◌, ◌≢◌, IfOk, IfErr, map};
+ghost use Rattle.std.specs.Str.{chars};
+ghost use Rattle.snap_token.specs.Place.{before_nul};
+ghost use Rattle.snap_scan.specs.Sound.{IsFounded};
+ghost use Rattle.snap_yaml.specs.View.{value_of, array_list};
+ghost use Rattle.snap_parse.specs.Loaded.{AreLoaded, scan_error};
+
+use crate::loader::Loader;
+use snap_parser::{LoadError, Parser};
+use snap_token::ScanError;
+use snap_yaml::Array;
+use std::alloc::Global;
+
+/// Loads documents.
+#[derive(Clone, Copy, Debug)]
+pub struct YamlLoader;
+
+impl YamlLoader {
+    /// The documents of a text, one value for each, or why it is no YAML: the parser's own error.
+    pub fn load_from_str(alloc: Global, source: &str) -> Result<Array, ScanError>
+        ensures documents { IfOk result (λ made. AreLoaded (map value_of (array_list made))) }
+        ensures cause { IfErr result (λ e. IsFounded (before_nul (chars source.now)) e) }
+    {
+        let mut parser = Parser::new(alloc, source);
+        let mut loader = Loader::new(alloc);
+        match parser.load(&mut loader, true) {
+            Ok(()) => loader.into_documents(),
+            Err(error) => Err(refusal(&error)),
+        }
+    }
+}
+
+/// Why a text has no documents, where no document was open before.
+fn refusal(error: &LoadError) -> ScanError
+    requires { error.now ≢ LoadError.InsideDocument }
+    ensures { result ≡ scan_error error.now }
+{
+    match error {
+        LoadError::Scan(error) => *error,
+        LoadError::OutOfMemory => ScanError::OutOfMemory,
+        LoadError::InsideDocument => unreachable!(),
+    }
+}
