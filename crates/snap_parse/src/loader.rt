@@ -1,0 +1,145 @@
+//! The receiver that makes documents of events.
+ghost use Rattle.std.specs.Prelude.{◌≡◌, [], OnOk, true, false};
+ghost use Rattle.snap_yaml.specs.View.{value_of};
+
+use crate::scalar::scalar;
+use snap_content::OutOfMemory;
+use snap_event::{Event, MarkedEventReceiver};
+use snap_token::Marker;
+use snap_yaml::{Array, Hash, Yaml};
+use std::alloc::Global;
+use std::collections::VecDeque;
+
+/// A list or a mapping that is open.
+#[derive(Drop)]
+pub(crate) enum Frame {
+    List(Array),
+    /// With the key whose value is due.
+    Dict(Hash, Option<Yaml>),
+}
+
+/// Makes documents of events, in place of a recursion by what is open.
+#[derive(Drop)]
+pub(crate) struct Loader {
+    alloc: Global,
+    documents: Array,
+    /// The node of the document that is open, once it is whole.
+    node: Option<Yaml>,
+    /// What is open, the innermost first.
+    open: VecDeque<Frame>,
+    /// An event was lost for want of memory.
+    is_broken: bool,
+}
+
+impl Loader {
+    ghost use Rattle.snap_parse.specs.Steps.{put, close, end_document, step, start};
+    ghost use Rattle.snap_parse.specs.Loader.{state_of, HasLoaded};
+
+    pub(crate) fn new(alloc: Global) -> Loader
+        ensures { HasLoaded result [] }
+    {
+        Loader {
+            alloc,
+            documents: Array::new(alloc),
+            node: None,
+            open: VecDeque::new(alloc),
+            is_broken: false,
+        }
+    }
+
+    /// Puts a value where it belongs.
+    fn put(&mut self, made: Yaml) -> Result<(), OutOfMemory>
+        ensures { OnOk result (state_of self.new ≡ put (value_of made) (state_of self.old)) }
+    {
+        match self.open.pop_front() {
+            None => self.node = Some(made),
+            Some(Frame::List(items)) => {
+                let mut items = items;
+                items.push(made)?;
+                self.open.push_front(Frame::List(items))?;
+            }
+            Some(Frame::Dict(pairs, due)) => match due {
+                None => {
+                    let key = if made.is_badvalue() { None } else { Some(made) };
+                    self.open.push_front(Frame::Dict(pairs, key))?;
+                }
+                Some(key) => {
+                    let mut pairs = pairs;
+                    pairs.push((key, made))?;
+                    self.open.push_front(Frame::Dict(pairs, None))?;
+                }
+            },
+        }
+        Ok(())
+    }
+
+    /// Ends what is open.
+    fn close(&mut self) -> Result<(), OutOfMemory>
+        ensures { OnOk result (state_of self.new ≡ close (state_of self.old)) }
+    {
+        match self.open.pop_front() {
+            None => Ok(()),
+            Some(Frame::List(items)) => self.put(Yaml::Array(items)),
+            Some(Frame::Dict(pairs, _)) => self.put(Yaml::Hash(pairs)),
+        }
+    }
+
+    /// Ends a document.
+    fn end_document(&mut self) -> Result<(), OutOfMemory>
+        ensures { OnOk result (state_of self.new ≡ end_document (state_of self.old)) }
+    {
+        let node = match self.node.take() {
+            None => Yaml::BadValue,
+            Some(node) => node,
+        };
+        self.documents.push(node)
+    }
+
+    /// What an event changes.
+    fn take(&mut self, event: Event<'_>) -> Result<(), OutOfMemory>
+        ensures { OnOk result (state_of self.new ≡ step event.entry (state_of self.old)) }
+    {
+        match event {
+            Event::StreamStart | Event::StreamEnd | Event::DocumentStart | Event::Alias(_) => {
+                Ok(())
+            }
+            Event::DocumentEnd => self.end_document(),
+            Event::Scalar(text, style, _, tag) => {
+                self.put(scalar(self.alloc, text.as_str(), style, tag)?)
+            }
+            Event::SequenceStart(_) => {
+                let items = Array::new(self.alloc);
+                self.open.push_front(Frame::List(items))?;
+                Ok(())
+            }
+            Event::MappingStart(_) => {
+                let pairs = Hash::new(self.alloc);
+                self.open.push_front(Frame::Dict(pairs, None))?;
+                Ok(())
+            }
+            Event::SequenceEnd | Event::MappingEnd => self.close(),
+        }
+    }
+}
+
+impl MarkedEventReceiver for Loader {
+    ghost use Rattle.snap_parse.specs.Loader.{HasLoaded};
+
+    ghost told = { HasLoaded };
+
+    fn on_event(&mut self, ev: Event<'_>, _mark: Marker) -> Result<(), OutOfMemory> {
+        if self.is_broken {
+            return Err(OutOfMemory);
+        }
+        match self.take(ev) {
+            Ok(()) => {
+                self.is_broken = false;
+                Ok(())
+            }
+            Err(error) => {
+                self.is_broken = true;
+                Err(error)
+            }
+        }
+    }
+}

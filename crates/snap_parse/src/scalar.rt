@@ -1,0 +1,36 @@
+//! The value of a scalar.
+ghost use Rattle.std.specs.Prelude.{◌≡◌, IfOk};
+ghost use Rattle.std.specs.Str.{chars};
+ghost use Rattle.snap_parse.specs.Documents.{plain_value, scalar_value};
+ghost use Rattle.snap_yaml.specs.View.{value_of};
+
+use snap_content::{OutOfMemory, Text};
+use snap_event::Tag;
+use snap_token::TScalarStyle;
+use snap_yaml::Yaml;
+use std::alloc::Global;
+
+/// The value of a plain scalar.
+fn plain(alloc: Global, text: &str, tag: Option<Tag>) -> Result<Yaml, OutOfMemory>
+    ensures { IfOk result (λ made. value_of made ≡ plain_value (chars text.now) tag) }
+{
+    match tag {
+        None => Yaml::from_str(alloc, text),
+        Some(tag) => Yaml::tagged(alloc, tag.handle.as_str(), tag.suffix.as_str(), text),
+    }
+}
+
+/// The value of a scalar, whose text is copied once.
+pub(crate) fn scalar(
+    alloc: Global,
+    text: &str,
+    style: TScalarStyle,
+    tag: Option<Tag>,
+) -> Result<Yaml, OutOfMemory>
+    ensures { IfOk result (λ made. value_of made ≡ scalar_value (chars text.now) style tag) }
+{
+    match style {
+        TScalarStyle::Plain => plain(alloc, text, tag),
+        _ => Ok(Yaml::String(Text::from_str(alloc, text)?)),
+    }
+}

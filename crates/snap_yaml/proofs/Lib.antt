@@ -1,0 +1,5 @@
+pub mod SameValues
+pub mod Ordered
+mod Numerals
+pub mod Through
+pub mod Views

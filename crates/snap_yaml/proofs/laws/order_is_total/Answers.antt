@@ -1,0 +1,5 @@
+use Rattle.snap_yaml.specs.TotalOrder.{value_total}
+use Rattle.snap_yaml.proofs.laws.order_is_total.Goals as goal
+
+pub returns : goal.returns
+returns c = value_total

@@ -1,0 +1,13 @@
+pub mod Value
+pub mod View
+pub mod Orders
+pub mod TotalOrder
+pub mod Compared
+pub mod OrderLaws
+pub mod Readers
+pub mod Lookup
+pub mod Keys
+pub mod Typing
+pub mod Through
+pub mod Kinds
+pub mod Iter
