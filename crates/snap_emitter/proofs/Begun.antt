@@ -1,0 +1,37 @@
+-- What want of memory leaves of a text: step by step.
+use Rattle.std.proofs.Common.{◌≡◌, ℕ, List, [], ◌++◌, refl, sym, ap, ◌∙◌, append_assoc}
+use Rattle.std.specs.Prelude.{Result, Ok, Err, OnErr, OnOk, IfOk}
+use Rattle.std.proofs.lemmas.List.{append-nil}
+use Rattle.snap_emitter.specs.Columns.{IsBegun}
+
+-- nothing was added
+pub unmoved : (old new full : List ℕ) → new ≡ old → IsBegun old new full
+unmoved old new full same = record { added = []; rest = full; whole = refl; is = same ∙ sym (append-nil old) }
+
+-- the first of two parts was begun
+pub begun_first : (old new a b : List ℕ) → IsBegun old new a → IsBegun old new (a ++ b)
+begun_first old new a b h =
+    record { added = h.added; rest = h.rest ++ b; whole = ap (λ x. x ++ b) h.whole ∙ append_assoc h.added h.rest b; is = h.is }
+
+-- the first of two parts was added, the second begun
+pub begun_then : (old mid new a b : List ℕ) → mid ≡ old ++ a → IsBegun mid new b → IsBegun old new (a ++ b)
+begun_then old mid new a b done h =
+    record {
+      added = a ++ h.added;
+      rest = h.rest;
+      whole = ap (λ x. a ++ x) h.whole ∙ sym (append_assoc a h.added h.rest);
+      is = h.is ∙ ap (λ x. x ++ h.added) done ∙ append_assoc old a h.added;
+    }
+
+pub begun_as : (old new a b : List ℕ) → a ≡ b → IsBegun old new a → IsBegun old new b
+begun_as old new a b same h = record { added = h.added; rest = h.rest; whole = sym same ∙ h.whole; is = h.is }
+
+-- under an error, and with none
+pub on_err : {E : Type 0} (r : Result (Unit {0}) E) (P : Type 0) → P → OnErr r P
+on_err (Ok _) P h = tt
+on_err (Err _) P h = h
+
+-- what holds where a value was made holds at a success
+pub on_ok : {E : Type 0} (r : Result (Unit {0}) E) (P : Type 0) → P → OnOk r P
+on_ok (Ok _) P h = h
+on_ok (Err _) P h = tt

@@ -1,0 +1,9 @@
+pub mod Columned
+pub mod Contents
+pub mod ContentsWithin
+pub mod Begun
+pub mod Spaces
+pub mod Quoting
+pub mod Trees
+pub mod Walked
+pub mod Beginnings

@@ -1,0 +1,9 @@
+use Rattle.std.proofs.Common.{◌≡◌, ◌++◌, ◌≤◌, ◌-◌}
+use Rattle.snap_emitter.specs.Columns.{blanks}
+use Rattle.snap_emitter.proofs.blanks.push_blanks.Given as goal
+
+abbrev pub invariant-wide : goal.invariant-wide
+invariant-wide l = record { added : l.out ≡ l.fn.out ++ blanks l.done; within : l.done ≤ l.count }
+
+abbrev pub decreases-wide : goal.decreases-wide
+decreases-wide l = l.count - l.done

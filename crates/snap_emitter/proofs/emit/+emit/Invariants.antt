@@ -1,0 +1,10 @@
+use Rattle.std.proofs.Common.{◌≡◌, ◌++◌, take}
+use Rattle.std.specs.List.{flat_map}
+use Rattle.snap_emitter.specs.Emitted.{item_line, pair_line}
+use Rattle.snap_emitter.proofs.emit.+emit.Given as goal
+
+abbrev pub invariant-emit_items-loop-item : goal.invariant-emit_items-loop-item
+invariant-emit_items-loop-item l = l.out ≡ l.initial.out ++ flat_map (item_line l.column) (take l.item-index l.rest)
+
+abbrev pub invariant-emit_pairs-loop-key : goal.invariant-emit_pairs-loop-key
+invariant-emit_pairs-loop-key l = l.out ≡ l.initial.out ++ flat_map (pair_line l.column) (take l.key-index l.rest)

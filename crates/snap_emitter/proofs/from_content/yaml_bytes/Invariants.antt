@@ -1,0 +1,11 @@
+use Rattle.std.proofs.Common.{◌≡◌, take, map}
+use Rattle.std.specs.List.{All}
+use Rattle.snap_emitter.specs.FromContent.{byte_shape, IsByteWithin}
+use Rattle.snap_emitter.specs.Shape.{shape_of}
+use Rattle.snap_emitter.proofs.from_content.yaml_bytes.Given as goal
+
+abbrev pub invariant-loop-byte : goal.invariant-loop-byte
+invariant-loop-byte l = record {
+  made : map shape_of l.made.items ≡ map byte_shape (take l.byte-index l.bytes);
+  within : All IsByteWithin (take l.byte-index l.bytes);
+}

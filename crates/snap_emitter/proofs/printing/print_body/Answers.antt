@@ -1,0 +1,30 @@
+use Rattle.std.proofs.Common.{◌++◌, refl, ap, ◌∙◌}
+use Rattle.std.proofs.lemmas.Result.{on_ok_weaker, on_err_weaker}
+use Rattle.snap_content.specs.Lines.{text_of}
+use Rattle.snap_content.specs.Plain.{plain}
+use Rattle.snap_content.specs.View.{tree}
+use Rattle.snap_emitter.specs.Document.{body}
+use Rattle.snap_emitter.specs.Shape.{shape_of}
+use Rattle.snap_emitter.proofs.Begun.{unmoved, begun_as, on_err, on_ok}
+use Rattle.snap_emitter.proofs.Columned.{plain_body}
+use Rattle.snap_emitter.proofs.printing.print_body.Goals as goal
+
+pub returns-in_err-made-clause-err : goal.returns-in_err-made-clause-err
+returns-in_err-made-clause-err c =
+    on_err c.from_residual.result _ (unmoved c.args.out.now c.args.out.now (text_of (plain (tree c.args.content.now))) refl)
+
+pub returns-clause-ok : goal.returns-clause-ok
+returns-clause-ok c =
+    on_ok_weaker c.push_body.result
+    (λ h. h ∙ ap (λ x. c.args.out.now ++ x) (ap body c.in_ok-made.ensures.value ∙ plain_body (plain (tree c.args.content.now))))
+    c.push_body.ensures.ok
+
+pub returns-clause-within : goal.returns-clause-within
+returns-clause-within c = on_ok c.push_body.result _ c.in_ok-made.ensures.within
+
+pub returns-clause-err : goal.returns-clause-err
+returns-clause-err c =
+    on_err_weaker c.push_body.result
+    (λ h. begun_as c.args.out.now c.push_body.new.out (body (shape_of c.in_ok-made.made)) (text_of (plain (tree c.args.content.now)))
+    (ap body c.in_ok-made.ensures.value ∙ plain_body (plain (tree c.args.content.now))) h)
+    c.push_body.ensures.err

@@ -1,0 +1,16 @@
+use Rattle.std.proofs.Common.{◌≡◌, ◌+◌, length}
+use denote.Text.{Utf8}
+use denote.Shadow.{shadow}
+use Rattle.std.specs.List.{flat_map}
+use Rattle.std.specs.Str.{chars}
+use Rattle.snap_content.specs.Spell.{escaped}
+use Rattle.snap_emitter.proofs.written.quoted_len.Given as goal
+
+abbrev pub invariant-loop-c : goal.invariant-loop-c
+invariant-loop-c l = record {
+  utf8 : shadow (Utf8 l.rest);
+  counted : l.count + length (flat_map escaped (chars l.rest)) ≡ 2 + length (flat_map escaped (chars l.fn.value));
+}
+
+abbrev pub decreases-loop-c : goal.decreases-loop-c
+decreases-loop-c l = length (chars l.rest)

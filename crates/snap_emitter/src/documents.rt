@@ -1,0 +1,46 @@
+//! Whole documents, added to a text that is lent.
+ghost use Rattle.std.specs.Prelude.{◌≡◌, ◌++◌, OnOk, OnErr, IfOk};
+ghost use Rattle.snap_emitter.specs.Columns.{IsBegun};
+ghost use Rattle.snap_emitter.specs.Document.{body, document, dumped};
+ghost use Rattle.snap_emitter.specs.Shape.{shape_of};
+
+use crate::emit::emit;
+use snap_content::{OutOfMemory, Text};
+use snap_yaml::Yaml;
+use std::alloc::Global;
+
+/// Adds `---` and the lines of the value, without the end of the last. After want of memory a beginning of that was added.
+pub fn push_dump(out: &mut Text, alloc: Global, doc: &Yaml) -> Result<(), OutOfMemory>
+    ensures ok { OnOk result (out.new ≡ out.old ++ dumped (shape_of doc.now)) }
+    ensures err { OnErr result (IsBegun out.old out.new (dumped (shape_of doc.now))) }
+{
+    out.push_ascii(alloc, "---\n")?;
+    emit(out, alloc, doc, 0)
+}
+
+/// Adds the lines of the value, each with its end. After want of memory a beginning of that was added.
+pub fn push_body(out: &mut Text, alloc: Global, doc: &Yaml) -> Result<(), OutOfMemory>
+    ensures ok { OnOk result (out.new ≡ out.old ++ body (shape_of doc.now)) }
+    ensures err { OnErr result (IsBegun out.old out.new (body (shape_of doc.now))) }
+{
+    emit(out, alloc, doc, 0)?;
+    out.push(alloc, '\n')
+}
+
+/// Adds `---` and the lines of the value, each with its end. After want of memory a beginning of that was added.
+pub fn push_document(out: &mut Text, alloc: Global, doc: &Yaml) -> Result<(), OutOfMemory>
+    ensures ok { OnOk result (out.new ≡ out.old ++ document (shape_of doc.now)) }
+    ensures err { OnErr result (IsBegun out.old out.new (document (shape_of doc.now))) }
+{
+    out.push_ascii(alloc, "---\n")?;
+    push_body(out, alloc, doc)
+}
+
+/// The text of a document of this value.
+pub fn document_text(alloc: Global, doc: &Yaml) -> Result<Text, OutOfMemory>
+    ensures { IfOk result (λ text. text ≡ document (shape_of doc.now)) }
+{
+    let mut text = Text::empty();
+    push_document(&mut text, alloc, doc)?;
+    Ok(text)
+}

@@ -1,0 +1,42 @@
+//! Trees, printed through their values.
+ghost use Rattle.std.specs.Prelude.{◌≡◌, ◌++◌, OnOk, OnErr, IfOk};
+ghost use Rattle.snap_content.specs.Lines.{document_of, text_of};
+ghost use Rattle.snap_content.specs.Plain.{plain};
+ghost use Rattle.snap_content.specs.View.{tree};
+ghost use Rattle.snap_emitter.specs.Columns.{IsBegun};
+ghost use Rattle.snap_emitter.specs.FromContent.{IsContentWithin};
+
+use crate::documents::{push_body, push_document};
+use crate::from_content::yaml_of;
+use snap_content::{Content, OutOfMemory, Text};
+use std::alloc::Global;
+
+/// Adds `---` and the text of the plain form. After want of memory a beginning of that was added.
+pub fn print_document(out: &mut Text, alloc: Global, content: &Content) -> Result<(), OutOfMemory>
+    ensures ok { OnOk result (out.new ≡ out.old ++ document_of (plain (tree content.now))) }
+    ensures within { OnOk result (IsContentWithin content.now) }
+    ensures err { OnErr result (IsBegun out.old out.new (document_of (plain (tree content.now)))) }
+{
+    let made = yaml_of(alloc, content)?;
+    push_document(out, alloc, &made)
+}
+
+/// Adds the text of the plain form. After want of memory a beginning of that was added.
+pub fn print_body(out: &mut Text, alloc: Global, content: &Content) -> Result<(), OutOfMemory>
+    ensures ok { OnOk result (out.new ≡ out.old ++ text_of (plain (tree content.now))) }
+    ensures within { OnOk result (IsContentWithin content.now) }
+    ensures err { OnErr result (IsBegun out.old out.new (text_of (plain (tree content.now)))) }
+{
+    let made = yaml_of(alloc, content)?;
+    push_body(out, alloc, &made)
+}
+
+/// `---` and the text of the plain form.
+pub fn printed_document(alloc: Global, content: &Content) -> Result<Text, OutOfMemory>
+    ensures value { IfOk result (λ text. text ≡ document_of (plain (tree content.now))) }
+    ensures within { IfOk result (λ _. IsContentWithin content.now) }
+{
+    let mut text = Text::empty();
+    print_document(&mut text, alloc, content)?;
+    Ok(text)
+}

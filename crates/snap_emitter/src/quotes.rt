@@ -1,0 +1,97 @@
+//! Which texts are written in double quotes. Most texts begin neither as a word that is reserved nor as a number, so two looks at
+//! their characters tell.
+ghost use Rattle.std.specs.Prelude.{◌≡◌, ◌||◌};
+ghost use Rattle.std.specs.List.{list_any};
+ghost use Rattle.std.specs.Str.{chars};
+ghost use Rattle.snap_content.specs.Quotes.{is_special, is_leading, ends_badly, needs_quotes};
+ghost use Rattle.snap_emitter.specs.Words.{begins_word};
+
+use snap_content::characters::{split_first, split_last};
+use snap_print::need_quotes;
+
+/// Whether a text that begins so may be a reserved word or a number.
+fn begins_as_word(first: char) -> bool
+    ensures { result ≡ begins_word first }
+{
+    matches!(
+        first,
+        '0'..='9'
+            | 'y'
+            | 'Y'
+            | 'n'
+            | 'N'
+            | 't'
+            | 'T'
+            | 'f'
+            | 'F'
+            | 'o'
+            | 'O'
+            | '~'
+            | '+'
+            | '-'
+            | '.'
+            | 'i'
+            | 'I'
+    )
+}
+
+/// Whether the character makes a text quoted where it begins it.
+fn is_leading_char(c: char) -> bool
+    ensures { result ≡ is_leading c }
+{
+    matches!(
+        c,
+        '&' | '*' | '?' | '|' | '-' | '<' | '>' | '=' | '!' | '%' | '@' | '.' | ' '
+    )
+}
+
+/// Whether the character makes a text quoted wherever it stands.
+fn is_special_char(c: char) -> bool
+    ensures { result ≡ is_special c }
+{
+    matches!(
+        c,
+        ':' | '{' | '}' | '[' | ']' | ',' | '#' | '"' | '\'' | '\\' | '`' | '\t' | '\n' | '\r' |
+        '\0'..='\u{6}' | '\u{e}'..='\u{1a}' | '\u{1c}'..='\u{1f}'
+    )
+}
+
+/// Whether a character of the text makes it quoted.
+fn holds_special(text: &str) -> bool
+    ensures { result ≡ list_any is_special (chars text.now) }
+{
+    text.chars().any(is_special_char)
+}
+
+/// Whether white space ends the text.
+fn has_bad_end(text: &str) -> bool
+    ensures { result ≡ ends_badly (chars text.now) }
+{
+    match split_last(text) {
+        None => false,
+        Some((_, last)) => last.is_whitespace(),
+    }
+}
+
+/// Whether a text that begins as no word is written in double quotes for another than its first character.
+fn is_quoted_within(text: &str) -> bool
+    ensures { result ≡ (list_any is_special (chars text.now) || ends_badly (chars text.now)) }
+{
+    holds_special(text) || has_bad_end(text)
+}
+
+/// Whether the text is written in double quotes.
+pub fn is_quoted(text: &str) -> bool
+    ensures { result ≡ needs_quotes (chars text.now) }
+{
+    let Some((first, _)) = split_first(text) else {
+        return true;
+    };
+    if begins_as_word(first) {
+        return need_quotes(text);
+    }
+    if is_leading_char(first) {
+        return true;
+    }
+    is_quoted_within(text)
+}
