@@ -30,34 +30,96 @@ fn made(
     fields: &mut Split<'_, char>,
 ) -> Result<Content, LineError> {
     match word {
+        "some" => some(alloc, values),
+        "newtype_struct" => newtype_struct(alloc, values, fields),
+        "seq" => seq(alloc, values, fields),
+        "tuple" => tuple(alloc, values, fields),
+        "tuple_struct" => tuple_struct(alloc, values, fields),
+        "map" => map(alloc, values, fields),
+        "struct" => structure(alloc, values, fields),
+        "unit_variant" => unit_variant(alloc, fields),
+        "newtype_variant" => newtype_variant(alloc, values, fields),
+        "tuple_variant" => tuple_variant(alloc, values, fields),
+        "struct_variant" => struct_variant(alloc, values, fields),
+        _ => scalar(alloc, word, fields),
+    }
+}
+
+/// A value that holds no other.
+fn scalar(alloc: Global, word: &str, fields: &mut Split<'_, char>) -> Result<Content, LineError> {
+    match word {
         "bool" => Ok(Content::Bool(fields.next() == Some("true"))),
-        "char" => character(fields.next()),
-        "string" => Ok(Content::String(text_of(alloc, fields.next())?)),
+        "char" => character(alloc, fields.next()),
+        "string" => string(alloc, fields.next()),
         "bytes" => bytes(alloc, fields),
         "none" => Ok(Content::None),
         "unit" => Ok(Content::Unit),
-        "unit_struct" => Ok(Content::UnitStruct(text_of(alloc, fields.next())?)),
-        "some" => Ok(Content::Some(boxed(alloc, values)?)),
-        "newtype_struct" => {
-            let name = text_of(alloc, fields.next())?;
-            Ok(Content::NewtypeStruct(name, boxed(alloc, values)?))
-        }
-        "seq" => Ok(Content::Seq(items(alloc, values, fields)?)),
-        "tuple" => Ok(Content::Tuple(items(alloc, values, fields)?)),
-        "map" => Ok(Content::Map(pairs(alloc, values, fields)?)),
-        "tuple_struct" => {
-            let name = text_of(alloc, fields.next())?;
-            Ok(Content::TupleStruct(name, items(alloc, values, fields)?))
-        }
-        "struct" => {
-            let name = text_of(alloc, fields.next())?;
-            Ok(Content::Struct(name, named_values(alloc, values, fields)?))
-        }
-        "unit_variant" | "newtype_variant" | "tuple_variant" | "struct_variant" => {
-            variant(alloc, values, word, fields)
-        }
+        "unit_struct" => unit_struct(alloc, fields.next()),
         _ => number(word, fields.next()),
     }
+}
+
+fn string(alloc: Global, field: Option<&str>) -> Result<Content, LineError> {
+    Ok(Content::String(text_of(alloc, field)?))
+}
+
+fn unit_struct(alloc: Global, field: Option<&str>) -> Result<Content, LineError> {
+    Ok(Content::UnitStruct(text_of(alloc, field)?))
+}
+
+fn some(alloc: Global, values: &mut Vec<Content>) -> Result<Content, LineError> {
+    Ok(Content::Some(boxed(alloc, values)?))
+}
+
+fn newtype_struct(
+    alloc: Global,
+    values: &mut Vec<Content>,
+    fields: &mut Split<'_, char>,
+) -> Result<Content, LineError> {
+    let name = text_of(alloc, fields.next())?;
+    Ok(Content::NewtypeStruct(name, boxed(alloc, values)?))
+}
+
+fn seq(
+    alloc: Global,
+    values: &mut Vec<Content>,
+    fields: &mut Split<'_, char>,
+) -> Result<Content, LineError> {
+    Ok(Content::Seq(items(alloc, values, fields)?))
+}
+
+fn tuple(
+    alloc: Global,
+    values: &mut Vec<Content>,
+    fields: &mut Split<'_, char>,
+) -> Result<Content, LineError> {
+    Ok(Content::Tuple(items(alloc, values, fields)?))
+}
+
+fn tuple_struct(
+    alloc: Global,
+    values: &mut Vec<Content>,
+    fields: &mut Split<'_, char>,
+) -> Result<Content, LineError> {
+    let name = text_of(alloc, fields.next())?;
+    Ok(Content::TupleStruct(name, items(alloc, values, fields)?))
+}
+
+fn map(
+    alloc: Global,
+    values: &mut Vec<Content>,
+    fields: &mut Split<'_, char>,
+) -> Result<Content, LineError> {
+    Ok(Content::Map(pairs(alloc, values, fields)?))
+}
+
+fn structure(
+    alloc: Global,
+    values: &mut Vec<Content>,
+    fields: &mut Split<'_, char>,
+) -> Result<Content, LineError> {
+    let name = text_of(alloc, fields.next())?;
+    Ok(Content::Struct(name, named_values(alloc, values, fields)?))
 }
 
 fn number(word: &str, digits: Option<&str>) -> Result<Content, LineError> {
@@ -71,13 +133,11 @@ fn number(word: &str, digits: Option<&str>) -> Result<Content, LineError> {
 }
 
 /// A value of one character.
-fn character(field: Option<&str>) -> Result<Content, LineError> {
-    match field {
+fn character(alloc: Global, field: Option<&str>) -> Result<Content, LineError> {
+    let text = text_of(alloc, field)?;
+    match text.as_str().chars().next() {
+        Some(c) => Ok(Content::Char(c)),
         None => Err(LineError::Fault),
-        Some(text) => match text.chars().next() {
-            Some(c) => Ok(Content::Char(c)),
-            None => Err(LineError::Fault),
-        },
     }
 }
 
@@ -95,31 +155,45 @@ fn bytes(alloc: Global, fields: &mut Split<'_, char>) -> Result<Content, LineErr
     Ok(Content::Bytes(Blob::from_slice(alloc, held.as_slice())?))
 }
 
-/// A variant of each kind.
-fn variant(
+fn unit_variant(alloc: Global, fields: &mut Split<'_, char>) -> Result<Content, LineError> {
+    let name = text_of(alloc, fields.next())?;
+    let index = count_of(fields.next())?;
+    Ok(Content::UnitVariant(name, index, text_of(alloc, fields.next())?))
+}
+
+fn newtype_variant(
     alloc: Global,
     values: &mut Vec<Content>,
-    word: &str,
     fields: &mut Split<'_, char>,
 ) -> Result<Content, LineError> {
     let name = text_of(alloc, fields.next())?;
     let index = count_of(fields.next())?;
     let variant = text_of(alloc, fields.next())?;
-    match word {
-        "unit_variant" => Ok(Content::UnitVariant(name, index, variant)),
-        "newtype_variant" => {
-            let inner = boxed(alloc, values)?;
-            Ok(Content::NewtypeVariant(name, index, variant, inner))
-        }
-        "tuple_variant" => {
-            let items = items(alloc, values, fields)?;
-            Ok(Content::TupleVariant(name, index, variant, items))
-        }
-        _ => {
-            let named = named_values(alloc, values, fields)?;
-            Ok(Content::StructVariant(name, index, variant, named))
-        }
-    }
+    Ok(Content::NewtypeVariant(name, index, variant, boxed(alloc, values)?))
+}
+
+fn tuple_variant(
+    alloc: Global,
+    values: &mut Vec<Content>,
+    fields: &mut Split<'_, char>,
+) -> Result<Content, LineError> {
+    let name = text_of(alloc, fields.next())?;
+    let index = count_of(fields.next())?;
+    let variant = text_of(alloc, fields.next())?;
+    let items = items(alloc, values, fields)?;
+    Ok(Content::TupleVariant(name, index, variant, items))
+}
+
+fn struct_variant(
+    alloc: Global,
+    values: &mut Vec<Content>,
+    fields: &mut Split<'_, char>,
+) -> Result<Content, LineError> {
+    let name = text_of(alloc, fields.next())?;
+    let index = count_of(fields.next())?;
+    let variant = text_of(alloc, fields.next())?;
+    let named = named_values(alloc, values, fields)?;
+    Ok(Content::StructVariant(name, index, variant, named))
 }
 
 /// The last value, in a box.
