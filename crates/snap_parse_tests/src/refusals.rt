@@ -166,12 +166,20 @@ const ROWS: [Row; 21] = [
     },
 ];
 
+/// The reason and the place that an error tells.
+fn told(error: &ScanError) -> Option<(ScanInfo, Marker)> {
+    match error {
+        ScanError::Syntax(mark, info) => Some((*info, *mark)),
+        ScanError::OutOfMemory => None,
+    }
+}
+
 /// The reason and the place of a refusal.
 fn refusal(alloc: Global, text: &str) -> Option<(ScanInfo, Marker)> {
-    match YamlLoader::load_from_str(alloc, text) {
-        Err(ScanError::Syntax(mark, info)) => Some((info, mark)),
-        _ => None,
-    }
+    let Err(error) = YamlLoader::load_from_str(alloc, text) else {
+        return None;
+    };
+    told(&error)
 }
 
 #[test]

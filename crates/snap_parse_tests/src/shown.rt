@@ -6,35 +6,41 @@ use std::alloc::Global;
 /// Documents with ` | ` between each two: texts in single quotes, a kept number behind `r`, `~` for null and `!` for what is bad.
 pub fn documents_shown(alloc: Global, documents: &Array) -> Result<Text, OutOfMemory> {
     let mut line = Text::empty();
-    add_items(alloc, &mut line, documents, " | ")?;
+    let mut is_first = true;
+    for document in documents.as_slice() {
+        if !is_first {
+            line.push_str(alloc, " | ")?;
+        }
+        add_value(alloc, &mut line, document)?;
+        is_first = false;
+    }
     Ok(line)
 }
 
 #[cycle(shown)]
-fn add_items(
-    alloc: Global,
-    line: &mut Text,
-    items: &Array,
-    between: &str,
-) -> Result<(), OutOfMemory> {
-    let mut before = "";
+fn add_items(alloc: Global, line: &mut Text, items: &Array) -> Result<(), OutOfMemory> {
+    let mut is_first = true;
     for item in items.as_slice() {
-        line.push_str(alloc, before)?;
+        if !is_first {
+            line.push_str(alloc, ", ")?;
+        }
         add_value(alloc, line, item)?;
-        before = between;
+        is_first = false;
     }
     Ok(())
 }
 
 #[cycle(shown)]
 fn add_pairs(alloc: Global, line: &mut Text, pairs: &Hash) -> Result<(), OutOfMemory> {
-    let mut before = "";
+    let mut is_first = true;
     for (key, found) in pairs.as_slice() {
-        line.push_str(alloc, before)?;
+        if !is_first {
+            line.push_str(alloc, ", ")?;
+        }
         add_value(alloc, line, key)?;
         line.push_str(alloc, ": ")?;
         add_value(alloc, line, found)?;
-        before = ", ";
+        is_first = false;
     }
     Ok(())
 }
@@ -49,7 +55,7 @@ fn add_value(alloc: Global, line: &mut Text, held: &Yaml) -> Result<(), OutOfMem
         Yaml::Boolean(false) => line.push_str(alloc, "false"),
         Yaml::Array(items) => {
             line.push_str(alloc, "[")?;
-            add_items(alloc, line, items, ", ")?;
+            add_items(alloc, line, items)?;
             line.push_str(alloc, "]")
         }
         Yaml::Hash(pairs) => {
