@@ -282,15 +282,19 @@ fn whole_numbers_of_64_bits_are_integers(rt: HostRuntime) -> Result<(), Fail> {
     Ok(())
 }
 
+/// The text of a number that is kept as its text.
+fn kept_text(value: &Yaml) -> Option<&str> {
+    match value {
+        Yaml::Real(text) => Some(text.as_str()),
+        _ => None,
+    }
+}
+
 #[test]
 fn other_numbers_are_kept_as_their_texts(rt: HostRuntime) -> Result<(), Fail> {
     for text in OTHER_NUMBERS {
         let typed = Yaml::from_str(rt.alloc(), text)?;
-        let is_kept = match &typed {
-            Yaml::Real(kept) => kept.as_str() == text,
-            _ => false,
-        };
-        assert!(rt; is_kept, "{text:?}");
+        assert_eq!(rt; kept_text(&typed), Some(text), "{text:?}");
     }
     Ok(())
 }
