@@ -1,0 +1,106 @@
+-- The stream's end in meanings and events.
+use Rattle.std.proofs.Common.{◌≡◌, List, [], ◌∷◌, Option, None, Some, Bool, true, false, not, refl, ap, sym, ◌∙◌}
+use Rattle.snap_event.specs.declared.event.Event.{Event}
+use Rattle.snap_event.specs.declared.event.Event.TheVariants as e
+use Rattle.snap_event.specs.Meaning.{Open, due, given, sequence, key, value, Meaning, ahead, open_in, ended, after, end_document, end_stream, is_inside, is_stream_end}
+use Rattle.snap_parser.specs.declared.load.Passed.{Passed}
+use Rattle.snap_parser.specs.declared.load.Passed.TheVariants as w
+use Rattle.snap_parser.specs.declared.state.State.{State}
+use Rattle.snap_parser.specs.declared.state.Stage.{Stage}
+use Rattle.snap_parser.specs.declared.state.Stage.TheVariants as g
+use Rattle.snap_parser.specs.Place.{meaning_in}
+use Rattle.snap_parser.specs.Runs.{passed_of, stops, goes}
+
+abbrev inside_of : Option Meaning → Bool
+inside_of None = false
+inside_of (Some m) = is_inside m
+
+-- behind the stream's end comes the stream's end
+pub event-behind : (event : Event) (m : Meaning) → after event ended ≡ Some m → passed_of event ≡ w.StreamEnd
+event-behind e.StreamStart m h = absurd (cc)
+event-behind e.StreamEnd m h = refl
+event-behind e.DocumentStart m h = absurd (cc)
+event-behind e.DocumentEnd m h = absurd (cc)
+event-behind (e.Alias id) m h = absurd (cc)
+event-behind (e.Scalar text style id tag) m h = absurd (cc)
+event-behind (e.SequenceStart id) m h = absurd (cc)
+event-behind e.SequenceEnd m h = absurd (cc)
+event-behind (e.MappingStart id) m h = absurd (cc)
+event-behind e.MappingEnd m h = absurd (cc)
+
+-- where a stream's end may come it ends the stream
+pub end-ends : (m n : Meaning) → after e.StreamEnd m ≡ Some n → n ≡ ended
+end-ends ahead n h = absurd (cc)
+end-ends (open_in []) n h = cc
+end-ends (open_in (o ∷ os)) n h = absurd (cc)
+end-ends ended n h = cc
+
+-- only the last stage means that the stream is ended
+pub stage-ended : (x : Stage) (ys : List State) → meaning_in x ys ≡ ended → x ≡ g.Ended
+stage-ended g.Ahead ys h = absurd (cc)
+stage-ended (g.Open y) ys h = absurd (cc)
+stage-ended g.Ended ys h = refl
+
+pub ended-stage : (x : Stage) (ys : List State) → x ≡ g.Ended → meaning_in x ys ≡ ended
+ended-stage x ys h = let f : Stage → Meaning = λ v. meaning_in v ys in ap f h
+
+-- an event behind which loading of all stops is the stream's end
+pub last-is-end : (event : Event) → goes true event ≡ false → event ≡ e.StreamEnd
+last-is-end e.StreamStart h = absurd (cc)
+last-is-end e.StreamEnd h = refl
+last-is-end e.DocumentStart h = absurd (cc)
+last-is-end e.DocumentEnd h = absurd (cc)
+last-is-end (e.Alias id) h = absurd (cc)
+last-is-end (e.Scalar text style id tag) h = absurd (cc)
+last-is-end (e.SequenceStart id) h = absurd (cc)
+last-is-end e.SequenceEnd h = absurd (cc)
+last-is-end (e.MappingStart id) h = absurd (cc)
+last-is-end e.MappingEnd h = absurd (cc)
+
+-- an event behind which loading goes on isn't the stream's end
+pub going-no-end : (event : Event) → goes true event ≡ true → not (is_stream_end event) ≡ true
+going-no-end e.StreamStart h = refl
+going-no-end e.StreamEnd h = absurd (cc)
+going-no-end e.DocumentStart h = refl
+going-no-end e.DocumentEnd h = refl
+going-no-end (e.Alias id) h = refl
+going-no-end (e.Scalar text style id tag) h = refl
+going-no-end (e.SequenceStart id) h = refl
+going-no-end e.SequenceEnd h = refl
+going-no-end (e.MappingStart id) h = refl
+going-no-end e.MappingEnd h = refl
+
+pub going-on : (multi : Bool) (kind : Passed) → stops multi kind ≡ false → kind ≡ w.StreamEnd → ⊥
+going-on multi w.StreamEnd h at = cc
+going-on multi w.DocumentEnd h at = cc
+going-on multi w.Other h at = cc
+
+document-closed : (m n : Meaning) → end_document m ≡ Some n → is_inside n ≡ false
+document-closed ahead n h = absurd (cc)
+document-closed (open_in []) n h = absurd (cc)
+document-closed (open_in (due ∷ os)) n h = absurd (cc)
+document-closed (open_in (given ∷ [])) n h = let f : Option Meaning → Bool = λ v. inside_of v in ap f (sym h)
+document-closed (open_in (given ∷ (o ∷ os))) n h = absurd (cc)
+document-closed (open_in (sequence ∷ os)) n h = absurd (cc)
+document-closed (open_in (key ∷ os)) n h = absurd (cc)
+document-closed (open_in (value ∷ os)) n h = absurd (cc)
+document-closed ended n h = absurd (cc)
+
+stream-closed : (m n : Meaning) → end_stream m ≡ Some n → is_inside n ≡ false
+stream-closed ahead n h = absurd (cc)
+stream-closed (open_in []) n h = let f : Option Meaning → Bool = λ v. inside_of v in ap f (sym h)
+stream-closed (open_in (o ∷ os)) n h = absurd (cc)
+stream-closed ended n h = let f : Option Meaning → Bool = λ v. inside_of v in ap f (sym h)
+
+-- where loading stops no document is open
+pub stop-closed : (multi : Bool) (event : Event) (m n : Meaning) → goes multi event ≡ false → after event m ≡ Some n → is_inside n ≡ false
+stop-closed multi e.StreamStart m n g h = absurd (cc)
+stop-closed multi e.StreamEnd m n g h = stream-closed m n h
+stop-closed multi e.DocumentStart m n g h = absurd (cc)
+stop-closed multi e.DocumentEnd m n g h = document-closed m n h
+stop-closed multi (e.Alias id) m n g h = absurd (cc)
+stop-closed multi (e.Scalar text style id tag) m n g h = absurd (cc)
+stop-closed multi (e.SequenceStart id) m n g h = absurd (cc)
+stop-closed multi e.SequenceEnd m n g h = absurd (cc)
+stop-closed multi (e.MappingStart id) m n g h = absurd (cc)
+stop-closed multi e.MappingEnd m n g h = absurd (cc)

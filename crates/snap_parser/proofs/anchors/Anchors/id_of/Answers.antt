@@ -1,0 +1,9 @@
+use Rattle.std.proofs.Common.{◌≡◌, ◌∙◌, ap, ℕ, Option}
+use Rattle.snap_parser.specs.Names.{Names, id_of}
+use Rattle.snap_parser.proofs.Naming.{known-is}
+use Rattle.snap_parser.proofs.anchors.Anchors.id_of.Goals as goal
+
+pub returns : goal.returns
+returns c =
+    let f : Names → Option ℕ = λ v. id_of c.args.name.now v in
+    known-is c.copied.result c.args.name.now c.args.self.now (c.copied.ensures ∙ c.get.ensures.value ∙ ap f c.self.view_is)

@@ -1,0 +1,12 @@
+use Rattle.std.proofs.Common.{◌≤◌, ℕ, List}
+use Rattle.snap_parser.specs.Feed.{tokens_left, Feeds}
+use Rattle.snap_parser.proofs.tokens.Tokens.skip_directives.Given as goal
+
+abbrev pub invariant-directives : goal.invariant-directives
+invariant-directives l = record {
+  left : tokens_left l.self ≤ tokens_left l.fn.self;
+  feeds : (source : List ℕ) → Feeds source l.fn.self → Feeds source l.self;
+}
+
+abbrev pub decreases-directives : goal.decreases-directives
+decreases-directives l = tokens_left l.self

@@ -1,0 +1,48 @@
+-- What a parser is seen as.
+use Rattle.std.specs.Prelude.{◌≡◌, ℕ, List, Option, None, Some, Result, Ok, Err}
+use Rattle.snap_token.specs.declared.info.ScanError.{ScanError}
+use Rattle.snap_scan.specs.Sound.{IsFounded}
+use Rattle.snap_event.specs.declared.event.Event.{Event}
+use Rattle.snap_event.specs.Meaning.{Meaning, after}
+use Rattle.snap_parser.specs.declared.tokens.Tokens.{Tokens}
+use Rattle.snap_parser.specs.Feed.{source_of, start_tokens}
+use Rattle.snap_parser.specs.Names.{Names, no_names, Naming}
+use Rattle.snap_parser.specs.Place.{Spot, start_spot, meaning_of}
+use Rattle.snap_parser.specs.Machine.{events_in, IsSound}
+
+-- the tokens that it takes, where it stands, the names that it knows, and the error that it keeps
+pub record Parsing : Type 0 where
+  pub tokens : Tokens
+  pub spot : Spot
+  pub names : Names
+  pub error : Option ScanError
+
+abbrev pub start_parsing : List ℕ → Parsing
+start_parsing cs = record { tokens = start_tokens cs; spot = start_spot; names = no_names; error = None }
+
+-- the characters before the first NUL
+abbrev pub source : Parsing → List ℕ
+source p = source_of p.tokens
+
+-- whether the stream is ahead, open or ended, and what is open in it
+abbrev pub meaning : Parsing → Meaning
+meaning p = meaning_of p.spot
+
+-- how many events can come at most before the stream's end
+abbrev pub events_left : Parsing → ℕ
+events_left p = events_in p.tokens p.spot
+
+-- what a parser promises of an event that it gives: it is one that may come, and the names are those behind it
+pub record IsNext (event : Event) (old new : Parsing) : Type 0 where
+  pub allowed : after event (meaning old) ≡ Some (meaning new)
+  pub names : Naming event old.names new.names
+
+-- the error that the call answers is kept
+abbrev pub KeepsError : {T : Type 0} → Result T ScanError → Parsing → Type 0
+KeepsError (Ok _) new = new.error ≡ None
+KeepsError (Err e) new = new.error ≡ Some e
+
+-- what is true of every parser: it is sound, or the source explains why it failed
+abbrev pub IsWholeWhile : Option ScanError → Tokens → Spot → Type 0
+IsWholeWhile None f p = IsSound (source_of f) f p
+IsWholeWhile (Some e) f p = IsFounded (source_of f) e

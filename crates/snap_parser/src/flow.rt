@@ -1,0 +1,188 @@
+//! Sequences and mappings in flow.
+use crate::machine::{Machine, ParseResult};
+use crate::state::{Ends, Stage, State};
+use snap_event::Event;
+use snap_token::{Marker, ScanError, ScanInfo, Token, TokenType};
+
+impl<'a> Machine<'a> {
+    ghost use Rattle.snap_parser.specs.Machine.{KeepsSoundIn, GivesIn, PaysIn, KeepsNames, StaysOnError};
+
+    /// What stands behind `[` or a comma.
+    pub(crate) fn flow_sequence_item(&mut self) -> ParseResult<'a>
+        ensures event { GivesIn State.FlowSequenceFirstEntry result self.old self.new }
+        ensures left { PaysIn State.FlowSequenceFirstEntry result self.old self.new }
+        ensures names { KeepsNames result self.old self.new }
+        ensures same { StaysOnError result self.old self.new }
+        ensures sound { KeepsSoundIn State.FlowSequenceFirstEntry result self.old self.new }
+    {
+        match self.tokens.take()? {
+            Token(mark, TokenType::FlowSequenceEnd) => {
+                self.leave();
+                Ok((Event::SequenceEnd, mark))
+            }
+            Token(mark, TokenType::Key) => {
+                self.stage = Stage::Open(State::FlowSequenceEntryMappingKey);
+                Ok((Event::MappingStart(0), mark))
+            }
+            token => {
+                self.tokens.put_back(token);
+                self.parse_node(false, false, State::FlowSequenceEntry)
+            }
+        }
+    }
+
+    pub(crate) fn flow_sequence_entry(&mut self) -> ParseResult<'a>
+        ensures event { GivesIn State.FlowSequenceEntry result self.old self.new }
+        ensures left { PaysIn State.FlowSequenceEntry result self.old self.new }
+        ensures names { KeepsNames result self.old self.new }
+        ensures same { StaysOnError result self.old self.new }
+        ensures sound { KeepsSoundIn State.FlowSequenceEntry result self.old self.new }
+    {
+        match self.tokens.take()? {
+            Token(mark, TokenType::FlowSequenceEnd) => {
+                self.leave();
+                Ok((Event::SequenceEnd, mark))
+            }
+            Token(_, TokenType::FlowEntry) => self.flow_sequence_item(),
+            Token(mark, _) => Err(ScanError::Syntax(mark, ScanInfo::P7)),
+        }
+    }
+
+    /// The key of a mapping of one pair. A token before which it is empty is passed over.
+    pub(crate) fn flow_sequence_entry_mapping_key(&mut self) -> ParseResult<'a>
+        ensures event { GivesIn State.FlowSequenceEntryMappingKey result self.old self.new }
+        ensures left { PaysIn State.FlowSequenceEntryMappingKey result self.old self.new }
+        ensures names { KeepsNames result self.old self.new }
+        ensures same { StaysOnError result self.old self.new }
+        ensures sound { KeepsSoundIn State.FlowSequenceEntryMappingKey result self.old self.new }
+    {
+        match self.tokens.take()? {
+            Token(mark, TokenType::Value) => {
+                self.give_empty(mark, State::FlowSequenceEntryMappingValue)
+            }
+            Token(mark, TokenType::FlowEntry) => {
+                self.give_empty(mark, State::FlowSequenceEntryMappingValue)
+            }
+            Token(mark, TokenType::FlowSequenceEnd) => {
+                self.give_empty(mark, State::FlowSequenceEntryMappingValue)
+            }
+            token => {
+                self.tokens.put_back(token);
+                self.parse_node(false, false, State::FlowSequenceEntryMappingValue)
+            }
+        }
+    }
+
+    pub(crate) fn flow_sequence_entry_mapping_value(&mut self) -> ParseResult<'a>
+        ensures event { GivesIn State.FlowSequenceEntryMappingValue result self.old self.new }
+        ensures left { PaysIn State.FlowSequenceEntryMappingValue result self.old self.new }
+        ensures names { KeepsNames result self.old self.new }
+        ensures same { StaysOnError result self.old self.new }
+        ensures sound { KeepsSoundIn State.FlowSequenceEntryMappingValue result self.old self.new }
+    {
+        match self.tokens.take()? {
+            Token(_, TokenType::Value) => {
+                self.parse_filled(
+                    Ends::FlowPairValue,
+                    false,
+                    false,
+                    State::FlowSequenceEntryMappingEnd,
+                )
+            }
+            token => {
+                let mark = token.0;
+                self.tokens.put_back(token);
+                self.give_empty(mark, State::FlowSequenceEntryMappingEnd)
+            }
+        }
+    }
+
+    pub(crate) fn flow_sequence_entry_mapping_end(&mut self) -> ParseResult<'a>
+        ensures event { GivesIn State.FlowSequenceEntryMappingEnd result self.old self.new }
+        ensures left { PaysIn State.FlowSequenceEntryMappingEnd result self.old self.new }
+        ensures names { KeepsNames result self.old self.new }
+        ensures same { StaysOnError result self.old self.new }
+        ensures sound { KeepsSoundIn State.FlowSequenceEntryMappingEnd result self.old self.new }
+    {
+        self.stage = Stage::Open(State::FlowSequenceEntry);
+        Ok((Event::MappingEnd, self.tokens.mark()))
+    }
+
+    /// What stands behind `{` or a comma. Behind a comma the mapping's end has the comma's place.
+    pub(crate) fn flow_mapping_item(&mut self, comma: Option<Marker>) -> ParseResult<'a>
+        ensures event { GivesIn State.FlowMappingFirstKey result self.old self.new }
+        ensures left { PaysIn State.FlowMappingFirstKey result self.old self.new }
+        ensures names { KeepsNames result self.old self.new }
+        ensures same { StaysOnError result self.old self.new }
+        ensures sound { KeepsSoundIn State.FlowMappingFirstKey result self.old self.new }
+    {
+        match self.tokens.take()? {
+            Token(mark, TokenType::FlowMappingEnd) => {
+                self.leave();
+                Ok((Event::MappingEnd, comma.unwrap_or(mark)))
+            }
+            Token(_, TokenType::Key) => {
+                self.parse_filled(Ends::FlowKey, false, false, State::FlowMappingValue)
+            }
+            Token(mark, TokenType::Value) => {
+                self.tokens.put_back(Token(mark, TokenType::Value));
+                self.give_empty(mark, State::FlowMappingValue)
+            }
+            token => {
+                self.tokens.put_back(token);
+                self.parse_node(false, false, State::FlowMappingEmptyValue)
+            }
+        }
+    }
+
+    pub(crate) fn flow_mapping_key(&mut self) -> ParseResult<'a>
+        ensures event { GivesIn State.FlowMappingKey result self.old self.new }
+        ensures left { PaysIn State.FlowMappingKey result self.old self.new }
+        ensures names { KeepsNames result self.old self.new }
+        ensures same { StaysOnError result self.old self.new }
+        ensures sound { KeepsSoundIn State.FlowMappingKey result self.old self.new }
+    {
+        match self.tokens.take()? {
+            Token(mark, TokenType::FlowMappingEnd) => {
+                self.leave();
+                Ok((Event::MappingEnd, mark))
+            }
+            Token(mark, TokenType::FlowEntry) => self.flow_mapping_item(Some(mark)),
+            Token(mark, _) => Err(ScanError::Syntax(mark, ScanInfo::P6)),
+        }
+    }
+
+    /// A value. Behind its `:` an empty one has the place of the `:`.
+    pub(crate) fn flow_mapping_value(&mut self) -> ParseResult<'a>
+        ensures event { GivesIn State.FlowMappingValue result self.old self.new }
+        ensures left { PaysIn State.FlowMappingValue result self.old self.new }
+        ensures names { KeepsNames result self.old self.new }
+        ensures same { StaysOnError result self.old self.new }
+        ensures sound { KeepsSoundIn State.FlowMappingValue result self.old self.new }
+    {
+        match self.tokens.take()? {
+            Token(mark, TokenType::Value) => match self.tokens.empty_node_at(Ends::FlowValue)? {
+                Some(_) => self.give_empty(mark, State::FlowMappingKey),
+                None => self.parse_node(false, false, State::FlowMappingKey),
+            },
+            token => {
+                let mark = token.0;
+                self.tokens.put_back(token);
+                self.give_empty(mark, State::FlowMappingKey)
+            }
+        }
+    }
+
+    pub(crate) fn flow_mapping_empty_value(&mut self) -> ParseResult<'a>
+        ensures event { GivesIn State.FlowMappingEmptyValue result self.old self.new }
+        ensures left { PaysIn State.FlowMappingEmptyValue result self.old self.new }
+        ensures names { KeepsNames result self.old self.new }
+        ensures same { StaysOnError result self.old self.new }
+        ensures sound { KeepsSoundIn State.FlowMappingEmptyValue result self.old self.new }
+    {
+        let token = self.tokens.take()?;
+        let mark = token.0;
+        self.tokens.put_back(token);
+        self.give_empty(mark, State::FlowMappingKey)
+    }
+}

@@ -1,0 +1,107 @@
+//! The tokens of a text, the next of which may be looked at.
+ghost use Rattle.std.specs.Prelude.{◌≡◌, ◌≤◌, ◌+◌, ℕ, List, IfOk, OnOk, true};
+ghost use Rattle.std.specs.Str.{chars};
+ghost use Rattle.snap_token.specs.Place.{before_nul, mark_of};
+ghost use Rattle.snap_scan.specs.Sound.{is_start};
+ghost use Rattle.snap_parser.specs.Feed.{start_tokens, tokens_left, starts, Feeds, Took, Takes, FeedsOn};
+
+use crate::state::Ends;
+use snap_scan::Scanner;
+use snap_token::{Marker, ScanError, ScanInfo, Token, TokenType};
+use std::alloc::Global;
+
+/// A scanner, and a token that was taken from it and put back.
+#[derive(Debug, Drop)]
+pub struct Tokens<'a> {
+    pub(crate) scanner: Scanner<'a>,
+    pub(crate) held: Option<Token<'a>>,
+}
+
+impl<'a> Tokens<'a> {
+    pub(crate) fn new(alloc: Global, source: &'a str) -> Tokens<'a>
+        ensures { result ≡ start_tokens (before_nul (chars source.now)) }
+    {
+        Tokens {
+            scanner: Scanner::new(alloc, source),
+            held: None,
+        }
+    }
+
+    /// The next token.
+    pub(crate) fn take(&mut self) -> Result<Token<'a>, ScanError>
+        ensures sound { (source : List ℕ) → Feeds source self.old → Takes source result self.new }
+        ensures left { OnOk result (tokens_left self.new + 1 ≤ tokens_left self.old) }
+        ensures start { starts self.old ≡ true → IfOk result (λ t. is_start t.1 ≡ true) }
+    {
+        if let Some(token) = self.held.take() {
+            return Ok(token);
+        }
+        match self.scanner.next_token()? {
+            Some(token) => Ok(token),
+            None => Err(ScanError::Syntax(self.scanner.mark(), ScanInfo::P9)),
+        }
+    }
+
+    /// Puts the token back that was taken last.
+    pub(crate) fn put_back(&mut self, token: Token<'a>)
+        ensures sound { (source : List ℕ) → Took source token.entry self.old → Feeds source self.new }
+        ensures left { tokens_left self.new ≤ tokens_left self.old + 1 }
+    {
+        self.held = Some(token);
+    }
+
+    /// The place of the next token, where a node is empty before it.
+    pub(crate) fn empty_node_at(&mut self, ends: Ends) -> Result<Option<Marker>, ScanError>
+        ensures sound { (source : List ℕ) → Feeds source self.old → FeedsOn source result self.new }
+        ensures left { OnOk result (tokens_left self.new ≤ tokens_left self.old) }
+    {
+        let token = self.take()?;
+        let mark = if ends.has(&token.1) {
+            Some(token.0)
+        } else {
+            None
+        };
+        self.put_back(token);
+        Ok(mark)
+    }
+
+    /// Passes the ends of documents over.
+    pub(crate) fn skip_document_ends(&mut self) -> Result<(), ScanError>
+        ensures sound { (source : List ℕ) → Feeds source self.old → FeedsOn source result self.new }
+        ensures left { OnOk result (tokens_left self.new ≤ tokens_left self.old) }
+    {
+        'ends: loop {
+            match self.take()? {
+                Token(_, TokenType::DocumentEnd) => {}
+                token => {
+                    self.put_back(token);
+                    return Ok(());
+                }
+            }
+        }
+    }
+
+    /// Passes directives over. They have no effect.
+    pub(crate) fn skip_directives(&mut self) -> Result<(), ScanError>
+        ensures sound { (source : List ℕ) → Feeds source self.old → FeedsOn source result self.new }
+        ensures left { OnOk result (tokens_left self.new ≤ tokens_left self.old) }
+    {
+        'directives: loop {
+            match self.take()? {
+                Token(_, TokenType::VersionDirective(..)) => {}
+                Token(_, TokenType::TagDirective(..)) => {}
+                token => {
+                    self.put_back(token);
+                    return Ok(());
+                }
+            }
+        }
+    }
+
+    /// The place that the scanner has come to.
+    pub(crate) fn mark(&self) -> Marker
+        ensures { result ≡ mark_of self.now.scanner.state.place }
+    {
+        self.scanner.mark()
+    }
+}
