@@ -104,3 +104,16 @@ stop-closed multi (e.SequenceStart id) m n g h = absurd (cc)
 stop-closed multi e.SequenceEnd m n g h = absurd (cc)
 stop-closed multi (e.MappingStart id) m n g h = absurd (cc)
 stop-closed multi e.MappingEnd m n g h = absurd (cc)
+
+-- an event that isn't passed as the stream's end isn't it
+pub no-end : (event : Event) (kind : Passed) → kind ≡ passed_of event → (kind ≡ w.StreamEnd → ⊥) → is_stream_end event ≡ false
+no-end e.StreamStart kind same h = refl
+no-end e.StreamEnd kind same h = absurd (h same)
+no-end e.DocumentStart kind same h = refl
+no-end e.DocumentEnd kind same h = refl
+no-end (e.Alias id) kind same h = refl
+no-end (e.Scalar text style id tag) kind same h = refl
+no-end (e.SequenceStart id) kind same h = refl
+no-end e.SequenceEnd kind same h = refl
+no-end (e.MappingStart id) kind same h = refl
+no-end e.MappingEnd kind same h = refl

@@ -1,7 +1,7 @@
 //! Events handed on to a receiver.
 ghost use Rattle.std.specs.Prelude.{◌≡◌, ◌≢◌, ◌<◌, List, Err, None, Some, IfOk, OnOk, OnErr, IfErr, true, false};
 ghost use Rattle.snap_event.specs.declared.event.Event.{Event as EventSeen};
-ghost use Rattle.snap_event.specs.Meaning.{ahead, ended, is_inside};
+ghost use Rattle.snap_event.specs.Meaning.{ahead, is_inside, is_stream_end};
 ghost use Rattle.snap_parser.specs.Errors.{IsLoadFounded};
 ghost use Rattle.snap_parser.specs.Parsing.{source, meaning, events_left};
 ghost use Rattle.snap_parser.specs.Runs.{Steps, passed_of, stops, HandsOn, LoadsUpTo, LoadsPart, TellsStream};
@@ -46,8 +46,8 @@ impl<'a> Parser<'a> {
     /// The next event. At a document's start all names are forgotten.
     fn next_forgetting(&mut self) -> Result<(Event<'a>, Marker), LoadError>
         ensures ok { IfOk result (λ given. Steps given.0 self.old self.new) }
-        ensures left { meaning self.old ≢ ended
-            → OnOk result (events_left self.new < events_left self.old) }
+        ensures goes { IfOk result (λ given. is_stream_end given.0 ≡ false
+            → events_left self.new < events_left self.old) }
         ensures inside { IfErr result (λ e. e ≢ LoadError.InsideDocument) }
         ensures cause { IfErr result (λ e. IsLoadFounded (source self.old) e) }
         ensures source { source self.new ≡ source self.old }
@@ -63,8 +63,8 @@ impl<'a> Parser<'a> {
     fn hand_on<R: MarkedEventReceiver>(&mut self, receiver: &mut R) -> Result<Passed, LoadError>
         ensures ok { IfOk result (λ kind.
             HandsOn R.told receiver.old receiver.new self.old self.new kind) }
-        ensures left { meaning self.old ≢ ended
-            → OnOk result (events_left self.new < events_left self.old) }
+        ensures goes { IfOk result (λ kind. kind ≢ Passed.StreamEnd
+            → events_left self.new < events_left self.old) }
         ensures err { (events : List EventSeen) → R.told receiver.old events
             → OnErr result (R.told receiver.new events) }
         ensures inside { IfErr result (λ e. e ≢ LoadError.InsideDocument) }

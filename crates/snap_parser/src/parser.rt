@@ -1,10 +1,10 @@
 //! The parser, and its events one by one.
-ghost use Rattle.std.specs.Prelude.{◌≡◌, ◌≢◌, ◌<◌, IfOk, OnOk, OnErr, IfErr, IsOkAnd, Err, Some, None};
+ghost use Rattle.std.specs.Prelude.{◌≡◌, ◌≢◌, ◌<◌, IfOk, OnOk, OnErr, IfErr, IsOkAnd, Err, Some, None, false};
 ghost use Rattle.std.specs.Str.{chars};
 ghost use Rattle.snap_token.specs.Place.{before_nul, mark_of};
 ghost use Rattle.snap_token.specs.declared.info.ScanError.{ScanError};
 ghost use Rattle.snap_scan.specs.Sound.{IsFounded};
-ghost use Rattle.snap_event.specs.Meaning.{ended, is_inside};
+ghost use Rattle.snap_event.specs.Meaning.{ended, is_inside, is_stream_end};
 ghost use Rattle.snap_parser.specs.Names.{forgotten};
 ghost use Rattle.snap_parser.specs.Parsing.{start_parsing, source, meaning, events_left, IsNext, KeepsError};
 
@@ -52,6 +52,8 @@ impl<'a> Parser<'a> {
         ensures next { IfOk result (λ given. IsNext given.0 self.old self.new) }
         ensures left { meaning self.old ≢ ended
             → OnOk result (events_left self.new < events_left self.old) }
+        ensures goes { IfOk result (λ given. is_stream_end given.0 ≡ false
+            → events_left self.new < events_left self.old) }
         ensures end { self.old.error ≡ None → meaning self.old ≡ ended → IsOkAnd result (λ given.
             (given.0 ≡ Event.StreamEnd)
             × (given.1 ≡ mark_of self.old.tokens.scanner.state.place)

@@ -1,3 +1,4 @@
+use Rattle.std.proofs.Common.{rules, rules}
 use Rattle.snap_parser.proofs.Naming.{registers}
 use Rattle.snap_parser.proofs.anchors.Anchors.register.Goals as goal
 
