@@ -1,8 +1,10 @@
 //! A text that is borrowed, or held.
-ghost use Rattle.std.specs.Prelude.{◌≡◌};
+ghost use Rattle.std.specs.Prelude.{◌≡◌, IfOk};
 ghost use Rattle.std.specs.Str.{chars};
 
+use crate::OutOfMemory;
 use crate::text::Text;
+use std::alloc::Global;
 use std::marker::Model;
 
 #[derive(Debug, Drop)]
@@ -50,6 +52,16 @@ impl<'a> Lent<'a> {
         match &self.held {
             Held::Borrowed(text) => text,
             Held::Owned(text) => text.as_str(),
+        }
+    }
+
+    /// The characters as a text that is held: a copy where they are borrowed.
+    pub fn into_text(self, alloc: Global) -> Result<Text, OutOfMemory>
+        ensures { IfOk result (λ text. text ≡ self.entry) }
+    {
+        match self.held {
+            Held::Borrowed(text) => Text::from_str(alloc, text),
+            Held::Owned(text) => Ok(text),
         }
     }
 }
