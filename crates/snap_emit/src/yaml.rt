@@ -35,7 +35,7 @@ pub fn to_string(alloc: Global, content: &Content, literal: bool) -> Result<Text
     document_text(alloc, &made)
 }
 
-/// The tree that is printed as the text. Only a printed text whose keys are all simple is read.
+/// The tree of a text: that which was printed, where it is a printed text whose keys are all simple.
 /// Any other is `FailedParsingYaml` with the path.
 pub fn parse_str(alloc: Global, text: &str, path: &Text) -> Result<Content, Error>
     ensures end { ParseEnd (chars text.now) path.now result }
@@ -48,15 +48,17 @@ pub fn parse_str(alloc: Global, text: &str, path: &Text) -> Result<Content, Erro
     }
 }
 
-/// The same for the header of a snapshot file; no number is kept as a text yet.
+/// The same for the header of a snapshot file, in which a number that is no whole number of 128 bits is kept as its text.
 pub fn parse_header(alloc: Global, text: &str, path: &Text) -> Result<Header, Error>
     ensures end { HeaderEnd (chars text.now) path.now result }
     ensures read { (t : Plain) → IsReadable t → chars text.now ≡ document_of t
         → IfOk result (λ header. tree header.content ≡ content_of t) }
 {
-    let content = parse_str(alloc, text, path)?;
-    Ok(Header {
-        content,
-        number_as_text: false,
-    })
+    match parse_plain(alloc, text)? {
+        None => Err(Error::FailedParsingYaml(path.try_clone(alloc)?)),
+        Some(made) => Ok(Header {
+            content: content_made(alloc, &made)?,
+            number_as_text: false,
+        }),
+    }
 }
