@@ -1,6 +1,5 @@
 //! What is ready before anything is looked at.
-ghost use Rattle.std.specs.Prelude.{◌≡◌, ◌++◌, List, ℕ, Some, codes, IfOk};
-ghost use Rattle.std.specs.Str.{chars};
+ghost use Rattle.std.specs.Prelude.{◌≡◌, Some, IfOk};
 ghost use Rattle.snap_content.specs.Plain.{plain};
 ghost use Rattle.snap_content.specs.View.{tree};
 ghost use Rattle.snap_content.specs.Lines.{text_of, lines_of};
@@ -12,9 +11,8 @@ ghost use Rattle.snap_place.specs.SnapshotPath.{flat_module, new_meta};
 ghost use Rattle.snap_assert.specs.Steps.{asked_of};
 ghost use Rattle.snap_assert.specs.Prepared.{IsPrepared};
 
-use snap_content::characters::split_first;
 use snap_content::{Content, OutOfMemory, Text};
-use snap_emit::yaml;
+use snap_emit::body_to_string;
 use snap_place::paths::{module_text, new_metadata, snapshot_path};
 use snap_place::place::Place;
 use snap_settings::settings::Settings;
@@ -29,35 +27,6 @@ pub struct Prepared {
     /// Where an unapproved snapshot waits.
     pub pending: Text,
     pub snapshot: Snapshot,
-}
-
-/// What stands behind the first line, `---`.
-fn body_of_document(document: &str) -> &str
-    ensures { (body : List ℕ) → chars document.now ≡ codes "---\n" ++ body
-        → chars result.now ≡ body }
-{
-    match split_first(document) {
-        Some((_, rest)) => match split_first(rest) {
-            Some((_, rest)) => match split_first(rest) {
-                Some((_, rest)) => match split_first(rest) {
-                    Some((_, rest)) => rest,
-                    None => document,
-                },
-                None => document,
-            },
-            None => document,
-        },
-        None => document,
-    }
-}
-
-/// The text of the tree, without the line `---`.
-fn printed(alloc: Global, content: &Content) -> Result<Text, OutOfMemory>
-    ensures text { IfOk result (λ text. text ≡ text_of (plain (tree content.now))) }
-    ensures lines { IfOk result (λ text. AreLines (lines_of (plain (tree content.now)))) }
-{
-    let document = yaml::to_string(alloc, content, false)?;
-    Text::from_str(alloc, body_of_document(document.as_str()))
 }
 
 fn new_snapshot(
@@ -77,7 +46,7 @@ fn new_snapshot(
         ≡ flat_module (place_of place.now).module_name) }
     ensures name { IfOk result (λ snapshot. name_in snapshot ≡ Some name.now) }
 {
-    let text = printed(alloc, content)?;
+    let text = body_to_string(alloc, content)?;
     let contents = TextSnapshotContents::new(text, TextSnapshotKind::File);
     let metadata = new_metadata(alloc, settings, place)?;
     let module_name = module_text(alloc, place)?;

@@ -1,2 +1,3 @@
+pub mod FromValue
 pub mod Parsed
 pub mod Examples

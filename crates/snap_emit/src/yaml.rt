@@ -1,17 +1,17 @@
 //! The text of a tree, and the tree of a text.
 ghost use Rattle.std.specs.Prelude.{◌≡◌, false, IfOk};
 ghost use Rattle.std.specs.Str.{chars};
-ghost use Rattle.snap_content.specs.Lines.{document_of, lines_of};
+ghost use Rattle.snap_content.specs.Lines.{document_of, lines_of, text_of};
 ghost use Rattle.snap_content.specs.Plain.{Plain, plain, content_of};
 ghost use Rattle.snap_content.specs.Printed.{AreLines};
 ghost use Rattle.snap_content.specs.Readable.{IsReadable};
 ghost use Rattle.snap_content.specs.View.{tree};
-ghost use Rattle.snap_emit.specs.Parsed.{ParseEnd, HeaderEnd};
+ghost use Rattle.snap_emit.specs.Parsed.{IsUnprinted, ParseEnd, HeaderEnd};
 
+use crate::loaded::load_tree;
 use snap_content::{Content, Error, OutOfMemory, Text};
+use snap_emitter::printing::{print_body, printed_document};
 use snap_plain::{content_made, parse_plain};
-use snap_print::from_content::plain_tree;
-use snap_print::print::document_text;
 use std::alloc::Global;
 
 /// The header of a snapshot file.
@@ -31,31 +31,69 @@ pub fn to_string(alloc: Global, content: &Content, literal: bool) -> Result<Text
     ensures lines { IfOk result (λ _. AreLines (lines_of (plain (tree content.now)))) }
 {
     prove!(!literal);
-    let made = plain_tree(alloc, content)?;
-    document_text(alloc, &made)
+    printed_document(alloc, content)
 }
 
-/// The tree of a text: that which was printed, where it is a printed text whose keys are all simple.
-/// Any other is `FailedParsingYaml` with the path.
+/// The text of the plain form alone, as it is the body of a snapshot file. The error is want of memory.
+pub fn body_to_string(alloc: Global, content: &Content) -> Result<Text, OutOfMemory>
+    ensures printed { IfOk result (λ text. text ≡ text_of (plain (tree content.now))) }
+    ensures lines { IfOk result (λ _. AreLines (lines_of (plain (tree content.now)))) }
+{
+    let mut text = Text::empty();
+    print_body(&mut text, alloc, content)?;
+    Ok(text)
+}
+
+/// The tree of a text that is no printed one.
+fn loaded_tree(alloc: Global, text: &str, path: &Text) -> Result<Content, Error>
+    ensures { IsUnprinted (chars text.now) → ParseEnd (chars text.now) path.now result }
+{
+    let found = load_tree(alloc, text)?;
+    if found.has_number_text {
+        return Err(Error::FloatText(path.try_clone(alloc)?));
+    }
+    match found.content {
+        None => Err(Error::FailedParsingYaml(path.try_clone(alloc)?)),
+        Some(content) => Ok(content),
+    }
+}
+
+/// The header in a text that is no printed one.
+fn loaded_header(alloc: Global, text: &str, path: &Text) -> Result<Header, Error>
+    ensures { IsUnprinted (chars text.now) → HeaderEnd (chars text.now) path.now result }
+{
+    let found = load_tree(alloc, text)?;
+    match found.content {
+        None => Err(Error::FailedParsingYaml(path.try_clone(alloc)?)),
+        Some(content) => Ok(Header {
+            content,
+            number_as_text: found.has_number_text,
+        }),
+    }
+}
+
+/// The tree of a YAML text that is one document: of a printed text whose keys are all simple, the tree that was printed.
+/// A number that is no whole number of 128 bits refuses it with `FloatText`, and all else that is no tree with
+/// `FailedParsingYaml`, whichever stands first, with the path.
 pub fn parse_str(alloc: Global, text: &str, path: &Text) -> Result<Content, Error>
     ensures end { ParseEnd (chars text.now) path.now result }
     ensures read { (t : Plain) → IsReadable t → chars text.now ≡ document_of t
         → IfOk result (λ made. tree made ≡ content_of t) }
 {
     match parse_plain(alloc, text)? {
-        None => Err(Error::FailedParsingYaml(path.try_clone(alloc)?)),
+        None => loaded_tree(alloc, text, path),
         Some(made) => Ok(content_made(alloc, &made)?),
     }
 }
 
-/// The same for the header of a snapshot file, in which a number that is no whole number of 128 bits is kept as its text.
+/// The same for the header of a snapshot file, in which such a number is kept as its text.
 pub fn parse_header(alloc: Global, text: &str, path: &Text) -> Result<Header, Error>
     ensures end { HeaderEnd (chars text.now) path.now result }
     ensures read { (t : Plain) → IsReadable t → chars text.now ≡ document_of t
         → IfOk result (λ header. tree header.content ≡ content_of t) }
 {
     match parse_plain(alloc, text)? {
-        None => Err(Error::FailedParsingYaml(path.try_clone(alloc)?)),
+        None => loaded_header(alloc, text, path),
         Some(made) => Ok(Header {
             content: content_made(alloc, &made)?,
             number_as_text: false,

@@ -8,3 +8,5 @@ mod original;
 mod original_rows;
 #[cfg(test)]
 mod parts;
+#[cfg(test)]
+mod readings;

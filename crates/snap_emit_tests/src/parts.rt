@@ -69,15 +69,6 @@ fn header_again(rt: &impl Abort, alloc: Global, text: &str) -> Result<Text, Erro
     Ok(to_string(alloc, &header.content, false)?)
 }
 
-/// Whether the text is refused, with the path.
-fn is_refused(alloc: Global, text: &str, path: &Text) -> bool {
-    match parse_str(alloc, text, path) {
-        Ok(_made) => false,
-        Err(Error::FailedParsingYaml(named)) => named.as_str() == path.as_str(),
-        Err(_error) => false,
-    }
-}
-
 #[test]
 fn quotes(rt: HostRuntime) {
     let quoted = [
@@ -235,37 +226,5 @@ fn blocks(rt: HostRuntime) -> Result<(), Fail> {
     let text = "---\nlist:\n  - c\n  - - true\n    - ~\n  - {}\na b:\n  1: ~\n";
     let again = printed_again(rt.alloc(), text)?;
     assert_eq!(rt; again.as_str(), text);
-    Ok(())
-}
-
-#[test]
-fn refusals(rt: HostRuntime) -> Result<(), Fail> {
-    let alloc = rt.alloc();
-    let path = Text::from_str(alloc, "a.snap")?;
-    let texts = [
-        "",
-        "a\n",
-        "---\n",
-        "---\na",
-        "---\r\na\n",
-        "---\na\r\n",
-        "---\n+5\n",
-        "---\n01\n",
-        "---\n-0\n",
-        "---\n\"a\"\n",
-        "---\n a\n",
-        "---\na \n",
-        "---\na:\n",
-        "---\na: \n",
-        "---\na:  1\n",
-        "---\n-  1\n",
-        "---\n- 1\n - 2\n",
-        "---\n? a\n: 1\n",
-        "---\n340282366920938463463374607431768211456\n",
-        "---\na\n\n",
-    ];
-    for text in texts {
-        assert!(rt; is_refused(alloc, text, &path), "{text:?}");
-    }
     Ok(())
 }

@@ -62,7 +62,7 @@ fn natural(digits: &str) -> Option<PlainTree>
 }
 
 /// The whole number that is written so.
-fn read_number(text: &str) -> Option<PlainTree>
+pub fn read_number(text: &str) -> Option<PlainTree>
     ensures { (z : ℤ) → IsNumber z → chars text.now ≡ signed_decimal z
         → IsSomeAnd result (λ made. view made ≡ int z) }
 {

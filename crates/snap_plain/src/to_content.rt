@@ -36,7 +36,7 @@ fn signed_content(number: i128) -> Content
 }
 
 /// The same of either.
-fn number_content(number: WholeNumber) -> Content
+pub fn number_content(number: WholeNumber) -> Content
     ensures { tree result ≡ number_tree (number_of number) }
 {
     match number {

@@ -6,4 +6,4 @@ use Rattle.snap_emit.proofs.yaml.to_string.Goals as goal
 
 pub returns-clause-lines : goal.returns-clause-lines
 returns-clause-lines c =
-    at_success c.document_text.result _ _ (printed_lines (plain (tree c.args.content.now))) (rw c.in_ok-made.ensures at c.document_text.ensures.within)
+    at_success c.printed_document.result _ _ (printed_lines (plain (tree c.args.content.now))) c.printed_document.ensures.within
