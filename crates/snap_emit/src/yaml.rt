@@ -8,7 +8,7 @@ ghost use Rattle.snap_content.specs.Readable.{IsReadable};
 ghost use Rattle.snap_content.specs.View.{tree};
 ghost use Rattle.snap_emit.specs.Parsed.{IsUnprinted, ParseEnd, HeaderEnd};
 
-use crate::loaded::load_tree;
+use crate::loaded::{Loaded, load_tree};
 use snap_content::{Content, Error, OutOfMemory, Text};
 use snap_emitter::printing::{print_body, printed_document};
 use snap_plain::{content_made, parse_plain};
@@ -48,11 +48,14 @@ pub fn body_to_string(alloc: Global, content: &Content) -> Result<Text, OutOfMem
 fn loaded_tree(alloc: Global, text: &str, path: &Text) -> Result<Content, Error>
     ensures { IsUnprinted (chars text.now) → ParseEnd (chars text.now) path.now result }
 {
-    let found = load_tree(alloc, text)?;
-    if found.has_number_text {
+    let Loaded {
+        content,
+        has_number_text,
+    } = load_tree(alloc, text)?;
+    if has_number_text {
         return Err(Error::FloatText(path.try_clone(alloc)?));
     }
-    match found.content {
+    match content {
         None => Err(Error::FailedParsingYaml(path.try_clone(alloc)?)),
         Some(content) => Ok(content),
     }
@@ -62,12 +65,15 @@ fn loaded_tree(alloc: Global, text: &str, path: &Text) -> Result<Content, Error>
 fn loaded_header(alloc: Global, text: &str, path: &Text) -> Result<Header, Error>
     ensures { IsUnprinted (chars text.now) → HeaderEnd (chars text.now) path.now result }
 {
-    let found = load_tree(alloc, text)?;
-    match found.content {
+    let Loaded {
+        content,
+        has_number_text,
+    } = load_tree(alloc, text)?;
+    match content {
         None => Err(Error::FailedParsingYaml(path.try_clone(alloc)?)),
         Some(content) => Ok(Header {
             content,
-            number_as_text: found.has_number_text,
+            number_as_text: has_number_text,
         }),
     }
 }
