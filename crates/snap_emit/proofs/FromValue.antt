@@ -1,20 +1,20 @@
 -- Trees that are made of values are those of plain trees.
-use Rattle.std.proofs.Common.{◌≡◌, ℕ, ℤ, Bool, List, [], ◌∷◌, ◌++◌, map, refl, sym, ap, ◌∙◌}
+use Rattle.std.proofs.Common.{◌≡◌, ℕ, ℤ, Bool, List, [], ◌∷◌, ◌++◌, map, refl, sym, ap, ◌∙◌, rules}
 use Rattle.snap_content.specs.Plain as p
 use Rattle.snap_content.specs.Plain.{Plain, Plains, Entries, content_of}
 use Rattle.snap_content.specs.Tree as t
 use Rattle.snap_content.specs.View.{tree, pair_tree, item_list, item_trees, pair_list, pair_trees}
-use Rattle.snap_content.specs.declared.content.Content.{Content, Seq, Map}
+use Rattle.snap_content.specs.declared.content.Content.{Content, Bool as truth, String as string, None as nothing, Seq, Map, the_lemmas}
 use Rattle.snap_content.specs.declared.lists.Items.{Items}
 use Rattle.snap_content.specs.declared.lists.Pairs.{Pairs}
 use Rattle.snap_content.proofs.Views.{tree-Seq, tree-Map}
 use Rattle.snap_emit.specs.FromValue.{IsPlain, ArePlain, ArePairsPlain, pair_made}
 
-plains_of : List Plain → Plains
+abbrev plains_of : List Plain → Plains
 plains_of [] = p.no_items
 plains_of (x ∷ xs) = p.item x (plains_of xs)
 
-entries_of : List (Plain × Plain) → Entries
+abbrev entries_of : List (Plain × Plain) → Entries
 entries_of [] = p.no_entries
 entries_of (e ∷ es) = p.entry e.0 e.1 (entries_of es)
 
@@ -52,18 +52,36 @@ pub one_more : (made : List Content) (c : Content) → ArePlain made → IsPlain
 one_more made c h k = record {
   plains = h.plains ++ k.plain ∷ [];
   trees_are = map-more tree made (c ∷ []) ∙ ap (λ x. map tree made ++ x ∷ []) k.tree_is ∙ ap (λ xs. xs ++ content_of k.plain ∷ []) h.trees_are
-    ∙ sym (map-more content_of h.plains (k.plain ∷ []));
+      ∙ sym (map-more content_of h.plains (k.plain ∷ []));
 }
 
-pub pair_plain : (key value : Content) → IsPlain key → IsPlain value → ArePairsPlain ((key, value) ∷ [])
-pair_plain key value h k = record {
-  plains = (h.plain, k.plain) ∷ [];
-  trees_are = ap (λ x. (x, tree value) ∷ []) h.tree_is ∙ ap (λ x. (content_of h.plain, x) ∷ []) k.tree_is;
+pub pair_more : (made : List (Content × Content)) (key value : Content) → ArePairsPlain made → IsPlain key → IsPlain value → ArePairsPlain (made ++ (key, value) ∷ [])
+pair_more made key value h k v = record {
+  plains = h.plains ++ (k.plain, v.plain) ∷ [];
+  trees_are = map-more pair_tree made ((key, value) ∷ [])
+      ∙ ap (λ x. map pair_tree made ++ (x, tree value) ∷ []) k.tree_is
+      ∙ ap (λ x. map pair_tree made ++ (content_of k.plain, x) ∷ []) v.tree_is
+      ∙ ap (λ xs. xs ++ (content_of k.plain, content_of v.plain) ∷ []) h.trees_are
+      ∙ sym (map-more pair_made h.plains ((k.plain, v.plain) ∷ []));
 }
 
-pub pairs_more : (made more : List (Content × Content)) → ArePairsPlain made → ArePairsPlain more → ArePairsPlain (made ++ more)
-pairs_more made more h k = record {
-  plains = h.plains ++ k.plains;
-  trees_are = map-more pair_tree made more ∙ ap (λ xs. xs ++ map pair_tree more) h.trees_are ∙ ap (λ xs. map pair_made h.plains ++ xs) k.trees_are
-    ∙ sym (map-more pair_made h.plains k.plains);
-}
+tree-nothing : tree nothing ≡ t.none
+tree-nothing = search (rules, the_lemmas)
+
+tree-truth : (b : Bool) → tree (truth b) ≡ t.bool b
+tree-truth b = search (rules, the_lemmas)
+
+tree-string : (s : List ℕ) → tree (string s) ≡ t.string s
+tree-string s = search (rules, the_lemmas)
+
+pub null_plain : IsPlain nothing
+null_plain = record { plain = p.null; tree_is = tree-nothing }
+
+pub truth_plain : (b : Bool) → IsPlain (truth b)
+truth_plain b = record { plain = p.bool b; tree_is = tree-truth b }
+
+pub string_plain : (s : List ℕ) → IsPlain (string s)
+string_plain s = record { plain = p.text s; tree_is = tree-string s }
+
+pub number_plain : (c : Content) (z : ℤ) → tree c ≡ p.number_tree z → IsPlain c
+number_plain c z h = record { plain = p.int z; tree_is = h }

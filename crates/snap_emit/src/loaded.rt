@@ -1,14 +1,12 @@
 //! The tree of any YAML text, by way of its documents.
-ghost use Rattle.std.specs.Prelude.{◌∷◌, [], IfOk, IfSome};
-ghost use Rattle.snap_parse.specs.Loaded.{AreLoaded};
-ghost use Rattle.snap_yaml.specs.View.{value_of};
+ghost use Rattle.std.specs.Prelude.{IfOk, IfSome};
 ghost use Rattle.snap_emit.specs.FromValue.{IsPlain, ArePlain, ArePairsPlain};
 
 use snap_content::{Content, Items, OutOfMemory, Pairs, Text};
 use snap_parse::{Array, ScanError, Yaml, YamlLoader};
 use snap_plain::scalars::read_number;
 use snap_plain::to_content::number_content;
-use snap_print::plain::PlainTree;
+use snap_print::plain::{PlainTree, WholeNumber};
 use std::alloc::Global;
 
 /// What the one document of a text is as a tree.
@@ -39,6 +37,13 @@ fn only_document(alloc: Global, text: &str) -> Result<Option<Yaml>, OutOfMemory>
     }
 }
 
+/// The tree of a whole number.
+fn whole_number(number: WholeNumber) -> Content
+    ensures { IsPlain result }
+{
+    number_content(number)
+}
+
 /// The number that a text is, where that is a whole number of 128 bits, and else the text.
 fn number_or_text(
     alloc: Global,
@@ -48,7 +53,7 @@ fn number_or_text(
     ensures { IfOk result (λ made. IsPlain made) }
 {
     if let Some(PlainTree::Int(number)) = read_number(text.as_str()) {
-        return Ok(number_content(number));
+        return Ok(whole_number(number));
     }
     *has_number_text = true;
     Ok(Content::String(text.try_clone(alloc)?))
@@ -66,7 +71,10 @@ fn tree_of(
     match value {
         Yaml::Null => Ok(Some(Content::None)),
         Yaml::Boolean(truth) => Ok(Some(Content::Bool(*truth))),
-        Yaml::Integer(number) => Ok(Some(Content::I64(*number))),
+        Yaml::Integer(number) => {
+            let number = WholeNumber::Signed(i128::from(*number));
+            Ok(Some(whole_number(number)))
+        }
         Yaml::String(text) => Ok(Some(Content::String(text.try_clone(alloc)?))),
         Yaml::Real(text) => Ok(Some(number_or_text(alloc, text, has_number_text)?)),
         Yaml::Array(items) => match trees_of(alloc, items.as_slice(), has_number_text)? {
@@ -100,25 +108,6 @@ fn trees_of(
     Ok(Some(made))
 }
 
-/// The same of a pair.
-#[cycle(from_value)]
-fn pair_of(
-    alloc: Global,
-    key: &Yaml,
-    value: &Yaml,
-    has_number_text: &mut bool,
-) -> Result<Option<(Content, Content)>, OutOfMemory>
-    ensures { IfOk result (λ found. IfSome found (λ made. ArePairsPlain (made ∷ []))) }
-{
-    let Some(key) = tree_of(alloc, key, has_number_text)? else {
-        return Ok(None);
-    };
-    match tree_of(alloc, value, has_number_text)? {
-        None => Ok(None),
-        Some(value) => Ok(Some((key, value))),
-    }
-}
-
 /// The same of each pair of a mapping.
 #[cycle(from_value)]
 fn pairs_of(
@@ -130,10 +119,13 @@ fn pairs_of(
 {
     let mut made = Vec::new(alloc);
     for (key, value) in pairs {
-        match pair_of(alloc, key, value, has_number_text)? {
-            None => return Ok(None),
-            Some(pair) => made.push(pair)?,
-        }
+        let Some(key) = tree_of(alloc, key, has_number_text)? else {
+            return Ok(None);
+        };
+        let Some(value) = tree_of(alloc, value, has_number_text)? else {
+            return Ok(None);
+        };
+        made.push((key, value))?;
     }
     Ok(Some(made))
 }

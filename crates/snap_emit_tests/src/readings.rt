@@ -69,7 +69,10 @@ fn why_refused(alloc: Global, text: &str, path: &Text) -> Refusal {
 /// What is printed of a header, and whether a number in it was kept as its text.
 fn header_printed(alloc: Global, text: &str) -> Result<(Text, bool), Error> {
     let header = parse_header(alloc, text, &Text::empty())?;
-    Ok((to_string(alloc, &header.content, false)?, header.number_as_text))
+    Ok((
+        to_string(alloc, &header.content, false)?,
+        header.number_as_text,
+    ))
 }
 
 /// Whether the header is read as one of which this is printed, with a number kept as its text or none.
@@ -81,20 +84,62 @@ fn is_header(alloc: Global, text: &str, printed: &str, kept: bool) -> Result<boo
 #[test]
 fn scalars_of_other_writers(rt: HostRuntime) -> Result<(), Fail> {
     let table = [
-        Reading { text: "a\n", printed: "---\na\n" },
-        Reading { text: "---\n", printed: "---\n~\n" },
-        Reading { text: "---\na", printed: "---\na\n" },
-        Reading { text: "---\r\na\r\n", printed: "---\na\n" },
-        Reading { text: "---\n a\n", printed: "---\na\n" },
-        Reading { text: "---\na \n\n", printed: "---\na\n" },
-        Reading { text: "---\n\"a\"\n", printed: "---\na\n" },
-        Reading { text: "---\n+5\n", printed: "---\n5\n" },
-        Reading { text: "---\n01\n", printed: "---\n1\n" },
-        Reading { text: "---\n-0\n", printed: "---\n0\n" },
-        Reading { text: "---\n0o17\n", printed: "---\n15\n" },
-        Reading { text: "---\nnull\n", printed: "---\n~\n" },
-        Reading { text: "---\nNULL\n", printed: "---\n\"NULL\"\n" },
-        Reading { text: "%YAML 1.2\n---\na\n...\n", printed: "---\na\n" },
+        Reading {
+            text: "a\n",
+            printed: "---\na\n",
+        },
+        Reading {
+            text: "---\n",
+            printed: "---\n~\n",
+        },
+        Reading {
+            text: "---\na",
+            printed: "---\na\n",
+        },
+        Reading {
+            text: "---\r\na\r\n",
+            printed: "---\na\n",
+        },
+        Reading {
+            text: "---\n a\n",
+            printed: "---\na\n",
+        },
+        Reading {
+            text: "---\na \n\n",
+            printed: "---\na\n",
+        },
+        Reading {
+            text: "---\n\"a\"\n",
+            printed: "---\na\n",
+        },
+        Reading {
+            text: "---\n+5\n",
+            printed: "---\n5\n",
+        },
+        Reading {
+            text: "---\n01\n",
+            printed: "---\n1\n",
+        },
+        Reading {
+            text: "---\n-0\n",
+            printed: "---\n0\n",
+        },
+        Reading {
+            text: "---\n0o17\n",
+            printed: "---\n15\n",
+        },
+        Reading {
+            text: "---\nnull\n",
+            printed: "---\n~\n",
+        },
+        Reading {
+            text: "---\nNULL\n",
+            printed: "---\n\"NULL\"\n",
+        },
+        Reading {
+            text: "%YAML 1.2\n---\na\n...\n",
+            printed: "---\na\n",
+        },
     ];
     are_read(&rt, rt.alloc(), &table)
 }
@@ -102,19 +147,58 @@ fn scalars_of_other_writers(rt: HostRuntime) -> Result<(), Fail> {
 #[test]
 fn collections_of_other_writers(rt: HostRuntime) -> Result<(), Fail> {
     let table = [
-        Reading { text: "---\na:\n", printed: "---\na: ~\n" },
-        Reading { text: "---\na:  1\n", printed: "---\na: 1\n" },
-        Reading { text: "---\na:\tb\n", printed: "---\na: b\n" },
-        Reading { text: "---\n-  1\n", printed: "---\n- 1\n" },
-        Reading { text: "---\n- 1\n - 2\n", printed: "---\n- 1 - 2\n" },
-        Reading { text: "---\n? a\n: 1\n", printed: "---\na: 1\n" },
-        Reading { text: "---\n? \n: 1\n", printed: "---\n~: 1\n" },
-        Reading { text: "---\na: 1\na: 2\n", printed: "---\na: 1\na: 2\n" },
-        Reading { text: "---\nlist:\n- 1\n- 2\n", printed: "---\nlist:\n  - 1\n  - 2\n" },
-        Reading { text: "---\n&a b: 1\n", printed: "---\nb: 1\n" },
-        Reading { text: "---\n- &a 1\n- *a\n", printed: "---\n- 1\n" },
-        Reading { text: "---\n- {a: 1, b}\n", printed: "---\n- a: 1\n  b: ~\n" },
-        Reading { text: "---\n[a: 1]\n", printed: "---\n- a: 1\n" },
+        Reading {
+            text: "---\na:\n",
+            printed: "---\na: ~\n",
+        },
+        Reading {
+            text: "---\na:  1\n",
+            printed: "---\na: 1\n",
+        },
+        Reading {
+            text: "---\na:\tb\n",
+            printed: "---\na: b\n",
+        },
+        Reading {
+            text: "---\n-  1\n",
+            printed: "---\n- 1\n",
+        },
+        Reading {
+            text: "---\n- 1\n - 2\n",
+            printed: "---\n- 1 - 2\n",
+        },
+        Reading {
+            text: "---\n? a\n: 1\n",
+            printed: "---\na: 1\n",
+        },
+        Reading {
+            text: "---\n? \n: 1\n",
+            printed: "---\n~: 1\n",
+        },
+        Reading {
+            text: "---\na: 1\na: 2\n",
+            printed: "---\na: 1\na: 2\n",
+        },
+        Reading {
+            text: "---\nlist:\n- 1\n- 2\n",
+            printed: "---\nlist:\n  - 1\n  - 2\n",
+        },
+        Reading {
+            text: "---\n&a b: 1\n",
+            printed: "---\nb: 1\n",
+        },
+        Reading {
+            text: "---\n- &a 1\n- *a\n",
+            printed: "---\n- 1\n",
+        },
+        Reading {
+            text: "---\n- {a: 1, b}\n",
+            printed: "---\n- a: 1\n  b: ~\n",
+        },
+        Reading {
+            text: "---\n[a: 1]\n",
+            printed: "---\n- a: 1\n",
+        },
     ];
     are_read(&rt, rt.alloc(), &table)
 }
@@ -134,7 +218,10 @@ fn documents_of_other_writers(rt: HostRuntime) -> Result<(), Fail> {
             text: "---\na: |\n  x\n  y\nb: >-\n  x\n  y\n",
             printed: "---\na: \"x\\ny\\n\"\nb: x y\n",
         },
-        Reading { text: "---\n- !!float 2\n", printed: "---\n- 2\n" },
+        Reading {
+            text: "---\n- !!float 2\n",
+            printed: "---\n- 2\n",
+        },
         Reading {
             text: "# c\n---\n- !!float 9223372036854775808\n",
             printed: "---\n- 9223372036854775808\n",
@@ -146,8 +233,14 @@ fn documents_of_other_writers(rt: HostRuntime) -> Result<(), Fail> {
 #[test]
 fn long_keys_and_keys_that_are_lists(rt: HostRuntime) -> Result<(), Fail> {
     let table = [
-        Reading { text: "---\n? [a, b]\n: 1\n", printed: "---\n? - a\n  - b\n: 1\n" },
-        Reading { text: "---\n{[]: {}}\n", printed: "---\n? []\n: {}\n" },
+        Reading {
+            text: "---\n? [a, b]\n: 1\n",
+            printed: "---\n? - a\n  - b\n: 1\n",
+        },
+        Reading {
+            text: "---\n{[]: {}}\n",
+            printed: "---\n? []\n: {}\n",
+        },
     ];
     are_read(&rt, rt.alloc(), &table)
 }
@@ -159,20 +252,62 @@ fn texts_that_are_no_tree(rt: HostRuntime) -> Result<(), OutOfMemory> {
     let failed = Refusal::FailedParsingYaml;
     let float = Refusal::FloatText;
     let table = [
-        Refused { text: "", why: failed },
-        Refused { text: "# c\n", why: failed },
-        Refused { text: "a: 1\n---\nb: 2\n", why: failed },
-        Refused { text: "---\na\r\nb: 1\n", why: failed },
-        Refused { text: "---\n- !!int x\n", why: failed },
-        Refused { text: "---\n\"a\"1.5\n", why: failed },
-        Refused { text: "---\n1.5\n", why: float },
-        Refused { text: "---\n1e3\n", why: float },
-        Refused { text: "---\n- .inf\n", why: float },
-        Refused { text: "---\n- !!float 2.5\n", why: float },
-        Refused { text: "---\n340282366920938463463374607431768211456\n", why: float },
-        Refused { text: "---\n-170141183460469231731687303715884105729\n", why: float },
-        Refused { text: "---\n- 1.5\n- !!int x\n", why: float },
-        Refused { text: "---\n- !!int x\n- 1.5\n", why: failed },
+        Refused {
+            text: "",
+            why: failed,
+        },
+        Refused {
+            text: "# c\n",
+            why: failed,
+        },
+        Refused {
+            text: "a: 1\n---\nb: 2\n",
+            why: failed,
+        },
+        Refused {
+            text: "---\na\r\nb: 1\n",
+            why: failed,
+        },
+        Refused {
+            text: "---\n- !!int x\n",
+            why: failed,
+        },
+        Refused {
+            text: "---\n\"a\"1.5\n",
+            why: failed,
+        },
+        Refused {
+            text: "---\n1.5\n",
+            why: float,
+        },
+        Refused {
+            text: "---\n1e3\n",
+            why: float,
+        },
+        Refused {
+            text: "---\n- .inf\n",
+            why: float,
+        },
+        Refused {
+            text: "---\n- !!float 2.5\n",
+            why: float,
+        },
+        Refused {
+            text: "---\n340282366920938463463374607431768211456\n",
+            why: float,
+        },
+        Refused {
+            text: "---\n-170141183460469231731687303715884105729\n",
+            why: float,
+        },
+        Refused {
+            text: "---\n- 1.5\n- !!int x\n",
+            why: float,
+        },
+        Refused {
+            text: "---\n- !!int x\n- 1.5\n",
+            why: failed,
+        },
     ];
     for row in &table {
         let why = why_refused(alloc, row.text, &path);

@@ -3,5 +3,5 @@ use Rattle.snap_content.specs.View.{tree}
 use Rattle.snap_print.proofs.LineFacts.{printed_lines}
 use Rattle.snap_emit.proofs.yaml.body_to_string.Goals as goal
 
-pub returns-in_ok-clause-lines : goal.returns-in_ok-clause-lines
-returns-in_ok-clause-lines c = printed_lines (plain (tree c.args.content.now)) c.in_ok.ensures.within
+pub returns-clause-lines : goal.returns-clause-lines
+returns-clause-lines c = printed_lines (plain (tree c.args.content.now)) c.in_ok-print_body.ensures.within
