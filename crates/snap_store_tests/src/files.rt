@@ -7,7 +7,7 @@ use std::alloc::Global;
 use std::test::Fail;
 
 /// The bytes of a file, and its body, `a payload`, or the text of the error.
-const FILES: [(&[u8], &str); 13] = [
+const FILES: [(&[u8], &str); 15] = [
     (b"---\nsource: a\n---\nbody\n", "body"),
     (b"---\nsource: a\n---\nb\n\n---\nc\n", "b\n\n---\nc"),
     (b"---\nsource: a\n--- \nb\r\nc", "b\nc"),
@@ -24,7 +24,9 @@ const FILES: [(&[u8], &str); 13] = [
         b"---\nb\n---\n",
         "The present data type wasn't what was expected",
     ),
-    (b"---\na:  1\n---\n", "Failed parsing the YAML from \"p\""),
+    (b"---\na:  1\n---\nb\n", "b"),
+    (b"---\n{info: [1.5, '2']} # c\n---\nb\n", "b"),
+    (b"---\na: 'b\n---\n", "Failed parsing the YAML from \"p\""),
     (b"---\na: 1\n", ""),
     (b"a: 1\n", ""),
     (b"", ""),
