@@ -103,8 +103,8 @@ const NO_REQUESTS: [&[u8]; 6] = [
     b"---\nduplicates: end\n",
     b"---\n\xff\n",
     b"---\nmodule: m\nfile: src/a.rs\nline: 7\nline: 7\nname: one\nexpr: x\nvalue:\n  a: 1\n",
-    // A key that is a list, a file that is a folder, and a line that is too large.
-    b"---\nmodule: m\nfile: src/a.rs\nline: 7\nname: one\nexpr: x\nvalue:\n  ? - 1\n  : 2\n",
+    // A float, a file that is a folder, and a line that is too large.
+    b"---\nmodule: m\nfile: src/a.rs\nline: 7\nname: one\nexpr: x\nvalue: [1.5]\n",
     b"---\nmodule: m\nfile: src/..\nline: 7\nname: one\nexpr: x\nvalue: 1\n",
     b"---\nmodule: m\nfile: src/a.rs\nline: 4294967296\nname: one\nexpr: x\nvalue: 1\n",
 ];

@@ -71,7 +71,7 @@ fn empty_input_and_bad_words(rt: HostRuntime) -> Result<(), Fail> {
 }
 
 /// What stands at the path before a run with the request, and the line that it writes.
-const STORED: [(&str, &str); 8] = [
+const STORED: [(&str, &str); 10] = [
     // Canonical headers: any fields, in any order, and none at all.
     (
         "---\nexpression: y\nsource: z\nmore:\n  - 1\n---\na: 1\n",
@@ -80,14 +80,20 @@ const STORED: [(&str, &str); 8] = [
     ("---\n{}\n---\na: 1\n\n", PASSED),
     ("---\nsource: a\n---\na: 2\n", UPDATED),
     ("---\nsource: a\n---\na:  1\n", UPDATED),
-    // A binary header, one without its extension, one that is no dict, and one that is not as it is printed.
+    // Headers of another form, one of which keeps a number as its text.
+    ("---\nsource:  a\n---\na: 1\n", PASSED),
+    (
+        "---\nsource: src/a.rs\nexpression: x\ninfo:\n  x: 1.5\n---\na: 1\n",
+        PASSED,
+    ),
+    // A binary header, one without its extension, one that is no dict, and one that is no YAML.
     (
         "---\nextension: png\nsnapshot_kind: binary\n---\na: 1\n",
         UPDATED,
     ),
     ("---\nsnapshot_kind: binary\n---\na: 1\n", UPDATED),
     ("---\n- 1\n---\na: 1\n", UPDATED),
-    ("---\nsource:  a\n---\na: 1\n", UPDATED),
+    ("---\nsource: [a\n---\na: 1\n", UPDATED),
 ];
 
 #[test]
