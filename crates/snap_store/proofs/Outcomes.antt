@@ -1,6 +1,8 @@
 -- What reading a file comes to, exit by exit.
-use Rattle.std.proofs.Common.{◌≡◌, ℕ, Bool, false, List, Option, Result, Ok, Err, refl, ap, sym, ◌∙◌, subst, IsErrAnd}
+use Rattle.std.proofs.Common.{◌≡◌, ℕ, Bool, true, false, List, Option, Result, Ok, Err, refl, ap, sym, ◌∙◌, subst, IsErrAnd}
+use Rattle.snap_content.specs.Lines.{document_of}
 use Rattle.snap_content.specs.Plain.{Plain, dict, Entries, content_of}
+use Rattle.snap_content.specs.Readable.{IsReadable}
 use Rattle.snap_content.specs.View.{tree}
 use Rattle.snap_content.specs.declared.content.Content.{Content}
 use Rattle.snap_content.specs.declared.error.Error.{Error}
@@ -10,9 +12,9 @@ use Rattle.snap_store.specs.Causes.{ErrorCause}
 use Rattle.snap_store.specs.FileSplit.{headed_body, body_of}
 use Rattle.snap_store.specs.Header.{FieldsEnd, HasFields}
 use Rattle.snap_store.specs.Meta.{Meta}
-use Rattle.snap_store.specs.Reading.{IsTextFile, HasHeader, HoldsBody, IsRefused, FileEnd, IsReadAs, Tells}
+use Rattle.snap_store.specs.Reading.{IsTextFile, ReadsHeader, HasUnprintedHeader, HoldsBody, IsRefused, FileEnd, IsReadAs, Tells}
 use Rattle.snap_store.specs.Split.{IsSplit}
-use Rattle.snap_store.specs.Views.{meta_of, meta_in, contents_in, legacy_in}
+use Rattle.snap_store.specs.Views.{meta_of, meta_in, contents_in, legacy_in, number_text_in}
 use Rattle.snap_store.specs.declared.contents.SnapshotContents.{SnapshotContents}
 use Rattle.snap_store.specs.declared.metadata.MetaData.{MetaData}
 use Rattle.snap_store.specs.declared.metadata.SnapshotKind.{SnapshotKind}
@@ -20,23 +22,33 @@ use Rattle.snap_store.specs.declared.snapshot.Snapshot.{Snapshot}
 use Rattle.snap_store.specs.declared.split.Headed.{Headed}
 use Rattle.snap_store.proofs.Bodies.{body-headed}
 
--- the header of the text is the plain form of this tree
+-- the header of the text is read as the plain form of this tree
 pub record HasTree (text : List ℕ) (made : Content) : Type 0 where
   pub plain : Plain
   pub tree_is : tree made ≡ content_of plain
-  pub header : HasHeader text plain
+  pub header : ReadsHeader text plain
 
 pub header_read : (text shown : List ℕ) (headed : Headed) (made : Content) → IsSplit headed text → shown ≡ headed.header → IsReadFrom made shown → HasTree text made
 header_read text shown headed made split same read = record {
   plain = read.plain;
   tree_is = read.tree_is;
-  header = record { headed = split.headed_is; readable = read.readable; header = sym (same ∙ split.header_is) ∙ read.text_is };
+  header = record { headed = split.headed_is; read = λ t readable is. read.printed t readable (same ∙ split.header_is ∙ is) };
 }
 
-other_header : (text : List ℕ) (file : Option (List ℕ)) (plain : Plain) (held : Entries) → HasHeader text plain → plain ≡ dict held → HasHeader text (dict held)
-other_header text file plain held has is = let P : Plain → Type 0 = λ t. HasHeader text t in subst P is has
+-- where a number was kept as a text, the header is no printed one
+pub number_kept : (text shown : List ℕ) (headed : Headed) (file : Option (List ℕ)) (kept told : Bool) → IsTextFile file text → IsSplit headed text → shown ≡ headed.header
+    → ((t : Plain) → IsReadable t → shown ≡ document_of t → kept ≡ false) → told ≡ kept → told ≡ true → HasUnprintedHeader file
+number_kept text shown headed file kept told there split same none is kept_one = record {
+  text = text;
+  there = there;
+  headed = split.headed_is;
+  unprinted = λ tree h. let clash = sym kept_one ∙ is ∙ none tree h.readable (same ∙ split.header_is ∙ h.header) in cc clash;
+}
 
-pub refused_fields : (text path : List ℕ) (file : Option (List ℕ)) (plain : Plain) (e : Error) → IsTextFile file text → HasHeader text plain
+other_header : (text : List ℕ) (file : Option (List ℕ)) (plain : Plain) (held : Entries) → ReadsHeader text plain → plain ≡ dict held → ReadsHeader text (dict held)
+other_header text file plain held has is = let P : Plain → Type 0 = λ t. ReadsHeader text t in subst P is has
+
+pub refused_fields : (text path : List ℕ) (file : Option (List ℕ)) (plain : Plain) (e : Error) → IsTextFile file text → ReadsHeader text plain
     → FieldsEnd plain (Err e) → IsRefused path file e
 refused_fields text path file plain (FailedParsingYaml named) there has h = absurd h
 refused_fields text path file plain UnexpectedDataType there has h = record { text = text; there = there; tree = plain; header = has; other = h }
@@ -72,9 +84,10 @@ as_told : (legacy was : Bool) (text : List ℕ) (meta : Meta) → legacy ≡ was
 as_told legacy was text meta is tells = let P : Bool → Type 0 = λ b. Tells b text meta in subst P is tells
 
 pub read_as : (text body : List ℕ) (file : Option (List ℕ)) (plain : Plain) (metadata : MetaData) (snapshot : Snapshot) (kind : SnapshotKind) (contents : SnapshotContents)
-    → IsTextFile file text → HasHeader text plain → HasFields plain metadata → kind ≡ (meta_of metadata).kind → body ≡ headed_body text
-    → meta_in snapshot ≡ meta_of metadata → false ≡ legacy_in snapshot → contents ≡ contents_in snapshot → HoldsBody kind body contents → IsReadAs file snapshot
-read_as text body file plain metadata snapshot kind contents there has read kind_is body_is metadata_is headed contents_are holds = record {
+    → IsTextFile file text → ReadsHeader text plain → HasFields plain metadata → kind ≡ (meta_of metadata).kind → body ≡ headed_body text
+    → meta_in snapshot ≡ meta_of metadata → false ≡ legacy_in snapshot → contents ≡ contents_in snapshot → HoldsBody kind body contents
+    → (number_text_in snapshot ≡ true → HasUnprintedHeader file) → IsReadAs file snapshot
+read_as text body file plain metadata snapshot kind contents there has read kind_is body_is metadata_is headed contents_are holds numbers = record {
   text = text;
   there = there;
   metadata = as_told false (legacy_in snapshot) text (meta_in snapshot) headed (record {
@@ -85,6 +98,7 @@ read_as text body file plain metadata snapshot kind contents there has read kind
     meta_is = metadata_is ∙ read.fields_are;
   });
   contents = same_body (meta_in snapshot).kind kind (body_of text) body contents (contents_in snapshot) (kind_is ∙ ap (λ m. m.kind) (sym metadata_is)) (body_is ∙ sym (body-headed text has.headed)) contents_are holds;
+  numbers = numbers;
 }
 
 pub no_memory : (path : List ℕ) (file : Option (List ℕ)) (result : Result Snapshot Error) → IsErrAnd result (λ e. e ≡ OutOfMemory) → FileEnd path file result

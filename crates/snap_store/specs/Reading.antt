@@ -7,13 +7,14 @@ use Rattle.snap_content.specs.Lines.{document_of}
 use Rattle.snap_content.specs.Readable.{IsReadable}
 use Rattle.snap_content.specs.declared.error.Error.{Error}
 use Rattle.snap_content.specs.declared.error.Error.TheVariants.{FailedParsingYaml, UnexpectedDataType, MissingField, FileIo, FloatText, JsonKey, NotText, NoFile, OutOfMemory}
+use Rattle.snap_emit.specs.Parsed.{MayBeReadAs}
 use Rattle.snap_text.specs.Contents.{raw_of, kind_of}
 use Rattle.snap_text.specs.declared.contents.TextSnapshotKind.TheVariants.{File}
 use Rattle.snap_outside.specs.Files.{Files}
 use Rattle.snap_store.specs.FileSplit.{is_headed, header_of, body_of}
 use Rattle.snap_store.specs.Fields.{kind_in, fields}
 use Rattle.snap_store.specs.Meta.{Meta, legacy_meta}
-use Rattle.snap_store.specs.Views.{meta_in, contents_in, legacy_in}
+use Rattle.snap_store.specs.Views.{meta_in, contents_in, legacy_in, number_text_in}
 use Rattle.snap_store.specs.declared.metadata.SnapshotKind.{SnapshotKind}
 use Rattle.snap_store.specs.declared.metadata.SnapshotKind.TheVariants as kind
 use Rattle.snap_store.specs.declared.contents.SnapshotContents.{SnapshotContents}
@@ -33,6 +34,11 @@ pub record HasHeader (text : List ℕ) (tree : Plain) : Type 0 where
   pub readable : IsReadable tree
   pub header : header_of text ≡ document_of tree
 
+-- the text is headed, and its header is read as this tree: where it is a printed one, as that which was printed
+pub record ReadsHeader (text : List ℕ) (tree : Plain) : Type 0 where
+  pub headed : is_headed text ≡ true
+  pub read : MayBeReadAs (header_of text) tree
+
 -- a text holds the body as it stands, and a payload is not read
 abbrev pub HoldsBody : SnapshotKind → List ℕ → SnapshotContents → Type 0
 HoldsBody kind.Text body (contents.Text held) = (raw_of held ≡ body) × (kind_of held ≡ File)
@@ -40,10 +46,10 @@ HoldsBody kind.Text body (contents.Binary payload) = ⊥
 HoldsBody (kind.Binary extension) body (contents.Text held) = ⊥
 HoldsBody (kind.Binary extension) body (contents.Binary payload) = payload ≡ None
 
--- a header that is a printed map with simple keys tells its fields
+-- a header that is read as a map tells its fields
 pub record HeaderTells (text : List ℕ) (meta : Meta) : Type 0 where
   pub entries : Entries
-  pub header : HasHeader text (dict entries)
+  pub header : ReadsHeader text (dict entries)
   pub kind : SnapshotKind
   pub kind_is : kind_in entries ≡ Some kind
   pub meta_is : meta ≡ fields entries kind
@@ -57,44 +63,47 @@ abbrev pub Tells : Bool → List ℕ → Meta → Type 0
 Tells false text meta = HeaderTells text meta
 Tells true text meta = LinesTell text meta
 
--- the file was read as this snapshot
-pub record IsReadAs (file : Option (List ℕ)) (snapshot : Snapshot) : Type 0 where
-  pub text : List ℕ
-  pub there : IsTextFile file text
-  pub metadata : Tells (legacy_in snapshot) text (meta_in snapshot)
-  pub contents : HoldsBody (meta_in snapshot).kind (body_of text) (contents_in snapshot)
-
 pub record IsNoText (file : Option (List ℕ)) : Type 0 where
   pub bytes : List ℕ
   pub there : file ≡ Some bytes
   pub broken : IsUtf8 bytes → ⊥
 
 -- a header opens, and is no printed tree with simple keys
-pub record HasNoHeader (file : Option (List ℕ)) : Type 0 where
+pub record HasUnprintedHeader (file : Option (List ℕ)) : Type 0 where
   pub text : List ℕ
   pub there : IsTextFile file text
   pub headed : is_headed text ≡ true
-  pub none : (tree : Plain) → HasHeader text tree → ⊥
+  pub unprinted : (tree : Plain) → HasHeader text tree → ⊥
 
+-- the header is read as a tree that is no map
 pub record HasOtherHeader (file : Option (List ℕ)) : Type 0 where
   pub text : List ℕ
   pub there : IsTextFile file text
   pub tree : Plain
-  pub header : HasHeader text tree
+  pub header : ReadsHeader text tree
   pub other : (entries : Entries) → tree ≡ dict entries → ⊥
 
+-- the header is read as a map that says binary and names no extension
 pub record LacksExtension (file : Option (List ℕ)) : Type 0 where
   pub text : List ℕ
   pub there : IsTextFile file text
   pub entries : Entries
-  pub header : HasHeader text (dict entries)
+  pub header : ReadsHeader text (dict entries)
   pub lacking : kind_in entries ≡ None
+
+-- the file was read as this snapshot, and only a header that is no printed one has a number kept as a text
+pub record IsReadAs (file : Option (List ℕ)) (snapshot : Snapshot) : Type 0 where
+  pub text : List ℕ
+  pub there : IsTextFile file text
+  pub metadata : Tells (legacy_in snapshot) text (meta_in snapshot)
+  pub contents : HoldsBody (meta_in snapshot).kind (body_of text) (contents_in snapshot)
+  pub numbers : number_text_in snapshot ≡ true → HasUnprintedHeader file
 
 -- why the file at the path is refused
 abbrev pub IsRefused : List ℕ → Option (List ℕ) → Error → Type 0
 IsRefused path file (NoFile named) = (named ≡ path) × (file ≡ None)
 IsRefused path file (NotText named) = (named ≡ path) × IsNoText file
-IsRefused path file (FailedParsingYaml named) = (named ≡ path) × HasNoHeader file
+IsRefused path file (FailedParsingYaml named) = (named ≡ path) × HasUnprintedHeader file
 IsRefused path file UnexpectedDataType = HasOtherHeader file
 IsRefused path file MissingField = LacksExtension file
 IsRefused path file (FileIo named) = named ≡ path

@@ -36,6 +36,10 @@ contents_in snapshot = snapshot.contents
 abbrev pub legacy_in : Snapshot → Bool
 legacy_in snapshot = snapshot.was_legacy
 
+-- whether a number of its header was kept as a text
+abbrev pub number_text_in : Snapshot → Bool
+number_text_in snapshot = snapshot.number_as_text
+
 -- of text contents what is compared and saved: the raw text of a file, and an inline one without the indentation that its lines share
 abbrev pub text_in : SnapshotContents → Option (List ℕ)
 text_in (Text contents) = Some (compared_of contents)

@@ -83,7 +83,8 @@ fn headed_snapshot(alloc: Global, headed: Headed, path: Text) -> Result<Snapshot
     };
     let contents = contents_of(metadata.kind(), body);
     let (name, module) = names_of_path(alloc, &path)?;
-    Ok(Snapshot::from_components(module, Some(name), metadata, contents))
+    let snapshot = Snapshot::from_components(module, Some(name), metadata, contents);
+    Ok(snapshot.with_number_text(header.number_as_text))
 }
 
 /// The snapshot of a file without a header. The one error is want of memory.

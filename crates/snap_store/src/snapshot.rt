@@ -16,10 +16,11 @@ pub struct Snapshot {
     metadata: MetaData,
     contents: SnapshotContents,
     was_legacy: bool,
+    number_as_text: bool,
 }
 
 impl Snapshot {
-    ghost use Rattle.snap_store.specs.Views.{meta_of, module_in, name_in, meta_in, contents_in, legacy_in, text_in};
+    ghost use Rattle.snap_store.specs.Views.{meta_of, module_in, name_in, meta_in, contents_in, legacy_in, number_text_in, text_in};
 
     pub fn from_components(
         module_name: Text,
@@ -32,6 +33,7 @@ impl Snapshot {
         ensures metadata { meta_in result ≡ meta_of metadata }
         ensures contents { contents_in result ≡ contents }
         ensures legacy { legacy_in result ≡ false }
+        ensures number { number_text_in result ≡ false }
     {
         Snapshot {
             module_name,
@@ -39,6 +41,7 @@ impl Snapshot {
             metadata,
             contents,
             was_legacy: false,
+            number_as_text: false,
         }
     }
 
@@ -49,9 +52,25 @@ impl Snapshot {
         ensures metadata { meta_in result ≡ meta_in self }
         ensures contents { contents_in result ≡ contents_in self }
         ensures legacy { legacy_in result ≡ true }
+        ensures number { number_text_in result ≡ number_text_in self }
     {
         Snapshot {
             was_legacy: true,
+            ..self
+        }
+    }
+
+    /// The same snapshot, as it is read under a header that kept a number as a text, or that kept none.
+    pub(crate) fn with_number_text(self, kept: bool) -> Snapshot
+        ensures module { module_in result ≡ module_in self }
+        ensures name { name_in result ≡ name_in self }
+        ensures metadata { meta_in result ≡ meta_in self }
+        ensures contents { contents_in result ≡ contents_in self }
+        ensures legacy { legacy_in result ≡ legacy_in self }
+        ensures number { number_text_in result ≡ kept }
+    {
+        Snapshot {
+            number_as_text: kept,
             ..self
         }
     }
@@ -96,11 +115,11 @@ impl Snapshot {
         self.was_legacy
     }
 
-    /// Whether a number of the header was kept as a text. Such headers are not read yet.
+    /// Whether a number of the header was kept as a text.
     pub fn has_number_text(&self) -> bool
-        ensures { result ≡ false }
+        ensures { result ≡ number_text_in self.now }
     {
-        false
+        self.number_as_text
     }
 
     /// An equal snapshot.
@@ -110,6 +129,7 @@ impl Snapshot {
         ensures metadata { IfOk result (λ copy. meta_in copy ≡ meta_in self.now) }
         ensures contents { IfOk result (λ copy. contents_in copy ≡ contents_in self.now) }
         ensures legacy { IfOk result (λ copy. legacy_in copy ≡ legacy_in self.now) }
+        ensures number { IfOk result (λ copy. number_text_in copy ≡ number_text_in self.now) }
     {
         Ok(Snapshot {
             module_name: self.module_name.try_clone(alloc)?,
@@ -117,6 +137,7 @@ impl Snapshot {
             metadata: self.metadata.try_clone(alloc)?,
             contents: self.contents.try_clone(alloc)?,
             was_legacy: self.was_legacy,
+            number_as_text: self.number_as_text,
         })
     }
 }
