@@ -10,10 +10,10 @@ use Rattle.snap_place.specs.Place.{names_file}
 use Rattle.std.specs.Str.{IsUtf8, chars}
 use Rattle.snap_content.specs.declared.error.Error.{Error}
 use Rattle.snap_content.specs.declared.error.Error.TheVariants.{FailedParsingYaml, UnexpectedDataType, MissingField, FileIo, FloatText, JsonKey, NotText, NoFile, OutOfMemory}
-use Rattle.snap_emit.specs.Parsed.{IsReadFrom, RefusalEnd}
+use Rattle.snap_emit.specs.Parsed.{IsReadFrom, MayBeReadAs, RefusalEnd}
 use Rattle.snap_settings.specs.Redactions.{RedactionView}
 use Rattle.snap_request.specs.Requests.{RequestView, Spells, ReadsAs, needed, pair_count, request_keys, redactions_from, request_from, request_in, is_keyed}
-use Rattle.snap_request.proofs.Requesting.{reads_as, no_request_read}
+use Rattle.snap_request.proofs.Requesting.{no_request_read}
 
 others_same : (a b c d : t.Tree) (x y : t.TreePairs) → t.pair a b x ≡ t.pair c d y → x ≡ y
 others_same a b c d x y e = cc
@@ -61,16 +61,20 @@ request_made es module_name file name expr line made redactions keyed at_module 
     ∙ ap (λ b. cond b (request (p.content_of found.value)) None) is_file
     ∙ ap request (sym found.made_is)
 
--- the request in the tree that was read is the one that the document spells
+-- a document and its text are read as the same trees
+read_too : (document text : List ℕ) (tree : Plain) → text ≡ document → MayBeReadAs (chars text) tree → MayBeReadAs (chars document) tree
+read_too document text tree same read = λ t readable printed. read t readable (ap chars same ∙ printed)
+
+-- the document is read as the request in the tree that was read
 pub spelled : (document text : List ℕ) (content : Content) (request : RequestView) → text ≡ document → IsUtf8 document → (read : IsReadFrom content (chars text))
     → Some request ≡ request_in read.plain → ReadsAs document request
 spelled document text content request same utf8 read held =
-    reads_as document request (record { utf8 = utf8; tree = read.plain; readable = read.readable; printed = ap chars (sym same) ∙ read.text_is; request_is = sym held })
+    record { utf8 = utf8; tree = read.plain; read = read_too document text read.plain same read.printed; request_is = sym held }
 
 -- no request is spelled where none is in the tree that was read
 pub none_spelled : (document text : List ℕ) (content : Content) → text ≡ document → (read : IsReadFrom content (chars text))
     → None ≡ request_in read.plain → (r : RequestView) → Spells document r → ⊥
-none_spelled document text content same read held = no_request_read document read.plain read.readable (ap chars (sym same) ∙ read.text_is) (sym held)
+none_spelled document text content same read held = no_request_read document read.plain (read_too document text read.plain same read.printed) (sym held)
 
 -- nor where no tree was read
 pub none_parsed : (document text path : List ℕ) (error : Error) → text ≡ document → RefusalEnd (chars text) path error → (error ≡ OutOfMemory → ⊥)
@@ -79,7 +83,7 @@ none_parsed document text path (FailedParsingYaml named) same end other r s = en
 none_parsed document text path UnexpectedDataType same end other r s = end
 none_parsed document text path MissingField same end other r s = end
 none_parsed document text path (FileIo named) same end other r s = end
-none_parsed document text path (FloatText named) same end other r s = end
+none_parsed document text path (FloatText named) same end other r s = end.1 s.tree s.readable (ap chars same ∙ s.printed)
 none_parsed document text path JsonKey same end other r s = end
 none_parsed document text path (NotText named) same end other r s = end
 none_parsed document text path (NoFile named) same end other r s = end

@@ -4,6 +4,7 @@ use Rattle.snap_content.specs.Plain as p
 use Rattle.snap_content.specs.Plain.{Plain, dict, Entries}
 use Rattle.snap_content.specs.Lines.{document_of}
 use Rattle.snap_content.specs.Readable.{IsReadable}
+use Rattle.snap_emit.specs.Parsed.{MayBeReadAs}
 use Rattle.snap_plain.proofs.Injective.{texts_same}
 use Rattle.std.specs.Str.{chars}
 use Rattle.snap_store.specs.Fields.{last_value, text_value, line_value}
@@ -50,18 +51,24 @@ file_named (p.dict es) r e = from_entries_file es r (chosen_some (is_keyed reque
 same_request : (a b : RequestView) → Some a ≡ Some b → a ≡ b
 same_request a b e = cc
 
--- a document spells one request at most
-pub one_request : (document : List ℕ) (a b : RequestView) → Spells document a → Spells document b → b ≡ a
-one_request document a b s t =
-    let trees : s.tree ≡ t.tree = texts_same s.tree t.tree s.readable t.readable (ap (drop 4) (sym s.printed ∙ t.printed)) in
-    same_request b a (sym t.request_is ∙ ap request_in (sym trees) ∙ s.request_is)
-
+-- a document that spells a request is read as that one
 pub reads_as : (document : List ℕ) (r : RequestView) → Spells document r → ReadsAs document r
-reads_as document r s = record { spelled = s; only = λ other t. one_request document r other s t }
+reads_as document r s = record {
+  utf8 = s.utf8;
+  tree = s.tree;
+  read = λ t readable printed. texts_same s.tree t s.readable readable (ap (drop 4) (sym s.printed ∙ printed));
+  request_is = s.request_is;
+}
+
+-- a printed document is read only as the request that its tree is
+pub printed_read : (document : List ℕ) (r : RequestView) (t : Plain) → ReadsAs document r → IsReadable t → chars document ≡ document_of t → request_in t ≡ Some r
+printed_read document r t h readable printed = ap request_in (sym (h.read t readable printed)) ∙ h.request_is
+
+pub only_spelled : (document : List ℕ) (r other : RequestView) → Spells document r → ReadsAs document other → other ≡ r
+only_spelled document r other s h = same_request other r (sym (printed_read document other s.tree h s.readable s.printed) ∙ s.request_is)
 
 -- where no request is in the tree that was read, no request is spelled
-pub no_request_read : (document : List ℕ) (tree : Plain) → IsReadable tree → chars document ≡ document_of tree → request_in tree ≡ None → (r : RequestView) → Spells document r → ⊥
-no_request_read document tree readable printed none r s =
-    let trees : s.tree ≡ tree = texts_same s.tree tree s.readable readable (ap (drop 4) (sym s.printed ∙ printed)) in
-    let clash = sym s.request_is ∙ ap request_in trees ∙ none in
+pub no_request_read : (document : List ℕ) (tree : Plain) → MayBeReadAs (chars document) tree → request_in tree ≡ None → (r : RequestView) → Spells document r → ⊥
+no_request_read document tree read none r s =
+    let clash = sym s.request_is ∙ ap request_in (sym (read s.tree s.readable s.printed)) ∙ none in
     cc clash

@@ -6,6 +6,7 @@ use Rattle.snap_content.specs.Tree.{Tree}
 use Rattle.snap_select.specs.Selected.{selected}
 use Rattle.snap_content.specs.Lines.{document_of}
 use Rattle.snap_content.specs.Readable.{IsReadable}
+use Rattle.snap_emit.specs.Parsed.{MayBeReadAs}
 use Rattle.snap_store.specs.Fields.{last_value, text_value, line_value}
 use Rattle.snap_place.specs.Place.{names_file}
 use Rattle.snap_settings.specs.Redactions.{RedactionView}
@@ -90,10 +91,12 @@ pub record Spells (document : List ℕ) (request : RequestView) : Type 0 where
   pub printed : chars document ≡ document_of tree
   pub request_is : request_in tree ≡ Some request
 
--- a document is read as the one request that it spells
+-- a document may be read as a tree that is this request: where it is a printed text, only as the tree that was printed
 pub record ReadsAs (document : List ℕ) (request : RequestView) : Type 0 where
-  pub spelled : Spells document request
-  pub only : (other : RequestView) → Spells document other → other ≡ request
+  pub utf8 : IsUtf8 document
+  pub tree : Plain
+  pub read : MayBeReadAs (chars document) tree
+  pub request_is : request_in tree ≡ Some request
 
 -- as many requests as documents, each read of its document
 abbrev pub Reads : List (List ℕ) → List RequestView → Type 0

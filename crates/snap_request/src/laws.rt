@@ -1,11 +1,26 @@
 //! Laws of the documents of an input, and worked examples.
-ghost use Rattle.std.specs.Prelude.{◌≡◌, ◌∷◌, ℕ, List, [], codes};
+ghost use Rattle.std.specs.Prelude.{◌≡◌, ◌∷◌, ℕ, List, [], Some, codes};
 ghost use Rattle.std.specs.List.{concat};
+ghost use Rattle.std.specs.Str.{chars};
+ghost use Rattle.snap_content.specs.Lines.{document_of};
+ghost use Rattle.snap_content.specs.Plain.{Plain};
+ghost use Rattle.snap_content.specs.Readable.{IsReadable};
 ghost use Rattle.snap_request.specs.Cut.{documents};
+ghost use Rattle.snap_request.specs.Requests.{RequestView, Spells, ReadsAs, request_in};
 
 /// The documents of an input, one behind the other, are the input.
 pub const fn cut_loses_nothing()
     ensures { (input : List ℕ) → concat (documents input) ≡ input }
+{}
+
+/// A document that spells a request is read as that one alone. One that is printed of a tree is read only as the request that
+/// this tree is.
+pub const fn a_printed_document_is_read_as_it_is_spelled()
+    ensures read { (document : List ℕ) (r : RequestView) → Spells document r → ReadsAs document r }
+    ensures only { (document : List ℕ) (r other : RequestView) → Spells document r
+        → ReadsAs document other → other ≡ r }
+    ensures printed { (document : List ℕ) (r : RequestView) (t : Plain) → ReadsAs document r
+        → IsReadable t → chars document ≡ document_of t → request_in t ≡ Some r }
 {}
 
 /// Documents at concrete values.
