@@ -95,7 +95,7 @@ pub refused_no_pass : (path : List ℕ) (file : Option (List ℕ)) (tree : Plain
 refused_no_pass path file tree (NoFile named) h io memory = no_file file tree h.1
 refused_no_pass path file tree (NotText named) h io memory = no_pass file tree (λ k. text_or_none file k.whole h.1 k.there) (λ k. text_or_none file k.whole h.1 k.there)
 refused_no_pass path file tree (FailedParsingYaml named) h io memory =
-    no_pass file tree (λ k. h.1.none (dict k.entries) (subst (λ t. HasHeader t (dict k.entries)) (one_text file k.whole h.1.text k.there h.1.there) k.header))
+    no_pass file tree (λ k. h.1.unprinted (dict k.entries) (subst (λ t. HasHeader t (dict k.entries)) (one_text file k.whole h.1.text k.there h.1.there) k.header))
     (has_header file h.1.text h.1.there h.1.headed)
 refused_no_pass path file tree UnexpectedDataType h io memory =
     no_pass file tree (λ k. h.other k.entries (one_reading file h.text k.whole h.tree (dict k.entries) h.there h.header k.there k.header).tree)
@@ -185,16 +185,13 @@ kind_binary file true text meta there t h = absurd (headed_or_not file h.whole t
 -- a file that was read is understood
 read_or_unread : (file : Option (List ℕ)) (was : Bool) (text : List ℕ) (meta : Meta) → IsTextFile file text → Tells was text meta → IsUnread file → ⊥
 read_or_unread file was text meta there t (inl h) = text_or_none file text h there
-read_or_unread file true text meta there t (inr (inl h)) = headed_or_not file h.text text h.there there h.headed t.unheaded
-read_or_unread file true text meta there t (inr (inr (inl h))) = headed_or_not file h.text text h.there there h.header.headed t.unheaded
-read_or_unread file true text meta there t (inr (inr (inr h))) = headed_or_not file h.text text h.there there h.header.headed t.unheaded
+read_or_unread file true text meta there t (inr (inl h)) = headed_or_not file h.whole text h.there there h.header.headed t.unheaded
+read_or_unread file true text meta there t (inr (inr h)) = headed_or_not file h.whole text h.there there h.header.headed t.unheaded
 read_or_unread file false text meta there t (inr (inl h)) =
-    h.none (dict t.entries) (subst (λ x. HasHeader x (dict t.entries)) (one_text file text h.text there h.there) t.header)
-read_or_unread file false text meta there t (inr (inr (inl h))) =
-    h.other t.entries (one_reading file h.text text h.tree (dict t.entries) h.there h.header there t.header).tree
-read_or_unread file false text meta there t (inr (inr (inr h))) =
-    let same : h.entries ≡ t.entries = entries_same h.entries t.entries (one_reading file h.text text (dict h.entries) (dict t.entries) h.there h.header there t.header).tree in
-    let e = sym h.lacking ∙ ap kind_in same ∙ t.kind_is in cc e
+    h.other t.entries (sym (one_reading file text h.whole (dict t.entries) h.tree there t.header h.there h.header).tree)
+read_or_unread file false text meta there t (inr (inr h)) =
+    let same : t.entries ≡ h.entries = entries_same t.entries h.entries (one_reading file text h.whole (dict t.entries) (dict h.entries) there t.header h.there h.header).tree in
+    let e = sym h.lacking ∙ ap kind_in (sym same) ∙ t.kind_is in cc e
 
 -- a text that was read passes where its body agrees
 agreement_passes : (file : Option (List ℕ)) (tree : Plain) (snapshot : Snapshot) (new : SnapshotContents) (passed : Bool) (r : IsReadAs file snapshot)

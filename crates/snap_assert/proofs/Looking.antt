@@ -13,8 +13,8 @@ use Rattle.snap_text.specs.declared.contents.TextSnapshotKind.TheVariants.{File}
 use Rattle.snap_text.specs.Normal.{normal}
 use Rattle.snap_store.specs.FileSplit.{body_of}
 use Rattle.snap_store.specs.Meta.{Meta}
-use Rattle.snap_store.specs.Reading.{IsTextFile, IsReadAs, IsReadFrom, IsRefused, HoldsBody, Tells}
-use Rattle.snap_store.specs.Views.{meta_in, contents_in, legacy_in, text_in, IsFileText}
+use Rattle.snap_store.specs.Reading.{IsTextFile, HasUnprintedHeader, IsReadAs, IsReadFrom, IsRefused, HoldsBody, Tells}
+use Rattle.snap_store.specs.Views.{meta_in, contents_in, legacy_in, number_text_in, text_in, IsFileText}
 use Rattle.snap_store.specs.declared.contents.SnapshotContents.{SnapshotContents}
 use Rattle.snap_store.specs.declared.contents.SnapshotContents.TheVariants.{Text, Binary}
 use Rattle.snap_store.specs.declared.metadata.SnapshotKind.{SnapshotKind}
@@ -22,7 +22,7 @@ use Rattle.snap_store.specs.declared.metadata.SnapshotKind.TheVariants as kind
 use Rattle.snap_store.specs.declared.snapshot.Snapshot.{Snapshot}
 use Rattle.snap_assert.specs.Judging.{May}
 use Rattle.snap_assert.specs.Steps.{Asked}
-use Rattle.snap_assert.specs.Outcomes.{AreWarnings, PassWarns, IsNotUnderstood, warnings_in}
+use Rattle.snap_assert.specs.Outcomes.{AreWarnings, PassWarns, IsHeadedFile, IsNotUnderstood, warnings_in}
 use Rattle.snap_assert.specs.Prepared.{IsPrepared, IsJudged, TextsMatch, TextsDiffer, OlderAs, NoPass, RefusedEnd, IsCompared, said_if, said}
 use Rattle.snap_assert.specs.Kept.{NamesOnly}
 use Rattle.snap_assert.specs.declared.error.AssertError.{AssertError}
@@ -32,7 +32,7 @@ use Rattle.snap_assert.specs.declared.outcome.Warning.{Warning}
 use Rattle.snap_assert.specs.declared.outcome.Warning.TheVariants.{Unreadable, LegacyContents}
 use Rattle.snap_assert.specs.declared.prepare.Prepared.{Prepared}
 use Rattle.snap_assert.proofs.Judgements.{read_judged, refused_no_pass}
-use Rattle.snap_assert.proofs.Readings.{one_text}
+use Rattle.snap_assert.proofs.Readings.{one_text, headed_or_not}
 use Rattle.snap_content.proofs.Booleans.{some_same}
 
 no_warning : (path : List ℕ) (file : Option (List ℕ)) (passed : Bool) (printed : List ℕ) (ws : List Warning) → ws ≡ [] → AreWarnings path file passed printed [] → AreWarnings path file passed printed ws
@@ -81,43 +81,48 @@ warned_pass file snapshot new passed true printed r e agrees how = (
       (ap (λ t. normal (body_of t)) (one_text file r.text b.whole r.there b.there) ∙ b.same),
 )
 
--- what is said of a file that was read
-warned_file : (path : List ℕ) (file : Option (List ℕ)) (was older passed : Bool) (text printed : List ℕ) (meta : Meta) → IsTextFile file text → Tells was text meta
-    → PassWarns file passed printed (said_if older LegacyContents) → AreWarnings path file passed printed (said was older)
-warned_file path file true older passed text printed meta there t h = (record { whole = text; there = there; unheaded = t.unheaded }, h)
-warned_file path file false false passed text printed meta there t h =
-    inr (record { whole = text; there = there; entries = t.entries; header = t.header; kind = t.kind; kind_is = t.kind_is }, h)
-warned_file path file false true passed text printed meta there t h =
-    inr (record { whole = text; there = there; entries = t.entries; header = t.header; kind = t.kind; kind_is = t.kind_is }, h)
+headed_file : (file : Option (List ℕ)) (text : List ℕ) (meta : Meta) → IsTextFile file text → Tells false text meta → IsHeadedFile file
+headed_file file text meta there t = record { whole = text; there = there; entries = t.entries; header = t.header; kind = t.kind; kind_is = t.kind_is }
+
+-- what is said of a file that was read; one without a header keeps no number as a text
+warned_file : (path : List ℕ) (file : Option (List ℕ)) (was number older passed : Bool) (text printed : List ℕ) (meta : Meta) → IsTextFile file text → Tells was text meta
+    → (number ≡ true → HasUnprintedHeader file) → PassWarns file passed printed (said_if older LegacyContents) → AreWarnings path file passed printed (said was number older)
+warned_file path file true true older passed text printed meta there t kept h =
+    let u = kept refl in absurd (headed_or_not file u.text text u.there there u.headed t.unheaded)
+warned_file path file true false older passed text printed meta there t kept h = (record { whole = text; there = there; unheaded = t.unheaded }, h)
+warned_file path file false true older passed text printed meta there t kept h = (headed_file file text meta there t, kept refl, h)
+warned_file path file false false false passed text printed meta there t kept h = inr (headed_file file text meta there t, h)
+warned_file path file false false true passed text printed meta there t kept h = inr (headed_file file text meta there t, h)
 
 -- a file that was read is judged by the comparison
 read_compared : (asked : Asked) (m : Files) (file : Option (List ℕ)) (snapshot : Snapshot) (new : SnapshotContents) (judged : Judged)
-    → file ≡ get m asked.path → IsReadAs file snapshot → text_in new ≡ Some (text_of asked.tree) → IsFileText new → IsCompared (legacy_in snapshot) (contents_in snapshot) new judged
+    → file ≡ get m asked.path → IsReadAs file snapshot → text_in new ≡ Some (text_of asked.tree) → IsFileText new → IsCompared (legacy_in snapshot) (number_text_in snapshot) (contents_in snapshot) new judged
     → IsJudged asked m judged
 read_compared asked m file snapshot new judged is r printed in_file c =
     let May_at : Option (List ℕ) → Type 0 = λ f. May judged.passed f asked.tree in
     let Warned_at : Option (List ℕ) → Type 0 = λ f. AreWarnings asked.path f judged.passed (text_of asked.tree) (warnings_in judged.warnings) in
     let Warned_by : List Warning → Type 0 = λ ws. AreWarnings asked.path file judged.passed (text_of asked.tree) ws in
     let pass = warned_pass file snapshot new judged.passed c.older (text_of asked.tree) r printed (λ yes. c.tells.0 yes) c.older_is in
-    let warned = warned_file asked.path file (legacy_in snapshot) c.older judged.passed r.text (text_of asked.tree) (meta_in snapshot) r.there r.metadata pass in
+    let warned = warned_file asked.path file (legacy_in snapshot) (number_text_in snapshot) c.older judged.passed r.text (text_of asked.tree) (meta_in snapshot) r.there r.metadata r.numbers pass in
     record {
       allowed = subst May_at is (read_judged file asked.tree snapshot new judged.passed r (record { tells = c.tells; printed_is = printed; in_file = in_file }));
       warned = subst Warned_at is (subst Warned_by (sym c.said_is) warned);
     }
 
-compared_with : (was : Bool) (old new : SnapshotContents) (judged : Judged) (snapshot : Snapshot) → was ≡ legacy_in snapshot → old ≡ contents_in snapshot
-    → IsCompared was old new judged → IsCompared (legacy_in snapshot) (contents_in snapshot) new judged
-compared_with was old new judged snapshot was_is old_is c =
-    let By_kind : Bool → Type 0 = λ b. IsCompared b (contents_in snapshot) new judged in
-    let By_old : SnapshotContents → Type 0 = λ x. IsCompared was x new judged in
-    subst By_kind was_is (subst By_old old_is c)
+compared_with : (was number : Bool) (old new : SnapshotContents) (judged : Judged) (snapshot : Snapshot) → was ≡ legacy_in snapshot → number ≡ number_text_in snapshot
+    → old ≡ contents_in snapshot → IsCompared was number old new judged → IsCompared (legacy_in snapshot) (number_text_in snapshot) (contents_in snapshot) new judged
+compared_with was number old new judged snapshot was_is number_is old_is c =
+    let By_kind : Bool → Type 0 = λ b. IsCompared b (number_text_in snapshot) (contents_in snapshot) new judged in
+    let By_number : Bool → Type 0 = λ b. IsCompared was b (contents_in snapshot) new judged in
+    let By_old : SnapshotContents → Type 0 = λ x. IsCompared was number x new judged in
+    subst By_kind was_is (subst By_number number_is (subst By_old old_is c))
 
-pub judge_read : (asked : Asked) (m : Files) (prepared : Prepared) (files : Option Files) (snapshot : Snapshot) (was : Bool) (old new : SnapshotContents) (judged : Judged)
-    → IsPrepared asked prepared → files ≡ Some m → IsReadFrom prepared.path files (Ok snapshot) → was ≡ legacy_in snapshot → old ≡ contents_in snapshot
-    → new ≡ contents_in prepared.snapshot → IsCompared was old new judged → IsJudged asked m judged
-judge_read asked m prepared files snapshot was old new judged p told r was_is old_is new_is c =
+pub judge_read : (asked : Asked) (m : Files) (prepared : Prepared) (files : Option Files) (snapshot : Snapshot) (was number : Bool) (old new : SnapshotContents) (judged : Judged)
+    → IsPrepared asked prepared → files ≡ Some m → IsReadFrom prepared.path files (Ok snapshot) → was ≡ legacy_in snapshot → number ≡ number_text_in snapshot
+    → old ≡ contents_in snapshot → new ≡ contents_in prepared.snapshot → IsCompared was number old new judged → IsJudged asked m judged
+judge_read asked m prepared files snapshot was number old new judged p told r was_is number_is old_is new_is c =
     read_compared asked m r.file snapshot new judged (r.told m told ∙ ap (get m) p.path) r.comes_to (ap (λ x. text_in x) new_is ∙ p.printed) (subst (λ x. IsFileText x) (sym new_is) p.in_file)
-    (compared_with was old new judged snapshot was_is old_is c)
+    (compared_with was number old new judged snapshot was_is number_is old_is c)
 
 not_passed : (asked : Asked) (m : Files) (file : Option (List ℕ)) (judged : Judged) → file ≡ get m asked.path → judged.passed ≡ false
     → May false file asked.tree → AreWarnings asked.path file judged.passed (text_of asked.tree) (warnings_in judged.warnings) → IsJudged asked m judged

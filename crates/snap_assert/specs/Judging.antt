@@ -6,9 +6,9 @@ use Rattle.snap_content.specs.Readable.{IsReadable}
 use Rattle.snap_text.specs.Legacy.{legacy}
 use Rattle.snap_text.specs.Normal.{normal}
 use Rattle.snap_store.specs.FileSplit.{is_headed, body_of}
-use Rattle.snap_store.specs.Fields.{is_named, is_binary}
+use Rattle.snap_store.specs.Fields.{is_named, is_binary, kind_in}
 use Rattle.snap_store.specs.Image.{file_of}
-use Rattle.snap_store.specs.Reading.{IsTextFile, HasHeader, IsNoText, HasNoHeader, HasOtherHeader, LacksExtension}
+use Rattle.snap_store.specs.Reading.{IsTextFile, HasHeader, IsNoText}
 
 -- the file's body agrees with the text
 pub record BodyAgrees (file : Option (List ℕ)) (printed : List ℕ) : Type 0 where
@@ -49,9 +49,25 @@ pub record IsLegacyFile (file : Option (List ℕ)) : Type 0 where
   pub there : IsTextFile file whole
   pub unheaded : is_headed whole ≡ false
 
--- the file isn't understood: it is no text, or its header is not that of a snapshot
+-- the header is a printed tree that is no dict
+pub record HasNoDict (file : Option (List ℕ)) : Type 0 where
+  pub whole : List ℕ
+  pub there : IsTextFile file whole
+  pub tree : Plain
+  pub header : HasHeader whole tree
+  pub other : (entries : Entries) → tree ≡ dict entries → ⊥
+
+-- the header is a printed dict that says binary, without a text `extension`
+pub record HasNoKind (file : Option (List ℕ)) : Type 0 where
+  pub whole : List ℕ
+  pub there : IsTextFile file whole
+  pub entries : Entries
+  pub header : HasHeader whole (dict entries)
+  pub lacking : kind_in entries ≡ None
+
+-- the file isn't understood: it is no text, or its header is printed, and is not that of a snapshot
 abbrev pub IsUnread : Option (List ℕ) → Type 0
-IsUnread file = IsNoText file ⊎ (HasNoHeader file ⊎ (HasOtherHeader file ⊎ LacksExtension file))
+IsUnread file = IsNoText file ⊎ (HasNoDict file ⊎ HasNoKind file)
 
 -- the file was saved for a tree, under a canonical header
 pub record IsSavedFor (file : Option (List ℕ)) (tree : Plain) : Type 0 where

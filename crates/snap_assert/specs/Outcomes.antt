@@ -8,7 +8,7 @@ use Rattle.snap_content.specs.declared.error.Error.TheVariants.{FailedParsingYam
 use Rattle.snap_outside.specs.Causes.{Rose}
 use Rattle.snap_outside.specs.Files.{Files}
 use Rattle.snap_store.specs.Fields.{kind_in}
-use Rattle.snap_store.specs.Reading.{IsTextFile, HasHeader, IsRefused}
+use Rattle.snap_store.specs.Reading.{IsTextFile, ReadsHeader, HasUnprintedHeader, IsRefused}
 use Rattle.snap_store.specs.declared.metadata.SnapshotKind.{SnapshotKind}
 use Rattle.snap_assert.specs.Judging.{BodyMatches, IsLegacyFile, May}
 use Rattle.snap_assert.specs.Assertions.{Assertion, Left, asked_in, assertion_step}
@@ -19,7 +19,7 @@ use Rattle.snap_assert.specs.declared.error.AssertError.{AssertError}
 use Rattle.snap_assert.specs.declared.error.AssertError.TheVariants.{FileIo, OutOfMemory}
 use Rattle.snap_assert.specs.declared.outcome.Outcome.{Outcome}
 use Rattle.snap_assert.specs.declared.outcome.Warning.{Warning}
-use Rattle.snap_assert.specs.declared.outcome.Warning.TheVariants.{LegacyFile, Unreadable, LegacyContents}
+use Rattle.snap_assert.specs.declared.outcome.Warning.TheVariants.{LegacyFile, NumberAsText, Unreadable, LegacyContents}
 use Rattle.snap_assert.specs.declared.outcome.Warnings.{Warnings}
 
 abbrev pub warnings_in : Warnings → List Warning
@@ -30,7 +30,7 @@ pub record IsHeadedFile (file : Option (List ℕ)) : Type 0 where
   pub whole : List ℕ
   pub there : IsTextFile file whole
   pub entries : Entries
-  pub header : HasHeader whole (dict entries)
+  pub header : ReadsHeader whole (dict entries)
   pub kind : SnapshotKind
   pub kind_is : kind_in entries ≡ Some kind
 
@@ -48,10 +48,12 @@ PassWarns file passed printed [] = passed ≡ true → BodyMatches file printed
 PassWarns file passed printed (LegacyContents ∷ []) = (passed ≡ true) × (BodyMatches file printed → ⊥)
 PassWarns file passed printed _ = ⊥
 
--- that a file isn't understood is said alone, and that it is of the oldest format first
+-- that a file isn't understood is said alone; that it is of the oldest format, or that its header, which is no printed one,
+-- kept a number as a text, is said first
 abbrev pub AreWarnings : List ℕ → Option (List ℕ) → Bool → List ℕ → List Warning → Type 0
 AreWarnings path file passed printed (Unreadable error ∷ []) = IsNotUnderstood path file error
 AreWarnings path file passed printed (LegacyFile ∷ more) = IsLegacyFile file × PassWarns file passed printed more
+AreWarnings path file passed printed (NumberAsText ∷ more) = IsHeadedFile file × HasUnprintedHeader file × PassWarns file passed printed more
 AreWarnings path file passed printed warnings = ((file ≡ None) × (warnings ≡ [])) ⊎ (IsHeadedFile file × PassWarns file passed printed warnings)
 
 -- what the step leaves of these files and of what is remembered

@@ -19,7 +19,7 @@ use Rattle.snap_content.specs.declared.error.Error.TheVariants as refusal
 use Rattle.snap_assert.specs.declared.error.AssertError.{AssertError}
 use Rattle.snap_assert.specs.declared.error.AssertError.TheVariants.{FileIo, OutOfMemory}
 use Rattle.snap_assert.specs.declared.outcome.Warning.{Warning}
-use Rattle.snap_assert.specs.declared.outcome.Warning.TheVariants.{LegacyFile, Unreadable, LegacyContents}
+use Rattle.snap_assert.specs.declared.outcome.Warning.TheVariants.{LegacyFile, NumberAsText, Unreadable, LegacyContents}
 use Rattle.snap_assert.specs.declared.prepare.Prepared.{Prepared}
 use Rattle.snap_assert.specs.declared.look.Judged.{Judged}
 use Rattle.snap_assert.specs.declared.look.Seen.{Seen}
@@ -80,16 +80,16 @@ abbrev pub said_if : Bool → Warning → List Warning
 said_if true warning = warning ∷ []
 said_if false warning = []
 
--- what is said of a file of the oldest format, and of a pass by the older form alone
-abbrev pub said : Bool → Bool → List Warning
-said was_legacy older = said_if was_legacy LegacyFile ++ said_if older LegacyContents
+-- what is said of a file of the oldest format, of a number that is kept as a text, and of a pass by the older form alone
+abbrev pub said : Bool → Bool → Bool → List Warning
+said was_legacy number_as_text older = said_if was_legacy LegacyFile ++ said_if number_as_text NumberAsText ++ said_if older LegacyContents
 
 -- a pass exactly where both contents agree
-pub record IsCompared (was_legacy : Bool) (old new : SnapshotContents) (judged : Judged) : Type 0 where
+pub record IsCompared (was_legacy number_as_text : Bool) (old new : SnapshotContents) (judged : Judged) : Type 0 where
   pub tells : IsTrue judged.passed ↔ Agree old new
   pub older : Bool
   pub older_is : OlderAs judged.passed older (text_in old) (text_in new)
-  pub said_is : warnings_in judged.warnings ≡ said was_legacy older
+  pub said_is : warnings_in judged.warnings ≡ said was_legacy number_as_text older
 
 -- a missing file is no pass, a fault and want of memory are handed on, and any other refusal is a warning
 abbrev pub RefusedEnd : Error → Result Judged AssertError → Type 0

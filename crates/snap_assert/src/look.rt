@@ -107,12 +107,21 @@ fn passes_by_older_form(
 }
 
 /// What is to be said of a file that was read.
-fn file_warnings(alloc: Global, was_legacy: bool, older: bool) -> Result<Warnings, OutOfMemory>
-    ensures { IfOk result (λ warnings. warnings_in warnings ≡ said was_legacy older) }
+fn file_warnings(
+    alloc: Global,
+    was_legacy: bool,
+    number_as_text: bool,
+    older: bool,
+) -> Result<Warnings, OutOfMemory>
+    ensures { IfOk result (λ warnings.
+        warnings_in warnings ≡ said was_legacy number_as_text older) }
 {
     let mut warnings = Warnings::new(alloc);
     if was_legacy {
         warnings.push(Warning::LegacyFile)?;
+    }
+    if number_as_text {
+        warnings.push(Warning::NumberAsText)?;
     }
     if older {
         warnings.push(Warning::LegacyContents)?;
@@ -124,14 +133,16 @@ fn file_warnings(alloc: Global, was_legacy: bool, older: bool) -> Result<Warning
 fn compare(
     alloc: Global,
     was_legacy: bool,
+    number_as_text: bool,
     old: &SnapshotContents,
     new: &SnapshotContents,
 ) -> Result<Judged, OutOfMemory>
-    ensures { IfOk result (λ judged. IsCompared was_legacy old.now new.now judged) }
+    ensures { IfOk result (λ judged.
+        IsCompared was_legacy number_as_text old.now new.now judged) }
 {
     let passed = old.agrees(alloc, new)?;
     let older = passes_by_older_form(alloc, passed, old, new)?;
-    let warnings = file_warnings(alloc, was_legacy, older)?;
+    let warnings = file_warnings(alloc, was_legacy, number_as_text, older)?;
     Ok(Judged { passed, warnings })
 }
 
@@ -150,6 +161,7 @@ fn judge<S: Store>(alloc: Global, store: &mut S, prepared: &Prepared) -> Result<
     match compare(
         alloc,
         old.was_legacy(),
+        old.has_number_text(),
         old.contents(),
         prepared.snapshot.contents(),
     ) {

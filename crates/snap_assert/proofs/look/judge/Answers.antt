@@ -3,8 +3,8 @@ use Rattle.snap_assert.proofs.look.judge.Goals as goal
 
 pub returns-in-Ok-compare-clause-judged : goal.returns-in-Ok-compare-clause-judged
 returns-in-Ok-compare-clause-judged g c = λ asked m prepared told.
-    judge_read asked m c.args.prepared.now _ c.in-Ok.old c.was_legacy.result c.contents.result.now c.contents-2.result.now c.in-Ok-compare.judged prepared told
-    c.in-Ok.ensures.end c.was_legacy.ensures c.contents.ensures c.contents-2.ensures c.in-Ok-compare.ensures
+    judge_read asked m c.args.prepared.now _ c.in-Ok.old c.was_legacy.result c.has_number_text.result c.contents.result.now c.contents-2.result.now c.in-Ok-compare.judged prepared told
+    c.in-Ok.ensures.end c.was_legacy.ensures c.has_number_text.ensures c.contents.ensures c.contents-2.ensures c.in-Ok-compare.ensures
 
 pub returns-in-Err-clause-judged : goal.returns-in-Err-clause-judged
 returns-in-Err-clause-judged g c = all_judged c.args.prepared.now _ c.refused.result (λ asked m prepared told.
