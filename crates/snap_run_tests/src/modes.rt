@@ -335,3 +335,21 @@ fn warns_of_an_older_form(rt: HostRuntime) -> Result<(), Fail> {
     assert!(rt; matches!(older.warnings.get(0), Some(Warning::LegacyContents)));
     Ok(())
 }
+
+/// A header that keeps a number as its text, and one in another form that keeps none.
+const FLOAT_INFO: &str = "---\nsource: src/a.rs\nexpression: x\ninfo:\n  x: 1.5\n---\na: 1\n";
+
+const FLOW_HEADER: &str = "---\n{source: src/a.rs, info: [15, '1.5']} # by hand\n---\na: 1\n";
+
+#[test]
+fn warns_of_a_number_that_is_kept_as_a_text(rt: HostRuntime) -> Result<(), Fail> {
+    let alloc = rt.alloc();
+    let float = answer(alloc, FLOAT_INFO)?;
+    assert!(rt; float.verdict == Verdict::Passed);
+    assert_eq!(rt; float.warnings.len(), 1);
+    assert!(rt; matches!(float.warnings.get(0), Some(Warning::NumberAsText)));
+    let flow = answer(alloc, FLOW_HEADER)?;
+    assert!(rt; flow.verdict == Verdict::Passed);
+    assert_eq!(rt; flow.warnings.len(), 0);
+    Ok(())
+}
