@@ -13,7 +13,7 @@ pub returns-in-Err-OutOfMemory-clause-err : goal.returns-in-Err-OutOfMemory-clau
 returns-in-Err-OutOfMemory-clause-err g c = unchanged_before (words_of c.args.runner.now) c.args.document.now _ _ refl
 
 pub place_of_request-requires : goal.place_of_request-requires
-place_of_request-requires g c = file_named c.in-Ok.ensures.ok.spelled.tree _ c.in-Ok.ensures.ok.spelled.request_is
+place_of_request-requires g c = file_named c.in-Ok.ensures.ok.tree _ c.in-Ok.ensures.ok.request_is
 
 pub returns-in-Err-clause-err : goal.returns-in-Err-clause-err
 returns-in-Err-clause-err g c = unchanged_before (words_of c.args.runner.now) c.args.document.now _ _ refl
