@@ -4,3 +4,5 @@ pub mod Naming
 pub mod Signs
 pub mod Standing
 pub mod Openings
+pub mod Taken
+pub mod TreeRuns
