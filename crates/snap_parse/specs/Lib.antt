@@ -3,3 +3,4 @@ pub mod Steps
 pub mod Loader
 pub mod Loaded
 pub mod PrintedEvents
+pub mod PrintedValues

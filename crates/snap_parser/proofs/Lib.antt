@@ -6,3 +6,5 @@ pub mod Standing
 pub mod Openings
 pub mod Taken
 pub mod TreeRuns
+pub mod Giving
+pub mod Following

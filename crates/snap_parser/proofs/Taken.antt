@@ -7,7 +7,7 @@ use Rattle.snap_token.specs.declared.token.TokenType.{TokenType}
 use Rattle.snap_scan.specs.Owed.{IsFirst, GivesOwed, type_of}
 use Rattle.snap_scan.specs.Scan.{Scan}
 use Rattle.snap_parser.specs.declared.tokens.Tokens.{Tokens}
-use Rattle.snap_parser.specs.Taking.{WillGive, WillTakeFrom, WillTake, IsTakenFirst, TakesFirst}
+use Rattle.snap_parser.specs.Taking.{WillTakeFrom, WillTake, IsTakenFirst, TakesFirst}
 
 first-taken : (t : Token) (new : Scan) (ts : List TokenType) → new.error ≡ None → IsFirst t new.state ts → IsTakenFirst t (record { scanner = new; held = None }) ts
 first-taken t new [] kept is = absurd is

@@ -9,13 +9,13 @@ use Rattle.snap_scan.specs.Scan.{Scan}
 use Rattle.snap_parser.specs.declared.tokens.Tokens.{Tokens}
 
 -- a scanner that hasn't failed owes these tokens
-abbrev pub WillGive : Scan → List TokenType → Type 0
-WillGive scan ts = (scan.error ≡ None) × Owes scan.state ts
+abbrev pub OwesAll : Scan → List TokenType → Type 0
+OwesAll scan ts = (scan.error ≡ None) × Owes scan.state ts
 
 abbrev pub WillTakeFrom : Option Token → Scan → List TokenType → Type 0
-WillTakeFrom None scan ts = WillGive scan ts
+WillTakeFrom None scan ts = OwesAll scan ts
 WillTakeFrom (Some t) scan [] = ⊥
-WillTakeFrom (Some t) scan (y ∷ ys) = (type_of t ≡ y) × WillGive scan ys
+WillTakeFrom (Some t) scan (y ∷ ys) = (type_of t ≡ y) × OwesAll scan ys
 
 -- the token that was put back, and then those that the scanner owes
 abbrev pub WillTake : Tokens → List TokenType → Type 0
