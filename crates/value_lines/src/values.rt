@@ -2,8 +2,9 @@
 //!
 //! `s` and a text, `r` and the text of a number, `i` and a whole number, `t`, `f`, `n` for null, `b` for a bad value; `a` and how
 //! many of the values before it are the items; `h` and how many pairs of the values before it are the entries.
-//! In a text `\n`, `\r`, `\0`, `\t` and `\\` stand for these characters.
-use snap_content::{OutOfMemory, Text};
+//! A text stands there as `row_lines` writes it.
+use row_lines::text_of;
+use snap_content::OutOfMemory;
 use snap_yaml::{Array, Hash, Yaml};
 use std::alloc::Global;
 
@@ -94,31 +95,4 @@ fn hash_of(alloc: Global, held: &mut Vec<Yaml>, rest: &str) -> Result<Option<Yam
     }
     pairs.reverse();
     Ok(Some(Yaml::Hash(Hash::from_vec(pairs))))
-}
-
-/// The text that is written on one line.
-fn text_of(alloc: Global, line: &str) -> Result<Text, OutOfMemory> {
-    let mut text = Text::empty();
-    let mut is_escaped = false;
-    for c in line.chars() {
-        if is_escaped {
-            text.push(alloc, unescaped(c))?;
-            is_escaped = false;
-        } else if c == '\\' {
-            is_escaped = true;
-        } else {
-            text.push(alloc, c)?;
-        }
-    }
-    Ok(text)
-}
-
-fn unescaped(c: char) -> char {
-    match c {
-        'n' => '\n',
-        'r' => '\r',
-        't' => '\t',
-        '0' => '\0',
-        _ => c,
-    }
 }
