@@ -1,5 +1,5 @@
 -- Texts as they stand on a line.
-use Rattle.std.specs.Prelude.{ℕ, List, [], ◌∷◌, ◌==◌, codes}
+use Rattle.std.specs.Prelude.{ℕ, List, [], ◌∷◌, ◌==◌, if◌then◌else◌, codes}
 
 -- a character on a line
 abbrev pub shown : ℕ → List ℕ

@@ -3,6 +3,7 @@
 #![tactic(auto)]
 
 pub mod answers;
+pub mod laws;
 pub mod lines;
 
 pub use answers::answer_lines;
