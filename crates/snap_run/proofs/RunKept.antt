@@ -8,8 +8,8 @@ use Rattle.snap_outside.specs.Files.{Files}
 use Rattle.snap_run.specs.Answers.{Answer, RunWords, asked_by, requests_of, step_of, files_after}
 use Rattle.snap_request.specs.Cut.{documents}
 use Rattle.snap_assert.specs.Kept.{Keeps, IsKeptOrGone, is_written, may_change}
-use Rattle.snap_request.specs.Requests.{Reads}
-use Rattle.snap_run.specs.RunKept.{Spares, KeptByRun}
+use Rattle.snap_request.specs.Requests.{RequestView, Reads}
+use Rattle.snap_run.specs.RunKept.{AreRead, IsSpared, KeptByRun}
 use Rattle.snap_run.specs.Runs.{Ran, Stops, StopsAt, IsInWork, MemoryFails, LineFails}
 use Rattle.snap_run.specs.Status.{RunsTo, RunsBy, RunsFrom}
 use Rattle.snap_run.specs.declared.documents.DocumentError.{DocumentError}
@@ -33,43 +33,60 @@ step_other words a m q h =
     let k = kept_at_step words a m in
     ap (λ f. get f q) (some_same (step_of words a m) k.files k.told) ∙ k.others q h
 
-after_unwritten : (words : RunWords) (docs : List (List ℕ)) (answers : List Answer) (m : Files) (q : List ℕ) → Reads docs (requests_of answers) → All (Spares words is_written q) docs
-    → IsKeptOrGone (get m q) (get (files_after words answers m) q)
-after_unwritten words [] [] m q reads spared = inl refl
-after_unwritten words [] (a ∷ answers) m q reads spared = absurd reads
-after_unwritten words (d ∷ docs) [] m q reads spared = absurd reads
-after_unwritten words (d ∷ docs) (a ∷ answers) m q reads spared =
-    gone_after (get m q) (get (step_of words a m) q) _ (step_unwritten words a m q (All-head (Spares words is_written q) d docs spared a.request reads.0))
-    (after_unwritten words docs answers (step_of words a m) q reads.1 (All-tail (Spares words is_written q) d docs spared))
+after_unwritten : (words : RunWords) (answers : List Answer) (m : Files) (q : List ℕ) → All (IsSpared words is_written q) (requests_of answers) → IsKeptOrGone (get m q) (get (files_after words answers m) q)
+after_unwritten words [] m q spared = inl refl
+after_unwritten words (a ∷ answers) m q spared =
+    gone_after (get m q) (get (step_of words a m) q) _ (step_unwritten words a m q (All-head (IsSpared words is_written q) a.request (requests_of answers) spared))
+    (after_unwritten words answers (step_of words a m) q (All-tail (IsSpared words is_written q) a.request (requests_of answers) spared))
 
-after_other : (words : RunWords) (docs : List (List ℕ)) (answers : List Answer) (m : Files) (q : List ℕ) → Reads docs (requests_of answers) → All (Spares words may_change q) docs
-    → get (files_after words answers m) q ≡ get m q
-after_other words [] [] m q reads spared = refl
-after_other words [] (a ∷ answers) m q reads spared = absurd reads
-after_other words (d ∷ docs) [] m q reads spared = absurd reads
-after_other words (d ∷ docs) (a ∷ answers) m q reads spared =
-    after_other words docs answers (step_of words a m) q reads.1 (All-tail (Spares words may_change q) d docs spared)
-    ∙ step_other words a m q (All-head (Spares words may_change q) d docs spared a.request reads.0)
+after_other : (words : RunWords) (answers : List Answer) (m : Files) (q : List ℕ) → All (IsSpared words may_change q) (requests_of answers) → get (files_after words answers m) q ≡ get m q
+after_other words [] m q spared = refl
+after_other words (a ∷ answers) m q spared =
+    after_other words answers (step_of words a m) q (All-tail (IsSpared words may_change q) a.request (requests_of answers) spared)
+    ∙ step_other words a m q (All-head (IsSpared words may_change q) a.request (requests_of answers) spared)
+
+all_read : (docs : List (List ℕ)) (requests : List RequestView) → Reads docs requests → AreRead docs requests
+all_read [] [] reads = tt
+all_read [] (r ∷ rs) reads = absurd reads
+all_read (d ∷ docs) [] reads = tt
+all_read (d ∷ docs) (r ∷ rs) reads = (reads.0, all_read docs rs reads.1)
+
+-- of one document at most one request is read
+one_read : (document : List ℕ) (later : List (List ℕ)) (requests : List RequestView) → AreRead (document ∷ []) requests → AreRead (document ∷ later) requests
+one_read document later [] read = tt
+one_read document later (r ∷ []) read = (read.0, tt)
+one_read document later (r ∷ (x ∷ xs)) read = absurd read.1
+
+then_read : (done : List (List ℕ)) (document : List ℕ) (later : List (List ℕ)) (requests last : List RequestView) → Reads done requests → AreRead (document ∷ []) last
+    → AreRead (done ++ document ∷ later) (requests ++ last)
+then_read [] document later [] last reads read = one_read document later last read
+then_read [] document later (r ∷ rs) last reads read = absurd reads
+then_read (d ∷ done) document later [] last reads read = absurd reads
+then_read (d ∷ done) document later (r ∷ rs) last reads read = (reads.0, then_read done document later rs last reads.1 read)
 
 same_keeps : (words : RunWords) (docs : List (List ℕ)) (f g : Option Files) → g ≡ f → KeptByRun (Some words) docs f g
-same_keeps words docs f g same m told = record { files = m; told = same ∙ told; unwritten = λ q h. inl refl; others = λ q h. refl }
+same_keeps words docs f g same m told = record { requests = []; read = tt; files = m; told = same ∙ told; unwritten = λ q h. inl refl; others = λ q h. refl }
 
 ran_keeps : (words : RunWords) (docs : List (List ℕ)) (answers : List Answer) (f g : Option Files) (w v : Option (List ℕ)) → Ran words docs answers f g w v → KeptByRun (Some words) docs f g
 ran_keeps words docs answers f g w v r m told = record {
+  requests = requests_of answers;
+  read = all_read docs (requests_of answers) r.reads;
   files = files_after words answers m;
   told = r.stands m told;
-  unwritten = λ q h. after_unwritten words docs answers m q r.reads h;
-  others = λ q h. after_other words docs answers m q r.reads h;
+  unwritten = λ q h. after_unwritten words answers m q h;
+  others = λ q h. after_other words answers m q h;
 }
 
 work_keeps : (words : RunWords) (document : List ℕ) (f g : Option Files) → IsInWork words document f g → KeptByRun (Some words) (document ∷ []) f g
 work_keeps words document f g work m told =
     let k = work.kept m told in
     record {
+      requests = work.request ∷ [];
+      read = (work.reads, tt);
       files = k.files;
       told = k.told;
-      unwritten = λ q h. k.unwritten q (All-head (Spares words is_written q) document [] h work.request work.reads);
-      others = λ q h. k.others q (All-head (Spares words may_change q) document [] h work.request work.reads);
+      unwritten = λ q h. k.unwritten q (All-head (IsSpared words is_written q) work.request [] h);
+      others = λ q h. k.others q (All-head (IsSpared words may_change q) work.request [] h);
     }
 
 memory_keeps : (words : RunWords) (document : List ℕ) (f g : Option Files) → MemoryFails words document f g → KeptByRun (Some words) (document ∷ []) f g
@@ -78,10 +95,12 @@ memory_keeps words document f g (inr work) = work_keeps words document f g work
 
 line_keeps : (words : RunWords) (document : List ℕ) (f g : Option Files) (w v : Option (List ℕ)) → LineFails words document f g w v → KeptByRun (Some words) (document ∷ []) f g
 line_keeps words document f g w v s m told = record {
+  requests = s.answer.request ∷ [];
+  read = (s.reads, tt);
   files = step_of words s.answer m;
   told = s.stands m told;
-  unwritten = λ q h. step_unwritten words s.answer m q (All-head (Spares words is_written q) document [] h s.answer.request s.reads);
-  others = λ q h. step_other words s.answer m q (All-head (Spares words may_change q) document [] h s.answer.request s.reads);
+  unwritten = λ q h. step_unwritten words s.answer m q (All-head (IsSpared words is_written q) s.answer.request [] h);
+  others = λ q h. step_other words s.answer m q (All-head (IsSpared words may_change q) s.answer.request [] h);
 }
 
 stop_keeps : (words : RunWords) (e : DocumentError) (document : List ℕ) (f g : Option Files) (w v : Option (List ℕ)) → StopsAt words e document f g w v → KeptByRun (Some words) (document ∷ []) f g
@@ -90,36 +109,32 @@ stop_keeps words (error.FileIo named) document f g w v s = work_keeps words docu
 stop_keeps words error.WriteFault document f g w v s = line_keeps words document f g w v s
 stop_keeps words error.OutOfMemory document f g w v s = memory_keeps words document f g s.1
 
-all_front : (P : List ℕ → Type 0) (xs ys : List (List ℕ)) → All P (xs ++ ys) → All P xs
+all_front : (P : RequestView → Type 0) (xs ys : List RequestView) → All P (xs ++ ys) → All P xs
 all_front P [] ys h = All-nil P
 all_front P (x ∷ xs) ys h = All-cons P x xs (All-head P x (xs ++ ys) h) (all_front P xs ys (All-tail P x (xs ++ ys) h))
 
-all_at : (P : List ℕ → Type 0) (xs : List (List ℕ)) (x : List ℕ) (ys : List (List ℕ)) → All P (xs ++ x ∷ ys) → All P (x ∷ [])
-all_at P [] x ys h = All-cons P x [] (All-head P x ys h) (All-nil P)
-all_at P (y ∷ xs) x ys h = all_at P xs x ys (All-tail P y (xs ++ x ∷ ys) h)
+all_back : (P : RequestView → Type 0) (xs ys : List RequestView) → All P (xs ++ ys) → All P ys
+all_back P [] ys h = h
+all_back P (x ∷ xs) ys h = all_back P xs ys (All-tail P x (xs ++ ys) h)
 
 -- the documents before the one that stopped the run, and then that one
-then_keeps : (words : RunWords) (docs done : List (List ℕ)) (document : List ℕ) (later : List (List ℕ)) (f between g : Option Files) → docs ≡ done ++ document ∷ later
-    → KeptByRun (Some words) done f between → KeptByRun (Some words) (document ∷ []) between g → KeptByRun (Some words) docs f g
-then_keeps words docs done document later f between g cut before last m told =
-    let a = before m told in
-    let b = last a.files a.told in
-    record {
-      files = b.files;
-      told = b.told;
-      unwritten = λ q h.
-          let all : All (Spares words is_written q) (done ++ document ∷ later) = subst (All (Spares words is_written q)) cut h in
-          gone_after (get m q) (get a.files q) (get b.files q) (a.unwritten q (all_front (Spares words is_written q) done (document ∷ later) all))
-          (b.unwritten q (all_at (Spares words is_written q) done document later all));
-      others = λ q h.
-          let all : All (Spares words may_change q) (done ++ document ∷ later) = subst (All (Spares words may_change q)) cut h in
-          b.others q (all_at (Spares words may_change q) done document later all) ∙ a.others q (all_front (Spares words may_change q) done (document ∷ later) all);
-    }
-
 stopped_keeps : (words : RunWords) (docs : List (List ℕ)) (stop : Stop) (f g : Option Files) (w v : Option (List ℕ)) → Stops words docs stop f g w v → KeptByRun (Some words) docs f g
-stopped_keeps words docs stop f g w v s =
-    then_keeps words docs s.done s.document s.later f s.between g s.cut (ran_keeps words s.done s.answers f s.between w s.sent s.ran)
-    (stop_keeps words stop.error s.document s.between g s.sent v s.stops)
+stopped_keeps words docs stop f g w v s m told =
+    let before = requests_of s.answers in
+    let middle = files_after words s.answers m in
+    let last = stop_keeps words stop.error s.document s.between g s.sent v s.stops middle (s.ran.stands m told) in
+    record {
+      requests = before ++ last.requests;
+      read = subst (λ d. AreRead d (before ++ last.requests)) (sym s.cut) (then_read s.done s.document s.later before last.requests s.ran.reads last.read);
+      files = last.files;
+      told = last.told;
+      unwritten = λ q h.
+          gone_after (get m q) (get middle q) (get last.files q) (after_unwritten words s.answers m q (all_front (IsSpared words is_written q) before last.requests h))
+          (last.unwritten q (all_back (IsSpared words is_written q) before last.requests h));
+      others = λ q h.
+          last.others q (all_back (IsSpared words may_change q) before last.requests h)
+          ∙ after_other words s.answers m q (all_front (IsSpared words may_change q) before last.requests h);
+    }
 
 -- whatever the status is
 runs_keep : (words : RunWords) (end : Status) (docs : List (List ℕ)) (f g : Option Files) (w v : Option (List ℕ)) → RunsTo end words docs f g w v → KeptByRun (Some words) docs f g
