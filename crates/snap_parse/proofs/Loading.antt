@@ -1,5 +1,18 @@
 -- What is loaded of a whole stream.
-use Rattle.std.proofs.Common.{◌≡◌, List, [], map, sym, ap, ◌∙◌}
+use Rattle.std.proofs.Common.{◌≡◌, List, [], ◌∷◌, map, sym, ap, ◌∙◌, subst}
+use Rattle.snap_content.specs.Lines.{document_of}
+use Rattle.snap_content.specs.Plain.{Plain}
+use Rattle.snap_owed.specs.Tokens.{document_tokens}
+use Rattle.snap_owed.proofs.Documents.{plain-source}
+use Rattle.snap_scan.specs.Owed.{Owes}
+use Rattle.snap_scan.specs.Scan.{start_scan}
+use Rattle.snap_token.specs.Place.{before_nul}
+use Rattle.snap_token.specs.declared.token.TokenType.{TokenType}
+use Rattle.snap_parser.specs.Parsing.{Parsing, WillGive}
+use Rattle.snap_parser.specs.Place.{start_spot}
+use Rattle.snap_parser.specs.Twin.{Yields}
+use Rattle.snap_parse.specs.PrintedEvents.{node_of}
+use Rattle.snap_parse.proofs.PrintedRuns.{printed-events}
 use Rattle.snap_event.specs.declared.event.Event.{Event}
 use Rattle.snap_event.specs.Nodes.{stream_events}
 use Rattle.snap_event.specs.Streams.{IsStream}
@@ -45,3 +58,18 @@ founded source (l.Scan (c.Syntax mark info)) h = h
 founded source (l.Scan c.OutOfMemory) h = tt
 founded source l.InsideDocument h = tt
 founded source l.OutOfMemory h = tt
+
+-- the events that a parser of a printed text will give
+pub printed-given : (source : List ℕ) (p : Plain) (parser : Parsing) → source ≡ document_of p
+    → ((tokens : List TokenType) (events : List Event) → Owes (start_scan (before_nul source)).state tokens → Yields start_spot tokens events → WillGive parser events)
+    → WillGive parser (stream_events (node_of p ∷ []))
+printed-given source p parser is gives =
+    let P : List ℕ → Type 0 = λ v. Owes (start_scan (before_nul v)).state (document_tokens p) in
+    gives (document_tokens p) (stream_events (node_of p ∷ [])) (subst P (sym is) (plain-source p)) (printed-events p)
+
+-- the documents of a loader that got the events of one document
+pub made-one : (l : Loader) (r : Result Array ScanError) (p : Plain) → HasLoaded l (stream_events (node_of p ∷ [])) → IfOk r (λ list. HoldsDocuments l list)
+    → IfOk r (λ list. map value_of (array_list list) ≡ document_value (node_of p) ∷ [])
+made-one l r p told h =
+    IfOk-weaker r (λ list. HoldsDocuments l list) (λ list. map value_of (array_list list) ≡ document_value (node_of p) ∷ [])
+    (λ list holds. holds (stream_events (node_of p ∷ [])) told ∙ stream-steps (node_of p ∷ [])) h

@@ -1,10 +1,14 @@
 //! All documents of a text.
-ghost use Rattle.std.specs.Prelude.{◌≡◌, ◌≢◌, IfOk, IfErr, map};
+ghost use Rattle.std.specs.Prelude.{◌≡◌, ◌≢◌, IfOk, IfErr, map, [], ◌∷◌};
 ghost use Rattle.std.specs.Str.{chars};
+ghost use Rattle.snap_content.specs.Lines.{document_of};
+ghost use Rattle.snap_content.specs.Plain.{Plain};
 ghost use Rattle.snap_token.specs.Place.{before_nul};
 ghost use Rattle.snap_scan.specs.Sound.{IsFounded};
 ghost use Rattle.snap_yaml.specs.View.{value_of, array_list};
+ghost use Rattle.snap_parse.specs.Documents.{document_value};
 ghost use Rattle.snap_parse.specs.Loaded.{AreLoaded, scan_error};
+ghost use Rattle.snap_parse.specs.PrintedEvents.{node_of};
 
 use crate::loader::Loader;
 use snap_parser::{LoadError, Parser};
@@ -20,6 +24,11 @@ impl YamlLoader {
     /// The documents of a text, one value for each, or why it is no YAML: the parser's own error.
     pub fn load_from_str(alloc: Global, source: &str) -> Result<Array, ScanError>
         ensures documents { IfOk result (λ made. AreLoaded (map value_of (array_list made))) }
+        ensures printed { (p : Plain) → chars source.now ≡ document_of p
+            → IfOk result (λ made. map value_of (array_list made)
+            ≡ document_value (node_of p) ∷ []) }
+        ensures memory { (p : Plain) → chars source.now ≡ document_of p
+            → IfErr result (λ e. e ≡ ScanError.OutOfMemory) }
         ensures cause { IfErr result (λ e. IsFounded (before_nul (chars source.now)) e) }
     {
         let mut parser = Parser::new(alloc, source);

@@ -2,7 +2,7 @@
 use Rattle.std.proofs.Common.{◌≡◌, List, [], ◌∷◌, Option, None, Some, Bool, true, false, not, refl, ap, sym}
 use Rattle.snap_event.specs.declared.event.Event.{Event}
 use Rattle.snap_event.specs.declared.event.Event.TheVariants as e
-use Rattle.snap_event.specs.Meaning.{due, given, sequence, key, value, Meaning, ahead, open_in, ended, after, end_document, end_stream, is_inside, is_stream_end}
+use Rattle.snap_event.specs.Meaning.{Open, due, given, sequence, key, value, Meaning, ahead, open_in, ended, given_at, leaf, start, after, end_document, end_stream, is_inside, is_stream_end}
 use Rattle.snap_parser.specs.declared.load.Passed.{Passed}
 use Rattle.snap_parser.specs.declared.load.Passed.TheVariants as w
 use Rattle.snap_parser.specs.declared.state.State.{State}
@@ -14,6 +14,55 @@ use Rattle.snap_parser.specs.Runs.{passed_of, stops, goes}
 abbrev inside_of : Option Meaning → Bool
 inside_of None = false
 inside_of (Some m) = is_inside m
+
+-- a node ends no stream
+leaf-ended : (o : Option (List Open)) → leaf o ≡ Some ended → ⊥
+leaf-ended None h = cc
+leaf-ended (Some os) h = cc
+
+start-ended : (x : Open) (o : Option (List Open)) → start x o ≡ Some ended → ⊥
+start-ended x None h = cc
+start-ended x (Some os) h = cc
+
+-- an event behind which the stream is ended is its end
+pub event-ends : (event : Event) (m : Meaning) → after event m ≡ Some ended → passed_of event ≡ w.StreamEnd
+event-ends e.StreamStart ahead h = absurd (cc)
+event-ends e.StreamStart (open_in os) h = absurd (cc)
+event-ends e.StreamStart ended h = absurd (cc)
+event-ends e.StreamEnd m h = refl
+event-ends e.DocumentStart ahead h = absurd (cc)
+event-ends e.DocumentStart (open_in []) h = absurd (cc)
+event-ends e.DocumentStart (open_in (o ∷ os)) h = absurd (cc)
+event-ends e.DocumentStart ended h = absurd (cc)
+event-ends e.DocumentEnd ahead h = absurd (cc)
+event-ends e.DocumentEnd (open_in []) h = absurd (cc)
+event-ends e.DocumentEnd (open_in (due ∷ os)) h = absurd (cc)
+event-ends e.DocumentEnd (open_in (given ∷ [])) h = absurd (cc)
+event-ends e.DocumentEnd (open_in (given ∷ (o ∷ os))) h = absurd (cc)
+event-ends e.DocumentEnd (open_in (sequence ∷ os)) h = absurd (cc)
+event-ends e.DocumentEnd (open_in (key ∷ os)) h = absurd (cc)
+event-ends e.DocumentEnd (open_in (value ∷ os)) h = absurd (cc)
+event-ends e.DocumentEnd ended h = absurd (cc)
+event-ends (e.Alias id) m h = absurd (leaf-ended (given_at m) h)
+event-ends (e.Scalar text style id tag) m h = absurd (leaf-ended (given_at m) h)
+event-ends (e.SequenceStart id) m h = absurd (start-ended sequence (given_at m) h)
+event-ends e.SequenceEnd ahead h = absurd (cc)
+event-ends e.SequenceEnd (open_in []) h = absurd (cc)
+event-ends e.SequenceEnd (open_in (due ∷ os)) h = absurd (cc)
+event-ends e.SequenceEnd (open_in (given ∷ os)) h = absurd (cc)
+event-ends e.SequenceEnd (open_in (sequence ∷ os)) h = absurd (cc)
+event-ends e.SequenceEnd (open_in (key ∷ os)) h = absurd (cc)
+event-ends e.SequenceEnd (open_in (value ∷ os)) h = absurd (cc)
+event-ends e.SequenceEnd ended h = absurd (cc)
+event-ends (e.MappingStart id) m h = absurd (start-ended key (given_at m) h)
+event-ends e.MappingEnd ahead h = absurd (cc)
+event-ends e.MappingEnd (open_in []) h = absurd (cc)
+event-ends e.MappingEnd (open_in (due ∷ os)) h = absurd (cc)
+event-ends e.MappingEnd (open_in (given ∷ os)) h = absurd (cc)
+event-ends e.MappingEnd (open_in (sequence ∷ os)) h = absurd (cc)
+event-ends e.MappingEnd (open_in (key ∷ os)) h = absurd (cc)
+event-ends e.MappingEnd (open_in (value ∷ os)) h = absurd (cc)
+event-ends e.MappingEnd ended h = absurd (cc)
 
 -- behind the stream's end comes the stream's end
 pub event-behind : (event : Event) (m : Meaning) → after event ended ≡ Some m → passed_of event ≡ w.StreamEnd

@@ -4,3 +4,7 @@ pub mod Naming
 pub mod Signs
 pub mod Standing
 pub mod Openings
+pub mod Taken
+pub mod TreeRuns
+pub mod Giving
+pub mod Following

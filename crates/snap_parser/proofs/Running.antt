@@ -11,11 +11,11 @@ use Rattle.snap_parser.specs.Parsing.{Parsing, meaning}
 use Rattle.snap_parser.specs.Runs.{forgetting, Steps, Run, run_start, run_more, passed_of, stops, goes, GetsMore, HandsOn, Passing, LoadsUpTo, TellsStream}
 use Rattle.snap_parser.proofs.Endings.{event-behind, end-ends, last-is-end, going-no-end, stop-closed}
 
-both : (a b : Bool) → a && b ≡ true → (a ≡ true) × (b ≡ true)
+pub both : (a b : Bool) → a && b ≡ true → (a ≡ true) × (b ≡ true)
 both true b h = (refl, h)
 both false b h = absurd (cc)
 
-join : (a b : Bool) → a ≡ true → b ≡ true → a && b ≡ true
+pub join : (a b : Bool) → a ≡ true → b ≡ true → a && b ≡ true
 join true b h k = k
 join false b h k = absurd (cc)
 

@@ -5,3 +5,7 @@ pub mod Machine
 pub mod Parsing
 pub mod Runs
 pub mod Errors
+pub mod Ends
+pub mod Taking
+pub mod Twin
+pub mod TokenTrees

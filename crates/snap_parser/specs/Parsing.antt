@@ -1,6 +1,7 @@
 -- What a parser is seen as.
-use Rattle.std.specs.Prelude.{◌≡◌, ℕ, List, Option, None, Some, Result, Ok, Err}
+use Rattle.std.specs.Prelude.{◌≡◌, ℕ, List, ◌∷◌, Option, None, Some, Result, Ok, Err}
 use Rattle.snap_token.specs.declared.info.ScanError.{ScanError}
+use Rattle.snap_token.specs.declared.token.TokenType.{TokenType}
 use Rattle.snap_scan.specs.Sound.{IsFounded}
 use Rattle.snap_event.specs.declared.event.Event.{Event}
 use Rattle.snap_event.specs.Meaning.{Meaning, after}
@@ -9,6 +10,8 @@ use Rattle.snap_parser.specs.Feed.{source_of, start_tokens}
 use Rattle.snap_parser.specs.Names.{Names, no_names, Naming}
 use Rattle.snap_parser.specs.Place.{Spot, start_spot, meaning_of}
 use Rattle.snap_parser.specs.Machine.{events_in, IsSound}
+use Rattle.snap_parser.specs.Taking.{WillTake}
+use Rattle.snap_parser.specs.Twin.{Yields}
 
 -- the tokens that it takes, where it stands, the names that it knows, and the error that it keeps
 pub record Parsing : Type 0 where
@@ -32,10 +35,23 @@ meaning p = meaning_of p.spot
 abbrev pub events_left : Parsing → ℕ
 events_left p = events_in p.tokens p.spot
 
--- what a parser promises of an event that it gives: it is one that may come, and the names are those behind it
+-- the events that a parser will give, one after the other, up to the stream's end: those of the tokens that it will take
+pub record WillGive (p : Parsing) (events : List Event) : Type 0 where
+  pub well : p.error ≡ None
+  pub tokens : List TokenType
+  pub takes : WillTake p.tokens tokens
+  pub yields : Yields p.spot tokens events
+
+-- the event is the first of those that the parser would give, and the others are still to come
+abbrev pub GoesOn : Event → Parsing → Parsing → Type 0
+GoesOn event old new = (first : Event) (others : List Event) → WillGive old (first ∷ others) → (event ≡ first) × WillGive new others
+
+-- what a parser promises of an event that it gives: it is one that may come, the names are those behind it, and it is the first of
+-- those that the parser would give
 pub record IsNext (event : Event) (old new : Parsing) : Type 0 where
   pub allowed : after event (meaning old) ≡ Some (meaning new)
   pub names : Naming event old.names new.names
+  pub goes_on : GoesOn event old new
 
 -- the error that the call answers is kept
 abbrev pub KeepsError : {T : Type 0} → Result T ScanError → Parsing → Type 0

@@ -1,4 +1,6 @@
 //! Sequences and mappings in blocks.
+ghost use Rattle.std.specs.Prelude.{true};
+
 use crate::machine::{Machine, ParseResult};
 use crate::state::{Ends, Stage, State};
 use snap_event::Event;
@@ -6,6 +8,7 @@ use snap_token::{ScanError, ScanInfo, Token, TokenType};
 
 impl<'a> Machine<'a> {
     ghost use Rattle.snap_parser.specs.Machine.{KeepsSoundIn, GivesIn, PaysIn, KeepsNames, StaysOnError};
+    ghost use Rattle.snap_parser.specs.Twin.{Follows, entry_step, filled_step, indentless_step, key_step, value_step};
 
     pub(crate) fn block_sequence_entry(&mut self) -> ParseResult<'a>
         ensures event { GivesIn State.BlockSequenceEntry result self.old self.new }
@@ -13,6 +16,7 @@ impl<'a> Machine<'a> {
         ensures names { KeepsNames result self.old self.new }
         ensures same { StaysOnError result self.old self.new }
         ensures sound { KeepsSoundIn State.BlockSequenceEntry result self.old self.new }
+        ensures twin { Follows (entry_step self.old.outer.items) result self.old self.new }
     {
         match self.tokens.take()? {
             Token(mark, TokenType::BlockEnd) => {
@@ -33,6 +37,7 @@ impl<'a> Machine<'a> {
         ensures names { KeepsNames result self.old self.new }
         ensures same { StaysOnError result self.old self.new }
         ensures sound { KeepsSoundIn State.IndentlessSequenceEntry result self.old self.new }
+        ensures twin { Follows (indentless_step self.old.outer.items) result self.old self.new }
     {
         match self.tokens.take()? {
             Token(_, TokenType::BlockEntry) => {
@@ -58,6 +63,7 @@ impl<'a> Machine<'a> {
         ensures names { KeepsNames result self.old self.new }
         ensures same { StaysOnError result self.old self.new }
         ensures sound { KeepsSoundIn State.BlockMappingKey result self.old self.new }
+        ensures twin { Follows (key_step self.old.outer.items) result self.old self.new }
     {
         match self.tokens.take()? {
             Token(mark, TokenType::BlockEnd) => {
@@ -78,6 +84,7 @@ impl<'a> Machine<'a> {
         ensures names { KeepsNames result self.old self.new }
         ensures same { StaysOnError result self.old self.new }
         ensures sound { KeepsSoundIn State.BlockMappingValue result self.old self.new }
+        ensures twin { Follows (value_step self.old.outer.items) result self.old self.new }
     {
         match self.tokens.take()? {
             Token(_, TokenType::Value) => self.block_mapping_content(),
@@ -96,6 +103,8 @@ impl<'a> Machine<'a> {
         ensures names { KeepsNames result self.old self.new }
         ensures same { StaysOnError result self.old self.new }
         ensures sound { KeepsSoundIn State.BlockMappingContent result self.old self.new }
+        ensures twin { Follows (filled_step Ends.BlockPair true true State.BlockMappingKey self.old.outer.items)
+            result self.old self.new }
     {
         self.parse_filled(Ends::BlockPair, true, true, State::BlockMappingKey)
     }

@@ -10,6 +10,7 @@ use snap_token::{ScanError, ScanInfo, Token, TokenType};
 
 impl<'a> Machine<'a> {
     ghost use Rattle.snap_parser.specs.Machine.{spot_of, meaning_now, events_now, IsSoundAhead, StaysSound, KeepsSoundIn, GivesIn, PaysIn, KeepsNames, StaysOnError};
+    ghost use Rattle.snap_parser.specs.Twin.{Follows, document_end_step, document_step, first_document_step, start_step, state_step, stream_step};
 
     pub(crate) fn stream_start(&mut self) -> ParseResult<'a>
         ensures event { IfOk result (λ given. after given.0 ahead ≡ Some (meaning_now self.new)) }
@@ -18,6 +19,7 @@ impl<'a> Machine<'a> {
         ensures same { StaysOnError result self.old self.new }
         ensures sound { (source : List ℕ) → IsSoundAhead source self.old.tokens self.old.outer.items
             → StaysSound source result self.new.tokens (spot_of self.new) }
+        ensures twin { Follows (stream_step self.old.outer.items) result self.old self.new }
     {
         match self.tokens.take()? {
             Token(mark, TokenType::StreamStart(_)) => {
@@ -35,6 +37,8 @@ impl<'a> Machine<'a> {
         ensures names { KeepsNames result self.old self.new }
         ensures same { StaysOnError result self.old self.new }
         ensures sound { KeepsSoundIn State.ImplicitDocumentStart result self.old self.new }
+        ensures twin { Follows (first_document_step self.old.outer.items)
+            result self.old self.new }
     {
         match self.tokens.take()? {
             Token(mark, TokenType::StreamEnd) => {
@@ -63,6 +67,7 @@ impl<'a> Machine<'a> {
         ensures names { KeepsNames result self.old self.new }
         ensures same { StaysOnError result self.old self.new }
         ensures sound { KeepsSoundIn State.DocumentStart result self.old self.new }
+        ensures twin { Follows (document_step self.old.outer.items) result self.old self.new }
     {
         self.tokens.skip_document_ends()?;
         match self.tokens.take()? {
@@ -84,6 +89,7 @@ impl<'a> Machine<'a> {
         ensures names { KeepsNames result self.old self.new }
         ensures same { StaysOnError result self.old self.new }
         ensures sound { KeepsSoundIn State.DocumentStart result self.old self.new }
+        ensures twin { Follows (start_step self.old.outer.items) result self.old self.new }
     {
         self.tokens.skip_directives()?;
         match self.tokens.take()? {
@@ -101,6 +107,8 @@ impl<'a> Machine<'a> {
         ensures names { KeepsNames result self.old self.new }
         ensures same { StaysOnError result self.old self.new }
         ensures sound { KeepsSoundIn State.DocumentContent result self.old self.new }
+        ensures twin { Follows (state_step State.DocumentContent self.old.outer.items)
+            result self.old self.new }
     {
         self.parse_filled(Ends::Document, true, false, State::DocumentEnd)
     }
@@ -112,6 +120,7 @@ impl<'a> Machine<'a> {
         ensures names { KeepsNames result self.old self.new }
         ensures same { StaysOnError result self.old self.new }
         ensures sound { KeepsSoundIn State.DocumentEnd result self.old self.new }
+        ensures twin { Follows (document_end_step self.old.outer.items) result self.old self.new }
     {
         match self.tokens.take()? {
             Token(mark, TokenType::DocumentEnd) => {

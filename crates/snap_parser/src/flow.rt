@@ -6,6 +6,7 @@ use snap_token::{Marker, ScanError, ScanInfo, Token, TokenType};
 
 impl<'a> Machine<'a> {
     ghost use Rattle.snap_parser.specs.Machine.{KeepsSoundIn, GivesIn, PaysIn, KeepsNames, StaysOnError};
+    ghost use Rattle.snap_parser.specs.Twin.{Follows, flow_entry_step, flow_first_key_step, flow_first_step, flow_key_step, flow_value_step};
 
     /// What stands behind `[` or a comma.
     pub(crate) fn flow_sequence_item(&mut self) -> ParseResult<'a>
@@ -14,6 +15,7 @@ impl<'a> Machine<'a> {
         ensures names { KeepsNames result self.old self.new }
         ensures same { StaysOnError result self.old self.new }
         ensures sound { KeepsSoundIn State.FlowSequenceFirstEntry result self.old self.new }
+        ensures twin { Follows (flow_first_step self.old.outer.items) result self.old self.new }
     {
         match self.tokens.take()? {
             Token(mark, TokenType::FlowSequenceEnd) => {
@@ -37,6 +39,7 @@ impl<'a> Machine<'a> {
         ensures names { KeepsNames result self.old self.new }
         ensures same { StaysOnError result self.old self.new }
         ensures sound { KeepsSoundIn State.FlowSequenceEntry result self.old self.new }
+        ensures twin { Follows (flow_entry_step self.old.outer.items) result self.old self.new }
     {
         match self.tokens.take()? {
             Token(mark, TokenType::FlowSequenceEnd) => {
@@ -115,6 +118,8 @@ impl<'a> Machine<'a> {
         ensures names { KeepsNames result self.old self.new }
         ensures same { StaysOnError result self.old self.new }
         ensures sound { KeepsSoundIn State.FlowMappingFirstKey result self.old self.new }
+        ensures twin { Follows (flow_first_key_step self.old.outer.items)
+            result self.old self.new }
     {
         match self.tokens.take()? {
             Token(mark, TokenType::FlowMappingEnd) => {
@@ -141,6 +146,7 @@ impl<'a> Machine<'a> {
         ensures names { KeepsNames result self.old self.new }
         ensures same { StaysOnError result self.old self.new }
         ensures sound { KeepsSoundIn State.FlowMappingKey result self.old self.new }
+        ensures twin { Follows (flow_key_step self.old.outer.items) result self.old self.new }
     {
         match self.tokens.take()? {
             Token(mark, TokenType::FlowMappingEnd) => {
@@ -159,6 +165,7 @@ impl<'a> Machine<'a> {
         ensures names { KeepsNames result self.old self.new }
         ensures same { StaysOnError result self.old self.new }
         ensures sound { KeepsSoundIn State.FlowMappingValue result self.old self.new }
+        ensures twin { Follows (flow_value_step self.old.outer.items) result self.old self.new }
     {
         match self.tokens.take()? {
             Token(mark, TokenType::Value) => match self.tokens.empty_node_at(Ends::FlowValue)? {

@@ -10,6 +10,7 @@ mod block;
 mod documents;
 mod error;
 mod flow;
+pub mod laws;
 mod load;
 mod machine;
 mod node;

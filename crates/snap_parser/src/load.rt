@@ -1,10 +1,10 @@
 //! Events handed on to a receiver.
-ghost use Rattle.std.specs.Prelude.{◌≡◌, ◌≢◌, ◌<◌, List, Err, None, Some, IfOk, OnOk, OnErr, IfErr, true, false};
+ghost use Rattle.std.specs.Prelude.{◌≡◌, ◌≢◌, ◌<◌, List, ◌∷◌, Err, None, Some, IfOk, OnOk, OnErr, IfErr, true, false};
 ghost use Rattle.snap_event.specs.declared.event.Event.{Event as EventSeen};
 ghost use Rattle.snap_event.specs.Meaning.{ahead, is_inside, is_stream_end};
 ghost use Rattle.snap_parser.specs.Errors.{IsLoadFounded};
-ghost use Rattle.snap_parser.specs.Parsing.{source, meaning, events_left};
-ghost use Rattle.snap_parser.specs.Runs.{Steps, passed_of, stops, HandsOn, LoadsUpTo, LoadsPart, TellsStream};
+ghost use Rattle.snap_parser.specs.Parsing.{source, meaning, events_left, WillGive};
+ghost use Rattle.snap_parser.specs.Runs.{Steps, passed_of, stops, GetsMore, HandsOn, LoadsUpTo, LoadsPart, TellsStream};
 
 use crate::error::LoadError;
 use crate::parser::Parser;
@@ -49,6 +49,8 @@ impl<'a> Parser<'a> {
         ensures goes { IfOk result (λ given. is_stream_end given.0 ≡ false
             → events_left self.new < events_left self.old) }
         ensures inside { IfErr result (λ e. e ≢ LoadError.InsideDocument) }
+        ensures memory { (events : List EventSeen) → WillGive self.old events
+            → IfErr result (λ e. e ≡ LoadError.OutOfMemory) }
         ensures cause { IfErr result (λ e. IsLoadFounded (source self.old) e) }
         ensures source { source self.new ≡ source self.old }
     {
@@ -68,6 +70,8 @@ impl<'a> Parser<'a> {
         ensures err { (events : List EventSeen) → R.told receiver.old events
             → OnErr result (R.told receiver.new events) }
         ensures inside { IfErr result (λ e. e ≢ LoadError.InsideDocument) }
+        ensures memory { (events : List EventSeen) → WillGive self.old events
+            → IfErr result (λ e. e ≡ LoadError.OutOfMemory) }
         ensures cause { IfErr result (λ e. IsLoadFounded (source self.old) e) }
         ensures source { source self.new ≡ source self.old }
     {
@@ -92,9 +96,14 @@ impl<'a> Parser<'a> {
             (LoadsUpTo R.told multi receiver.old receiver.new self.old self.new) }
         ensures stream { multi ≡ true → meaning self.old ≡ ahead
             → OnOk result (TellsStream R.told receiver.old receiver.new) }
+        ensures gives { (event : EventSeen) (events : List EventSeen) → multi ≡ true
+            → WillGive self.old (event ∷ events)
+            → OnOk result (GetsMore R.told receiver.old receiver.new (event ∷ events)) }
         ensures closed { OnOk result (is_inside (meaning self.new) ≡ false) }
         ensures err { is_inside (meaning self.old) ≡ false
             → OnErr result (LoadsPart R.told multi receiver.old receiver.new self.old) }
+        ensures memory { (events : List EventSeen) → is_inside (meaning self.old) ≡ false
+            → WillGive self.old events → IfErr result (λ e. e ≡ LoadError.OutOfMemory) }
         ensures cause { IfErr result (λ e. IsLoadFounded (source self.old) e) }
         ensures source { source self.new ≡ source self.old }
     {

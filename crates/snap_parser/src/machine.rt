@@ -31,6 +31,7 @@ pub struct Machine<'a> {
 
 impl<'a> Machine<'a> {
     ghost use Rattle.snap_parser.specs.Machine.{spot_of, meaning_now, events_now, HasSigns, IsSound, IsSoundIn, StaysSound, KeepsSoundIn, GivesIn, GivesNode, PaysIn, KeepsNames, StaysOnError};
+    ghost use Rattle.snap_parser.specs.Twin.{left_spot, empty_scalar, Follows, parse_step, state_step};
 
     pub(crate) fn new(alloc: Global, source: &'a str) -> Machine<'a>
         ensures tokens { result.tokens ≡ start_tokens (before_nul (chars source.now)) }
@@ -70,6 +71,7 @@ impl<'a> Machine<'a> {
         ensures sound { (source : List ℕ) → Feeds source self.old.tokens
             → All (HasSigns source) self.old.outer.items
             → IsSound source self.new.tokens (spot_of self.new) }
+        ensures spot { spot_of self.new ≡ left_spot self.old.outer.items }
     {
         match self.outer.pop_front() {
             None => self.stage = Stage::Open(State::DocumentEnd),
@@ -86,6 +88,7 @@ impl<'a> Machine<'a> {
         ensures tokens { self.new.tokens ≡ self.old.tokens }
         ensures names { KeepsNames result self.old self.new }
         ensures sound { KeepsSoundIn behind result self.old self.new }
+        ensures given { IfOk result (λ given. given.0 ≡ empty_scalar) }
     {
         self.stage = Stage::Open(behind);
         let event = Event::Scalar(Lent::borrowed("~"), TScalarStyle::Plain, 0, None);
@@ -99,6 +102,7 @@ impl<'a> Machine<'a> {
         ensures names { KeepsNames result self.old self.new }
         ensures same { StaysOnError result self.old self.new }
         ensures sound { KeepsSoundIn state result self.old self.new }
+        ensures twin { Follows (state_step state self.old.outer.items) result self.old self.new }
     {
         match state {
             State::ImplicitDocumentStart => self.implicit_document_start(),
@@ -137,6 +141,7 @@ impl<'a> Machine<'a> {
             × (self.new ≡ self.old)) }
         ensures sound { (source : List ℕ) → IsSound source self.old.tokens (spot_of self.old)
             → StaysSound source result self.new.tokens (spot_of self.new) }
+        ensures twin { Follows (parse_step (spot_of self.old)) result self.old self.new }
     {
         match self.stage {
             Stage::Ahead => self.stream_start(),

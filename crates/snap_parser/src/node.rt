@@ -1,5 +1,5 @@
 //! Nodes, with their anchors and tags.
-ghost use Rattle.std.specs.Prelude.{◌≡◌, ◌+◌, ◌*◌, ◌≤◌, ℕ, List, IfOk, OnOk, All, None, false};
+ghost use Rattle.std.specs.Prelude.{◌≡◌, ◌+◌, ◌*◌, ◌≤◌, ℕ, List, IfOk, OnOk, All, None, false, ◌∷◌, Some};
 ghost use Rattle.snap_scan.specs.Sound.{IsFounded};
 ghost use Rattle.snap_parser.specs.Feed.{tokens_left, Took};
 ghost use Rattle.snap_parser.specs.Names.{Names, Naming, IsAnchored};
@@ -11,7 +11,10 @@ use snap_event::{Event, Tag};
 use snap_token::{Marker, ScanError, ScanInfo, TScalarStyle, Token, TokenType};
 
 impl<'a> Machine<'a> {
+    ghost use Rattle.snap_token.specs.declared.token.TokenType.{TokenType as Kind};
+    ghost use Rattle.snap_parser.specs.Taking.{WillTake};
     ghost use Rattle.snap_parser.specs.Machine.{spot_of, meaning_now, events_now, events_before, if_indentless, HasSigns, StaysSound, KeepsSoundIn, KeepsSoundFrom, GivesNode, KeepsNames, StaysOnError};
+    ghost use Rattle.snap_parser.specs.Twin.{Parsed, Parses, Follows, filled_step, node_step};
 
     /// A node: its anchor and its tag, in either order, and what they stand before; or an alias.
     pub(crate) fn parse_node(
@@ -26,6 +29,8 @@ impl<'a> Machine<'a> {
         ensures names { KeepsNames result self.old self.new }
         ensures same { StaysOnError result self.old self.new }
         ensures sound { KeepsSoundIn behind result self.old self.new }
+        ensures twin { Follows (node_step is_block is_indentless behind self.old.outer.items)
+            result self.old self.new }
     {
         match self.tokens.take()? {
             Token(mark, TokenType::Alias(name)) => self.parse_alias(mark, &name, behind),
@@ -132,6 +137,11 @@ impl<'a> Machine<'a> {
         ensures sound { (source : List ℕ) → Took source token.entry self.old.tokens
             → HasSigns source behind → All (HasSigns source) self.old.outer.items
             → StaysSound source result self.new.tokens (spot_of self.new) }
+        ensures twin { (rest : List Kind) (found : Parsed) → anchor ≡ 0 → tag ≡ None
+            → WillTake self.old.tokens rest → self.old.tokens.held ≡ None
+            → node_step is_block is_indentless behind self.old.outer.items (token.entry.1 ∷ rest)
+            ≡ Some found
+            → Parses result (spot_of self.new) self.new.tokens found }
     {
         match token {
             Token(mark, TokenType::Scalar(style, text)) => {
@@ -207,6 +217,8 @@ impl<'a> Machine<'a> {
         ensures names { KeepsNames result self.old self.new }
         ensures same { StaysOnError result self.old self.new }
         ensures sound { KeepsSoundIn behind result self.old self.new }
+        ensures twin { Follows (filled_step ends is_block is_indentless behind self.old.outer.items)
+            result self.old self.new }
     {
         match self.tokens.empty_node_at(ends)? {
             Some(mark) => self.give_empty(mark, behind),

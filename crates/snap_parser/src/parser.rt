@@ -1,12 +1,18 @@
 //! The parser, and its events one by one.
-ghost use Rattle.std.specs.Prelude.{◌≡◌, ◌≢◌, ◌<◌, IfOk, OnOk, OnErr, IfErr, IsOkAnd, Err, Some, None, false};
+ghost use Rattle.std.specs.Prelude.{◌≡◌, ◌≢◌, ◌<◌, List, IfOk, OnOk, OnErr, IfErr, IsOkAnd, Err, Some, None, false};
 ghost use Rattle.std.specs.Str.{chars};
 ghost use Rattle.snap_token.specs.Place.{before_nul, mark_of};
 ghost use Rattle.snap_token.specs.declared.info.ScanError.{ScanError};
+ghost use Rattle.snap_token.specs.declared.token.TokenType.{TokenType as Kind};
+ghost use Rattle.snap_scan.specs.Owed.{Owes};
+ghost use Rattle.snap_scan.specs.Scan.{start_scan};
 ghost use Rattle.snap_scan.specs.Sound.{IsFounded};
+ghost use Rattle.snap_event.specs.declared.event.Event.{Event as EventSeen};
 ghost use Rattle.snap_event.specs.Meaning.{ended, is_inside, is_stream_end};
 ghost use Rattle.snap_parser.specs.Names.{forgotten};
-ghost use Rattle.snap_parser.specs.Parsing.{start_parsing, source, meaning, events_left, IsNext, KeepsError};
+ghost use Rattle.snap_parser.specs.Parsing.{start_parsing, source, meaning, events_left, WillGive, IsNext, KeepsError};
+ghost use Rattle.snap_parser.specs.Place.{start_spot};
+ghost use Rattle.snap_parser.specs.Twin.{Yields};
 
 use crate::machine::Machine;
 pub use crate::machine::ParseResult;
@@ -39,7 +45,10 @@ impl<'a> Model for Parser<'a> {
 impl<'a> Parser<'a> {
     /// A parser at the beginning of a text. It takes no memory.
     pub fn new(alloc: Global, source: &'a str) -> Parser<'a>
-        ensures { result ≡ start_parsing (before_nul (chars source.now)) }
+        ensures start { result ≡ start_parsing (before_nul (chars source.now)) }
+        ensures gives { (tokens : List Kind) (events : List EventSeen)
+            → Owes (start_scan (before_nul (chars source.now))).state tokens
+            → Yields start_spot tokens events → WillGive result events }
     {
         Parser {
             machine: Machine::new(alloc, source),
@@ -62,6 +71,8 @@ impl<'a> Parser<'a> {
             → (result ≡ Err e) × (self.new ≡ self.old) }
         ensures kept { KeepsError result self.new }
         ensures same { OnErr result (meaning self.new ≡ meaning self.old) }
+        ensures memory { (events : List EventSeen) → WillGive self.old events
+            → IfErr result (λ e. e ≡ ScanError.OutOfMemory) }
         ensures cause { IfErr result (λ e. IsFounded (source self.old) e) }
         ensures source { source self.new ≡ source self.old }
     {

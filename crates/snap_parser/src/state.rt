@@ -50,8 +50,13 @@ pub enum Ends {
 }
 
 impl Ends {
+    ghost use Rattle.std.specs.Prelude.{◌≡◌};
+    ghost use Rattle.snap_parser.specs.Ends.{ends_at};
+
     /// Whether a node is empty where such a token stands.
-    pub(crate) fn has(self, kind: &TokenType<'_>) -> bool {
+    pub(crate) fn has(self, kind: &TokenType<'_>) -> bool
+        ensures { result ≡ ends_at self kind.now }
+    {
         match self {
             Ends::Document => matches!(
                 kind,

@@ -1,8 +1,12 @@
 //! The tokens of a text, the next of which may be looked at.
-ghost use Rattle.std.specs.Prelude.{◌≡◌, ◌≤◌, ◌+◌, ℕ, List, IfOk, OnOk, true};
+ghost use Rattle.std.specs.Prelude.{◌≡◌, ◌≤◌, ◌+◌, ℕ, List, IfOk, OnOk, true, ◌∷◌, false, None, is_some};
 ghost use Rattle.std.specs.Str.{chars};
 ghost use Rattle.snap_token.specs.Place.{before_nul, mark_of};
 ghost use Rattle.snap_scan.specs.Sound.{is_start};
+ghost use Rattle.snap_token.specs.declared.token.TokenType.{TokenType as Kind};
+ghost use Rattle.snap_scan.specs.Owed.{type_of};
+ghost use Rattle.snap_parser.specs.Ends.{ends_at, is_document_end, is_directive};
+ghost use Rattle.snap_parser.specs.Taking.{WillTake, TakesFirst, StillTakes};
 ghost use Rattle.snap_parser.specs.Feed.{start_tokens, tokens_left, starts, Feeds, Took, Takes, FeedsOn};
 
 use crate::state::Ends;
@@ -32,6 +36,8 @@ impl<'a> Tokens<'a> {
         ensures sound { (source : List ℕ) → Feeds source self.old → Takes source result self.new }
         ensures left { OnOk result (tokens_left self.new + 1 ≤ tokens_left self.old) }
         ensures start { starts self.old ≡ true → IfOk result (λ t. is_start t.1 ≡ true) }
+        ensures takes { (ts : List Kind) → WillTake self.old ts → TakesFirst result self.new ts }
+        ensures free { self.new.held ≡ None }
     {
         if let Some(token) = self.held.take() {
             return Ok(token);
@@ -46,6 +52,8 @@ impl<'a> Tokens<'a> {
     pub(crate) fn put_back(&mut self, token: Token<'a>)
         ensures sound { (source : List ℕ) → Took source token.entry self.old → Feeds source self.new }
         ensures left { tokens_left self.new ≤ tokens_left self.old + 1 }
+        ensures takes { (ts : List Kind) → self.old.held ≡ None → WillTake self.old ts
+            → WillTake self.new (type_of token.entry ∷ ts) }
     {
         self.held = Some(token);
     }
@@ -54,6 +62,10 @@ impl<'a> Tokens<'a> {
     pub(crate) fn empty_node_at(&mut self, ends: Ends) -> Result<Option<Marker>, ScanError>
         ensures sound { (source : List ℕ) → Feeds source self.old → FeedsOn source result self.new }
         ensures left { OnOk result (tokens_left self.new ≤ tokens_left self.old) }
+        ensures takes { (t : Kind) (ts : List Kind) → WillTake self.old (t ∷ ts)
+            → StillTakes result self.new (t ∷ ts) }
+        ensures empty { (t : Kind) (ts : List Kind) → WillTake self.old (t ∷ ts)
+            → IfOk result (λ mark. is_some mark ≡ ends_at ends t) }
     {
         let token = self.take()?;
         let mark = if ends.has(&token.1) {
@@ -69,6 +81,8 @@ impl<'a> Tokens<'a> {
     pub(crate) fn skip_document_ends(&mut self) -> Result<(), ScanError>
         ensures sound { (source : List ℕ) → Feeds source self.old → FeedsOn source result self.new }
         ensures left { OnOk result (tokens_left self.new ≤ tokens_left self.old) }
+        ensures takes { (t : Kind) (ts : List Kind) → is_document_end t ≡ false
+            → WillTake self.old (t ∷ ts) → StillTakes result self.new (t ∷ ts) }
     {
         'ends: loop {
             match self.take()? {
@@ -85,6 +99,8 @@ impl<'a> Tokens<'a> {
     pub(crate) fn skip_directives(&mut self) -> Result<(), ScanError>
         ensures sound { (source : List ℕ) → Feeds source self.old → FeedsOn source result self.new }
         ensures left { OnOk result (tokens_left self.new ≤ tokens_left self.old) }
+        ensures takes { (t : Kind) (ts : List Kind) → is_directive t ≡ false
+            → WillTake self.old (t ∷ ts) → StillTakes result self.new (t ∷ ts) }
     {
         'directives: loop {
             match self.take()? {

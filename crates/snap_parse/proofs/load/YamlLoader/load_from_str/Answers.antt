@@ -1,11 +1,28 @@
-use Rattle.std.proofs.Common.{◌≡◌, [], ap, ◌∙◌, refl}
-use Rattle.snap_event.specs.Meaning.{Meaning, ahead, is_inside}
-use Rattle.snap_parser.specs.Parsing.{meaning}
-use Rattle.snap_parse.proofs.Loading.{made, founded}
+use Rattle.std.proofs.Common.{◌≡◌, [], Bool, ap, ◌∙◌, refl}
+use Rattle.std.specs.Str.{chars}
+use Rattle.snap_event.specs.Meaning.{ahead, is_inside}
+use Rattle.snap_parser.specs.declared.error.LoadError.TheVariants.{OutOfMemory}
+use Rattle.snap_parser.specs.Parsing.{Parsing, meaning}
+use Rattle.snap_parse.specs.Loaded.{scan_error}
+use Rattle.snap_parse.proofs.Loading.{made, made-one, printed-given}
 use Rattle.snap_parse.proofs.load.YamlLoader.load_from_str.Goals as goal
 
 pub returns-in-Ok-clause-documents : goal.returns-in-Ok-clause-documents
 returns-in-Ok-clause-documents c =
-    let at : meaning c.new-parser.result ≡ ahead = ap meaning c.new-parser.ensures in
+    let at : meaning c.new-parser.result ≡ ahead = ap meaning c.new-parser.ensures.start in
     let told = c.in-Ok.ensures.stream refl at in
     made c.load.new.receiver c.into_documents.result told.events told.stream (told.gets [] c.new-loader.ensures) c.into_documents.ensures.ok
+
+pub returns-in-Ok-clause-printed : goal.returns-in-Ok-clause-printed
+returns-in-Ok-clause-printed c =
+    λ p is.
+    let will = printed-given (chars c.args.source.now) p c.new-parser.result is c.new-parser.ensures.gives in
+    made-one c.load.new.receiver c.into_documents.result p (c.in-Ok.ensures.gives _ _ refl will [] c.new-loader.ensures) c.into_documents.ensures.ok
+
+pub returns-in-Err-clause-memory : goal.returns-in-Err-clause-memory
+returns-in-Err-clause-memory c =
+    λ p is.
+    let will = printed-given (chars c.args.source.now) p c.new-parser.result is c.new-parser.ensures.gives in
+    let f : Parsing → Bool = λ v. is_inside (meaning v) in
+    let e : c.in-Err.error ≡ OutOfMemory = c.in-Err.ensures.memory _ (ap f c.new-parser.ensures.start) will in
+    c.refusal.ensures ∙ ap scan_error e
