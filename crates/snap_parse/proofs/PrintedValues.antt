@@ -90,8 +90,8 @@ numeral-or None w x is h = h
 numeral-or (Some z) w x is h = whole z refl (is z refl)
 
 real-or-text : (r : Bool) (w : List ℕ) → is_integer_in 10 w ≡ false → IsNumeral w (if r then v.real w else v.string w)
-real-or-text true w no = kept refl no
-real-or-text false w no = other (λ z h. cc)
+real-or-text true w isnt = kept refl isnt
+real-or-text false w isnt = other (λ z h. cc)
 
 decimal-or : (b : Bool) (w : List ℕ) → is_integer_in 10 w ≡ b → IsNumeral w (integer_or (if b then Some (t.number_in 10 w) else None) (if is_real_text w then v.real w else v.string w))
 decimal-or true w h = whole (t.number_in 10 w) refl (integer-short 10 w h)
@@ -153,10 +153,10 @@ read-numeral : (z : ℤ) (w : List ℕ) (x : v.Value) → IsNumeral w x → plai
 read-numeral z w x (whole y is bits) h =
     let typed : t.value (p.int y) ≡ t.value (p.int z) = ap plain_typed (sym is) ∙ h in
     let same : y ≡ z = cc in
-    read-if (t.has_64_bits z) z w x (λ _. is ∙ ap v.integer same) (λ no. absurd (clash (t.has_64_bits z) (ap t.has_64_bits (sym same) ∙ bits) no))
-read-numeral z w x (kept is no) h =
+    read-if (t.has_64_bits z) z w x (λ _. is ∙ ap v.integer same) (λ isnt. absurd (clash (t.has_64_bits z) (ap t.has_64_bits (sym same) ∙ bits) isnt))
+read-numeral z w x (kept is isnt) h =
     let k = kept-is (is_integer_text w) (t.has_128_bits (t.number_in 10 w)) (t.number_in 10 w) z (ap plain_typed (sym is) ∙ h) in
-    let wide : t.has_64_bits z ≡ false = ap t.has_64_bits (sym k.1) ∙ wide-digits w k.0 no in
+    let wide : t.has_64_bits z ≡ false = ap t.has_64_bits (sym k.1) ∙ wide-digits w k.0 isnt in
     read-if (t.has_64_bits z) z w x (λ yes. absurd (clash (t.has_64_bits z) yes wide)) (λ _. is)
 read-numeral z w x (other never) h = absurd (never z h)
 
@@ -174,7 +174,7 @@ never-bad (p.bool b) = refl
 never-bad (p.int z) = bad-if (t.has_64_bits z) z (signed_decimal z)
 never-bad (p.text s) = refl
 never-bad (p.list items) = refl
-never-bad (p.dict entries) = refl
+never-bad (p.dict held) = refl
 
 key-kept : (b : Bool) (k x : v.Value) (vs : List v.Value) → b ≡ false → (if b then paired (x ∷ vs) else ((k, x) ∷ paired vs)) ≡ (k, x) ∷ paired vs
 key-kept true k x vs h = absurd (cc)

@@ -1,5 +1,5 @@
 -- The tree of tokens and the node of a plain tree, as it is printed.
-use Rattle.std.specs.Prelude.{ℕ, List, None, Bool, codes, if◌then◌else◌}
+use Rattle.std.specs.Prelude.{ℕ, List, None, codes, if◌then◌else◌}
 use Rattle.std.specs.Fmt.{signed_decimal}
 use Rattle.snap_content.specs.Plain as p
 use Rattle.snap_content.specs.Quotes.{needs_quotes}

@@ -27,7 +27,7 @@ pub(crate) fn scalar(
     style: TScalarStyle,
     tag: Option<Tag>,
 ) -> Result<Yaml, OutOfMemory>
-    ensures { IfOk result (λ made. value_of made ≡ scalar_value text style tag) }
+    ensures { IfOk result (λ made. value_of made ≡ scalar_value text.entry style tag) }
 {
     match style {
         TScalarStyle::Plain => plain(alloc, text.as_str(), tag),

@@ -19,8 +19,8 @@ returns-in-Ok-clause-printed c =
     let will = printed-given (chars c.args.source.now) p c.new-parser.result is c.new-parser.ensures.gives in
     made-one c.load.new.receiver c.into_documents.result p (c.in-Ok.ensures.gives _ _ refl will [] c.new-loader.ensures) c.into_documents.ensures.ok
 
-pub returns-in-Err-clause-memory : goal.returns-in-Err-clause-memory
-returns-in-Err-clause-memory c =
+pub returns-clause-memory : goal.returns-clause-memory
+returns-clause-memory c =
     λ p is.
     let will = printed-given (chars c.args.source.now) p c.new-parser.result is c.new-parser.ensures.gives in
     let f : Parsing → Bool = λ v. is_inside (meaning v) in
