@@ -1,1 +1,4 @@
-mod FromValue
+mod Magnitudes
+mod PlainRead
+mod ReadBack
+mod Parsing
