@@ -1,4 +1,4 @@
-//! YAML texts of trees: printing, and reading of what was printed.
+//! YAML texts of trees: printing, and reading of any text.
 //! It hands on what the crates below print and read, with paths in its refusals,
 //! and says in laws what holds of every printed text.
 //!
