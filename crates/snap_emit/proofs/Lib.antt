@@ -2,3 +2,4 @@ mod Magnitudes
 mod PlainRead
 mod ReadBack
 mod Parsing
+pub mod OneText
