@@ -115,9 +115,7 @@ impl Loader {
                 Ok(())
             }
             Event::DocumentEnd => self.end_document(),
-            Event::Scalar(text, style, _, tag) => {
-                self.put(scalar(self.alloc, text.as_str(), style, tag)?)
-            }
+            Event::Scalar(text, style, _, tag) => self.put(scalar(self.alloc, text, style, tag)?),
             Event::SequenceStart(_) => {
                 let items = Array::new(self.alloc);
                 self.open.push_front(Frame::List(items))?;

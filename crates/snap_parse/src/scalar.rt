@@ -4,7 +4,7 @@ ghost use Rattle.std.specs.Str.{chars};
 ghost use Rattle.snap_parse.specs.Documents.{plain_value, scalar_value};
 ghost use Rattle.snap_yaml.specs.View.{value_of};
 
-use snap_content::{OutOfMemory, Text};
+use snap_content::{Lent, OutOfMemory};
 use snap_event::Tag;
 use snap_token::TScalarStyle;
 use snap_yaml::Yaml;
@@ -20,17 +20,17 @@ fn plain(alloc: Global, text: &str, tag: Option<Tag>) -> Result<Yaml, OutOfMemor
     }
 }
 
-/// The value of a scalar, whose text is copied once.
+/// The value of a scalar. A text that is held already becomes its text, and a borrowed one is copied once.
 pub(crate) fn scalar(
     alloc: Global,
-    text: &str,
+    text: Lent<'_>,
     style: TScalarStyle,
     tag: Option<Tag>,
 ) -> Result<Yaml, OutOfMemory>
-    ensures { IfOk result (λ made. value_of made ≡ scalar_value (chars text.now) style tag) }
+    ensures { IfOk result (λ made. value_of made ≡ scalar_value text style tag) }
 {
     match style {
-        TScalarStyle::Plain => plain(alloc, text, tag),
-        _ => Ok(Yaml::String(Text::from_str(alloc, text)?)),
+        TScalarStyle::Plain => plain(alloc, text.as_str(), tag),
+        _ => Ok(Yaml::String(text.into_text(alloc)?)),
     }
 }

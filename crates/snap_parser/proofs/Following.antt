@@ -1,5 +1,5 @@
 -- Runs of a parser whose events are known.
-use Rattle.std.proofs.Common.{◌≡◌, List, [], ◌∷◌, ◌++◌, Option, None, Some, Bool, true, false, not, ◌&&◌, refl, sym, ◌∙◌, ap, subst, append_assoc}
+use Rattle.std.proofs.Common.{◌≡◌, List, [], ◌∷◌, ◌++◌, Option, Some, Bool, true, false, not, refl, sym, ◌∙◌, ap, subst, append_assoc}
 use Rattle.std.specs.List.{list_all}
 use Rattle.snap_event.specs.declared.event.Event.{Event}
 use Rattle.snap_event.specs.declared.event.Event.TheVariants as e

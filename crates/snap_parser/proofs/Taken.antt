@@ -1,13 +1,12 @@
 -- What is taken of the tokens that a scanner owes.
-use Rattle.std.proofs.Common.{◌≡◌, List, [], ◌∷◌, Option, None, Some, Result, Ok, Err, refl, sym, ap, ◌∙◌, subst}
+use Rattle.std.proofs.Common.{◌≡◌, List, [], ◌∷◌, Option, None, Some, Ok, Err, subst}
 use Rattle.snap_token.specs.declared.info.ScanError.{ScanError}
-use Rattle.snap_token.specs.declared.info.ScanError.TheVariants.{OutOfMemory}
 use Rattle.snap_token.specs.declared.token.Token.{Token}
 use Rattle.snap_token.specs.declared.token.TokenType.{TokenType}
-use Rattle.snap_scan.specs.Owed.{IsFirst, GivesOwed, type_of}
+use Rattle.snap_scan.specs.Owed.{IsFirst, GivesOwed}
 use Rattle.snap_scan.specs.Scan.{Scan}
 use Rattle.snap_parser.specs.declared.tokens.Tokens.{Tokens}
-use Rattle.snap_parser.specs.Taking.{WillTakeFrom, WillTake, IsTakenFirst, TakesFirst}
+use Rattle.snap_parser.specs.Taking.{WillTakeFrom, IsTakenFirst, TakesFirst}
 
 first-taken : (t : Token) (new : Scan) (ts : List TokenType) → new.error ≡ None → IsFirst t new.state ts → IsTakenFirst t (record { scanner = new; held = None }) ts
 first-taken t new [] kept is = absurd is

@@ -3,8 +3,9 @@ ghost use Rattle.std.specs.Prelude.{true};
 
 use crate::machine::{Machine, ParseResult};
 use crate::state::{Ends, Stage, State};
+use crate::tokens::unexpected;
 use snap_event::Event;
-use snap_token::{ScanError, ScanInfo, Token, TokenType};
+use snap_token::{ScanInfo, Token, TokenType};
 
 impl<'a> Machine<'a> {
     ghost use Rattle.snap_parser.specs.Machine.{KeepsSoundIn, GivesIn, PaysIn, KeepsNames, StaysOnError};
@@ -26,7 +27,7 @@ impl<'a> Machine<'a> {
             Token(_, TokenType::BlockEntry) => {
                 self.parse_filled(Ends::BlockEntry, true, false, State::BlockSequenceEntry)
             }
-            Token(mark, _) => Err(ScanError::Syntax(mark, ScanInfo::P8)),
+            token => Err(unexpected(token, ScanInfo::P8)),
         }
     }
 
@@ -74,7 +75,7 @@ impl<'a> Machine<'a> {
                 self.parse_filled(Ends::BlockPair, true, true, State::BlockMappingValue)
             }
             Token(mark, TokenType::Value) => self.give_empty(mark, State::BlockMappingContent),
-            Token(mark, _) => Err(ScanError::Syntax(mark, ScanInfo::P5)),
+            token => Err(unexpected(token, ScanInfo::P5)),
         }
     }
 

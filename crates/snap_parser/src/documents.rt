@@ -5,8 +5,9 @@ ghost use Rattle.snap_parser.specs.Feed.{tokens_left, starts};
 
 use crate::machine::{Machine, ParseResult};
 use crate::state::{Ends, Stage, State};
+use crate::tokens::unexpected;
 use snap_event::Event;
-use snap_token::{ScanError, ScanInfo, Token, TokenType};
+use snap_token::{ScanInfo, Token, TokenType};
 
 impl<'a> Machine<'a> {
     ghost use Rattle.snap_parser.specs.Machine.{spot_of, meaning_now, events_now, IsSoundAhead, StaysSound, KeepsSoundIn, GivesIn, PaysIn, KeepsNames, StaysOnError};
@@ -26,7 +27,7 @@ impl<'a> Machine<'a> {
                 self.stage = Stage::Open(State::ImplicitDocumentStart);
                 Ok((Event::StreamStart, mark))
             }
-            Token(mark, _) => Err(ScanError::Syntax(mark, ScanInfo::P1)),
+            token => Err(unexpected(token, ScanInfo::P1)),
         }
     }
 
@@ -97,7 +98,7 @@ impl<'a> Machine<'a> {
                 self.stage = Stage::Open(State::DocumentContent);
                 Ok((Event::DocumentStart, mark))
             }
-            Token(mark, _) => Err(ScanError::Syntax(mark, ScanInfo::P2)),
+            token => Err(unexpected(token, ScanInfo::P2)),
         }
     }
 

@@ -1,8 +1,9 @@
 //! Sequences and mappings in flow.
 use crate::machine::{Machine, ParseResult};
 use crate::state::{Ends, Stage, State};
+use crate::tokens::unexpected;
 use snap_event::Event;
-use snap_token::{Marker, ScanError, ScanInfo, Token, TokenType};
+use snap_token::{Marker, ScanInfo, Token, TokenType};
 
 impl<'a> Machine<'a> {
     ghost use Rattle.snap_parser.specs.Machine.{KeepsSoundIn, GivesIn, PaysIn, KeepsNames, StaysOnError};
@@ -47,7 +48,7 @@ impl<'a> Machine<'a> {
                 Ok((Event::SequenceEnd, mark))
             }
             Token(_, TokenType::FlowEntry) => self.flow_sequence_item(),
-            Token(mark, _) => Err(ScanError::Syntax(mark, ScanInfo::P7)),
+            token => Err(unexpected(token, ScanInfo::P7)),
         }
     }
 
@@ -154,7 +155,7 @@ impl<'a> Machine<'a> {
                 Ok((Event::MappingEnd, mark))
             }
             Token(mark, TokenType::FlowEntry) => self.flow_mapping_item(Some(mark)),
-            Token(mark, _) => Err(ScanError::Syntax(mark, ScanInfo::P6)),
+            token => Err(unexpected(token, ScanInfo::P6)),
         }
     }
 

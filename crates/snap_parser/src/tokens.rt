@@ -121,3 +121,10 @@ impl<'a> Tokens<'a> {
         self.scanner.mark()
     }
 }
+
+/// What is wrong where a token stands that cannot stand there.
+pub(crate) fn unexpected(token: Token<'_>, info: ScanInfo) -> ScanError
+    ensures { result ≡ ScanError.Syntax token.entry.0 info }
+{
+    ScanError::Syntax(token.0, info)
+}
