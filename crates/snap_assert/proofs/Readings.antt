@@ -28,7 +28,7 @@ pub record AreOne (file : Option (List ℕ)) (x y : List ℕ) (a b : Plain) : Ty
 pub one_reading : (file : Option (List ℕ)) (x y : List ℕ) (a b : Plain) → IsTextFile file x → ReadsHeader x a → IsTextFile file y → HasHeader y b → AreOne file x y a b
 one_reading file x y a b p h q k =
     let same = one_text file x y p q in
-    record { text = same; tree = h.read b k.readable (ap header_of same ∙ k.header) }
+    record { text = same; tree = h.read b k.within (ap header_of same ∙ k.header) }
 
 -- a file has a header or none
 pub headed_or_not : (file : Option (List ℕ)) (x y : List ℕ) → IsTextFile file x → IsTextFile file y → is_headed x ≡ true → is_headed y ≡ false → ⊥

@@ -2,7 +2,7 @@
 use Rattle.std.specs.Prelude.{◌≡◌, ◌↔◌, ◌⊎◌, ◌||◌, ◌&&◌, ℕ, Bool, true, false, List, Option, None, codes}
 use Rattle.snap_content.specs.Plain.{Plain, dict, Entries, entry, no_entries}
 use Rattle.snap_content.specs.Lines.{text_of}
-use Rattle.snap_content.specs.Readable.{IsReadable}
+use Rattle.snap_content.specs.Readable.{IsWithin}
 use Rattle.snap_text.specs.Legacy.{legacy}
 use Rattle.snap_text.specs.Normal.{normal}
 use Rattle.snap_store.specs.FileSplit.{is_headed, body_of}
@@ -27,7 +27,7 @@ abbrev pub says_binary : Entries → Bool
 says_binary no_entries = false
 says_binary (entry key value more) = (is_named (codes "snapshot_kind") key && is_named (codes "binary") value) || says_binary more
 
--- the header is a printed Dict with simple keys, and no pair of it says binary
+-- the header is a printed dict, and no pair of it says binary
 pub record HasCanonicalHeader (file : Option (List ℕ)) : Type 0 where
   pub whole : List ℕ
   pub there : IsTextFile file whole
@@ -72,9 +72,9 @@ IsUnread file = IsNoText file ⊎ (HasNoDict file ⊎ HasNoKind file)
 -- the file was saved for a tree, under a canonical header
 pub record IsSavedFor (file : Option (List ℕ)) (tree : Plain) : Type 0 where
   pub entries : Entries
-  pub header : IsReadable (dict entries)
+  pub header : IsWithin (dict entries)
   pub not_binary : says_binary entries ≡ false
-  pub readable : IsReadable tree
+  pub within : IsWithin tree
   pub there : IsTextFile file (file_of (dict entries) tree)
 
 -- whether a tree may pass against a file
@@ -92,4 +92,4 @@ pub record May (passed : Bool) (file : Option (List ℕ)) (tree : Plain) : Type 
   -- nor where the file isn't understood
   pub unread : IsUnread file → passed ≡ false
   -- against a file that was saved for a tree exactly where both trees are equal
-  pub saved : (stored : Plain) → IsSavedFor file stored → IsReadable tree → (passed ≡ true) ↔ (stored ≡ tree)
+  pub saved : (stored : Plain) → IsSavedFor file stored → IsWithin tree → (passed ≡ true) ↔ (stored ≡ tree)

@@ -1,1 +1,5 @@
-mod FromValue
+mod Magnitudes
+mod PlainRead
+mod ReadBack
+mod Parsing
+pub mod OneText

@@ -1,3 +1,3 @@
-pub mod FromValue
+pub mod PlainRead
 pub mod Parsed
 pub mod Examples

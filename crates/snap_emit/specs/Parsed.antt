@@ -1,8 +1,8 @@
 -- What a reading comes to.
-use Rattle.std.specs.Prelude.{◌≡◌, ℕ, List, Bool, false, Result, Ok, Err}
+use Rattle.std.specs.Prelude.{◌≡◌, ℕ, List, false, Result, Ok, Err}
 use Rattle.snap_content.specs.Lines.{document_of}
 use Rattle.snap_content.specs.Plain.{Plain, content_of}
-use Rattle.snap_content.specs.Readable.{IsReadable}
+use Rattle.snap_content.specs.Readable.{IsWithin}
 use Rattle.snap_content.specs.View.{tree}
 use Rattle.snap_content.specs.declared.content.Content.{Content}
 use Rattle.snap_content.specs.declared.error.Error.{Error}
@@ -11,11 +11,11 @@ use Rattle.snap_emit.specs.declared.yaml.Header.{Header}
 
 -- the text may be read as this tree: where it is a printed text, that is the tree that was printed
 abbrev pub MayBeReadAs : List ℕ → Plain → Type 0
-MayBeReadAs text plain = (t : Plain) → IsReadable t → text ≡ document_of t → plain ≡ t
+MayBeReadAs text plain = (t : Plain) → IsWithin t → text ≡ document_of t → plain ≡ t
 
--- no tree with simple keys is printed as the text
+-- no tree whose numbers have 128 bits is printed as the text
 abbrev pub IsUnprinted : List ℕ → Type 0
-IsUnprinted text = (t : Plain) → IsReadable t → text ≡ document_of t → ⊥
+IsUnprinted text = (t : Plain) → IsWithin t → text ≡ document_of t → ⊥
 
 -- a tree was read from the text
 pub record IsReadFrom (made : Content) (text : List ℕ) : Type 0 where
@@ -46,5 +46,5 @@ HeaderRefusalEnd text path error = RefusalEnd text path error
 
 -- the same of a header, in which no number is kept as a text where it is a printed one
 abbrev pub HeaderEnd : List ℕ → List ℕ → Result Header Error → Type 0
-HeaderEnd text path (Ok header) = IsReadFrom header.content text × ((t : Plain) → IsReadable t → text ≡ document_of t → header.number_as_text ≡ false)
+HeaderEnd text path (Ok header) = IsReadFrom header.content text × ((t : Plain) → IsWithin t → text ≡ document_of t → header.number_as_text ≡ false)
 HeaderEnd text path (Err error) = HeaderRefusalEnd text path error

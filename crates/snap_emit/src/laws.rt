@@ -3,7 +3,7 @@ ghost use Rattle.std.specs.Prelude.{◌≡◌, true};
 ghost use Rattle.snap_content.specs.Lines.{lines_of, text_of};
 ghost use Rattle.snap_content.specs.Plain.{Plain};
 ghost use Rattle.snap_content.specs.Printed.{AreLines};
-ghost use Rattle.snap_content.specs.Readable.{IsReadable, IsWithin, is_word};
+ghost use Rattle.snap_content.specs.Readable.{IsWithin, is_word};
 ghost use Rattle.snap_content.specs.Spell.{spelling};
 ghost use Rattle.snap_content.specs.Typed.{typed, value};
 ghost use Rattle.snap_emit.specs.Examples.{AreMarkedNumbers, AreWords, AreWholeNumbers, AreReal, AreTexts};
@@ -13,9 +13,9 @@ pub const fn printed_lines_are_lines()
     ensures { (p : Plain) → IsWithin p → AreLines (lines_of p) }
 {}
 
-/// Trees with simple keys alone that are printed as one text are one tree.
+/// Trees whose numbers have 128 bits are one tree where they are printed as one text.
 pub const fn one_text_is_one_tree()
-    ensures { (a b : Plain) → IsReadable a → IsReadable b → text_of a ≡ text_of b → a ≡ b }
+    ensures { (a b : Plain) → IsWithin a → IsWithin b → text_of a ≡ text_of b → a ≡ b }
 {}
 
 /// A scalar that is written without double quotes is what a reader takes its spelling for.

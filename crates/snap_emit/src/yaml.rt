@@ -4,14 +4,13 @@ ghost use Rattle.std.specs.Str.{chars};
 ghost use Rattle.snap_content.specs.Lines.{document_of, lines_of, text_of};
 ghost use Rattle.snap_content.specs.Plain.{Plain, plain, content_of};
 ghost use Rattle.snap_content.specs.Printed.{AreLines};
-ghost use Rattle.snap_content.specs.Readable.{IsReadable};
+ghost use Rattle.snap_content.specs.Readable.{IsWithin};
 ghost use Rattle.snap_content.specs.View.{tree};
-ghost use Rattle.snap_emit.specs.Parsed.{IsUnprinted, ParseEnd, HeaderEnd};
+ghost use Rattle.snap_emit.specs.Parsed.{ParseEnd, HeaderEnd};
 
 use crate::loaded::{Loaded, load_tree};
 use snap_content::{Content, Error, OutOfMemory, Text};
 use snap_emitter::printing::{print_body, printed_document};
-use snap_plain::{content_made, parse_plain};
 use std::alloc::Global;
 
 /// The header of a snapshot file.
@@ -44,9 +43,13 @@ pub fn body_to_string(alloc: Global, content: &Content) -> Result<Text, OutOfMem
     Ok(text)
 }
 
-/// The tree of a text that is no printed one.
-fn loaded_tree(alloc: Global, text: &str, path: &Text) -> Result<Content, Error>
-    ensures { IsUnprinted (chars text.now) → ParseEnd (chars text.now) path.now result }
+/// The tree of a YAML text that is one document: of a printed text the tree that was printed. A number that is no whole number
+/// of 128 bits refuses it with `FloatText`, and all else that is no tree with `FailedParsingYaml`, whichever stands first, with
+/// the path.
+pub fn parse_str(alloc: Global, text: &str, path: &Text) -> Result<Content, Error>
+    ensures end { ParseEnd (chars text.now) path.now result }
+    ensures read { (t : Plain) → IsWithin t → chars text.now ≡ document_of t
+        → IfOk result (λ made. tree made ≡ content_of t) }
 {
     let Loaded {
         content,
@@ -61,9 +64,11 @@ fn loaded_tree(alloc: Global, text: &str, path: &Text) -> Result<Content, Error>
     }
 }
 
-/// The header in a text that is no printed one.
-fn loaded_header(alloc: Global, text: &str, path: &Text) -> Result<Header, Error>
-    ensures { IsUnprinted (chars text.now) → HeaderEnd (chars text.now) path.now result }
+/// The same for the header of a snapshot file, in which such a number is kept as its text.
+pub fn parse_header(alloc: Global, text: &str, path: &Text) -> Result<Header, Error>
+    ensures end { HeaderEnd (chars text.now) path.now result }
+    ensures read { (t : Plain) → IsWithin t → chars text.now ≡ document_of t
+        → IfOk result (λ header. tree header.content ≡ content_of t) }
 {
     let Loaded {
         content,
@@ -74,35 +79,6 @@ fn loaded_header(alloc: Global, text: &str, path: &Text) -> Result<Header, Error
         Some(content) => Ok(Header {
             content,
             number_as_text: has_number_text,
-        }),
-    }
-}
-
-/// The tree of a YAML text that is one document: of a printed text whose keys are all simple, the tree that was printed.
-/// A number that is no whole number of 128 bits refuses it with `FloatText`, and all else that is no tree with
-/// `FailedParsingYaml`, whichever stands first, with the path.
-pub fn parse_str(alloc: Global, text: &str, path: &Text) -> Result<Content, Error>
-    ensures end { ParseEnd (chars text.now) path.now result }
-    ensures read { (t : Plain) → IsReadable t → chars text.now ≡ document_of t
-        → IfOk result (λ made. tree made ≡ content_of t) }
-{
-    match parse_plain(alloc, text)? {
-        None => loaded_tree(alloc, text, path),
-        Some(made) => Ok(content_made(alloc, &made)?),
-    }
-}
-
-/// The same for the header of a snapshot file, in which such a number is kept as its text.
-pub fn parse_header(alloc: Global, text: &str, path: &Text) -> Result<Header, Error>
-    ensures end { HeaderEnd (chars text.now) path.now result }
-    ensures read { (t : Plain) → IsReadable t → chars text.now ≡ document_of t
-        → IfOk result (λ header. tree header.content ≡ content_of t) }
-{
-    match parse_plain(alloc, text)? {
-        None => loaded_header(alloc, text, path),
-        Some(made) => Ok(Header {
-            content: content_made(alloc, &made)?,
-            number_as_text: false,
         }),
     }
 }

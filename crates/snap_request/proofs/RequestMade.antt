@@ -63,7 +63,7 @@ request_made es module_name file name expr line made redactions keyed at_module 
 
 -- a document and its text are read as the same trees
 read_too : (document text : List ℕ) (tree : Plain) → text ≡ document → MayBeReadAs (chars text) tree → MayBeReadAs (chars document) tree
-read_too document text tree same read = λ t readable printed. read t readable (ap chars same ∙ printed)
+read_too document text tree same read = λ t within printed. read t within (ap chars same ∙ printed)
 
 -- the document is read as the request in the tree that was read
 pub spelled : (document text : List ℕ) (content : Content) (request : RequestView) → text ≡ document → IsUtf8 document → (read : IsReadFrom content (chars text))
@@ -79,11 +79,11 @@ none_spelled document text content same read held = no_request_read document rea
 -- nor where no tree was read
 pub none_parsed : (document text path : List ℕ) (error : Error) → text ≡ document → RefusalEnd (chars text) path error → (error ≡ OutOfMemory → ⊥)
     → (r : RequestView) → Spells document r → ⊥
-none_parsed document text path (FailedParsingYaml named) same end other r s = end.1 s.tree s.readable (ap chars same ∙ s.printed)
+none_parsed document text path (FailedParsingYaml named) same end other r s = end.1 s.tree s.within (ap chars same ∙ s.printed)
 none_parsed document text path UnexpectedDataType same end other r s = end
 none_parsed document text path MissingField same end other r s = end
 none_parsed document text path (FileIo named) same end other r s = end
-none_parsed document text path (FloatText named) same end other r s = end.1 s.tree s.readable (ap chars same ∙ s.printed)
+none_parsed document text path (FloatText named) same end other r s = end.1 s.tree s.within (ap chars same ∙ s.printed)
 none_parsed document text path JsonKey same end other r s = end
 none_parsed document text path (NotText named) same end other r s = end
 none_parsed document text path (NoFile named) same end other r s = end

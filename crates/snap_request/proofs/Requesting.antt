@@ -3,9 +3,9 @@ use Rattle.std.proofs.Common.{◌≡◌, ℕ, List, Bool, true, false, cond, dro
 use Rattle.snap_content.specs.Plain as p
 use Rattle.snap_content.specs.Plain.{Plain, dict, Entries}
 use Rattle.snap_content.specs.Lines.{document_of}
-use Rattle.snap_content.specs.Readable.{IsReadable}
+use Rattle.snap_content.specs.Readable.{IsWithin}
 use Rattle.snap_emit.specs.Parsed.{MayBeReadAs}
-use Rattle.snap_plain.proofs.Injective.{texts_same}
+use Rattle.snap_emit.proofs.OneText.{texts_same}
 use Rattle.std.specs.Str.{chars}
 use Rattle.snap_store.specs.Fields.{last_value, text_value, line_value}
 use Rattle.snap_place.specs.Place.{names_file}
@@ -56,19 +56,19 @@ pub reads_as : (document : List ℕ) (r : RequestView) → Spells document r →
 reads_as document r s = record {
   utf8 = s.utf8;
   tree = s.tree;
-  read = λ t readable printed. texts_same s.tree t s.readable readable (ap (drop 4) (sym s.printed ∙ printed));
+  read = λ t within printed. texts_same s.tree t s.within within (ap (drop 4) (sym s.printed ∙ printed));
   request_is = s.request_is;
 }
 
 -- a printed document is read only as the request that its tree is
-pub printed_read : (document : List ℕ) (r : RequestView) (t : Plain) → ReadsAs document r → IsReadable t → chars document ≡ document_of t → request_in t ≡ Some r
-printed_read document r t h readable printed = ap request_in (sym (h.read t readable printed)) ∙ h.request_is
+pub printed_read : (document : List ℕ) (r : RequestView) (t : Plain) → ReadsAs document r → IsWithin t → chars document ≡ document_of t → request_in t ≡ Some r
+printed_read document r t h within printed = ap request_in (sym (h.read t within printed)) ∙ h.request_is
 
 pub only_spelled : (document : List ℕ) (r other : RequestView) → Spells document r → ReadsAs document other → other ≡ r
-only_spelled document r other s h = same_request other r (sym (printed_read document other s.tree h s.readable s.printed) ∙ s.request_is)
+only_spelled document r other s h = same_request other r (sym (printed_read document other s.tree h s.within s.printed) ∙ s.request_is)
 
 -- where no request is in the tree that was read, no request is spelled
 pub no_request_read : (document : List ℕ) (tree : Plain) → MayBeReadAs (chars document) tree → request_in tree ≡ None → (r : RequestView) → Spells document r → ⊥
 no_request_read document tree read none r s =
-    let clash = sym s.request_is ∙ ap request_in (sym (read s.tree s.readable s.printed)) ∙ none in
+    let clash = sym s.request_is ∙ ap request_in (sym (read s.tree s.within s.printed)) ∙ none in
     cc clash

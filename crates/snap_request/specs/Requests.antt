@@ -5,7 +5,7 @@ use Rattle.snap_content.specs.Plain.{Plain, list, dict, Plains, item, no_items, 
 use Rattle.snap_content.specs.Tree.{Tree}
 use Rattle.snap_select.specs.Selected.{selected}
 use Rattle.snap_content.specs.Lines.{document_of}
-use Rattle.snap_content.specs.Readable.{IsReadable}
+use Rattle.snap_content.specs.Readable.{IsWithin}
 use Rattle.snap_emit.specs.Parsed.{MayBeReadAs}
 use Rattle.snap_store.specs.Fields.{last_value, text_value, line_value}
 use Rattle.snap_place.specs.Place.{names_file}
@@ -83,11 +83,11 @@ abbrev pub request_in : Plain → Option RequestView
 request_in (dict entries) = if is_keyed request_keys entries then request_from entries else None
 request_in _ = None
 
--- the document is the printed text of a request, with simple keys alone
+-- the document is the printed text of a request
 pub record Spells (document : List ℕ) (request : RequestView) : Type 0 where
   pub utf8 : IsUtf8 document
   pub tree : Plain
-  pub readable : IsReadable tree
+  pub within : IsWithin tree
   pub printed : chars document ≡ document_of tree
   pub request_is : request_in tree ≡ Some request
 

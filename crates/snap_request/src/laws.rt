@@ -4,7 +4,7 @@ ghost use Rattle.std.specs.List.{concat};
 ghost use Rattle.std.specs.Str.{chars};
 ghost use Rattle.snap_content.specs.Lines.{document_of};
 ghost use Rattle.snap_content.specs.Plain.{Plain};
-ghost use Rattle.snap_content.specs.Readable.{IsReadable};
+ghost use Rattle.snap_content.specs.Readable.{IsWithin};
 ghost use Rattle.snap_request.specs.Cut.{documents};
 ghost use Rattle.snap_request.specs.Requests.{RequestView, Spells, ReadsAs, request_in};
 
@@ -20,7 +20,7 @@ pub const fn a_printed_document_is_read_as_it_is_spelled()
     ensures only { (document : List ℕ) (r other : RequestView) → Spells document r
         → ReadsAs document other → other ≡ r }
     ensures printed { (document : List ℕ) (r : RequestView) (t : Plain) → ReadsAs document r
-        → IsReadable t → chars document ≡ document_of t → request_in t ≡ Some r }
+        → IsWithin t → chars document ≡ document_of t → request_in t ≡ Some r }
 {}
 
 /// Documents at concrete values.

@@ -2,7 +2,7 @@
 use Rattle.std.proofs.Common.{◌≡◌, ℕ, Bool, true, false, List, Option, Result, Ok, Err, refl, ap, sym, ◌∙◌, subst, IsErrAnd}
 use Rattle.snap_content.specs.Lines.{document_of}
 use Rattle.snap_content.specs.Plain.{Plain, dict, Entries, content_of}
-use Rattle.snap_content.specs.Readable.{IsReadable}
+use Rattle.snap_content.specs.Readable.{IsWithin}
 use Rattle.snap_content.specs.View.{tree}
 use Rattle.snap_content.specs.declared.content.Content.{Content}
 use Rattle.snap_content.specs.declared.error.Error.{Error}
@@ -32,17 +32,17 @@ pub header_read : (text shown : List ℕ) (headed : Headed) (made : Content) →
 header_read text shown headed made split same read = record {
   plain = read.plain;
   tree_is = read.tree_is;
-  header = record { headed = split.headed_is; read = λ t readable is. read.printed t readable (same ∙ split.header_is ∙ is) };
+  header = record { headed = split.headed_is; read = λ t within is. read.printed t within (same ∙ split.header_is ∙ is) };
 }
 
 -- where a number was kept as a text, the header is no printed one
 pub number_kept : (text shown : List ℕ) (headed : Headed) (file : Option (List ℕ)) (kept told : Bool) → IsTextFile file text → IsSplit headed text → shown ≡ headed.header
-    → ((t : Plain) → IsReadable t → shown ≡ document_of t → kept ≡ false) → told ≡ kept → told ≡ true → HasUnprintedHeader file
+    → ((t : Plain) → IsWithin t → shown ≡ document_of t → kept ≡ false) → told ≡ kept → told ≡ true → HasUnprintedHeader file
 number_kept text shown headed file kept told there split same none is kept_one = record {
   text = text;
   there = there;
   headed = split.headed_is;
-  unprinted = λ tree h. let clash = sym kept_one ∙ is ∙ none tree h.readable (same ∙ split.header_is ∙ h.header) in cc clash;
+  unprinted = λ tree h. let clash = sym kept_one ∙ is ∙ none tree h.within (same ∙ split.header_is ∙ h.header) in cc clash;
 }
 
 other_header : (text : List ℕ) (file : Option (List ℕ)) (plain : Plain) (held : Entries) → ReadsHeader text plain → plain ≡ dict held → ReadsHeader text (dict held)

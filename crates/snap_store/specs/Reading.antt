@@ -4,7 +4,7 @@ use Rattle.std.specs.Str.{IsUtf8, chars}
 use Rattle.std.specs.FinMap.{get}
 use Rattle.snap_content.specs.Plain.{Plain, dict, Entries}
 use Rattle.snap_content.specs.Lines.{document_of}
-use Rattle.snap_content.specs.Readable.{IsReadable}
+use Rattle.snap_content.specs.Readable.{IsWithin}
 use Rattle.snap_content.specs.declared.error.Error.{Error}
 use Rattle.snap_content.specs.declared.error.Error.TheVariants.{FailedParsingYaml, UnexpectedDataType, MissingField, FileIo, FloatText, JsonKey, NotText, NoFile, OutOfMemory}
 use Rattle.snap_emit.specs.Parsed.{MayBeReadAs}
@@ -28,10 +28,10 @@ pub record IsTextFile (file : Option (List ℕ)) (text : List ℕ) : Type 0 wher
   pub utf8 : IsUtf8 bytes
   pub characters : text ≡ chars bytes
 
--- the text is headed, and its header is this tree as it is printed, with simple keys
+-- the text is headed, and its header is this tree as it is printed
 pub record HasHeader (text : List ℕ) (tree : Plain) : Type 0 where
   pub headed : is_headed text ≡ true
-  pub readable : IsReadable tree
+  pub within : IsWithin tree
   pub header : header_of text ≡ document_of tree
 
 -- the text is headed, and its header is read as this tree: where it is a printed one, as that which was printed
@@ -68,7 +68,7 @@ pub record IsNoText (file : Option (List ℕ)) : Type 0 where
   pub there : file ≡ Some bytes
   pub broken : IsUtf8 bytes → ⊥
 
--- a header opens, and is no printed tree with simple keys
+-- a header opens, and is no printed tree
 pub record HasUnprintedHeader (file : Option (List ℕ)) : Type 0 where
   pub text : List ℕ
   pub there : IsTextFile file text

@@ -1,0 +1,81 @@
+-- Printed texts that are the same have the same document, whatever trees they are printed of.
+use Rattle.std.proofs.Common.{◌≡◌, ℕ, List, [], ◌∷◌, map, true, false, Some, sym, ap, ◌∙◌, refl, subst}
+use Rattle.snap_content.specs.Lines.{document_of}
+use Rattle.snap_content.specs.Plain.{Plain}
+use Rattle.snap_owed.specs.Tokens.{document_tokens}
+use Rattle.snap_owed.proofs.Documents.{plain-source}
+use Rattle.snap_scan.specs.Owed.{fetched, Steps, none_more, one_more, type_of, Owes}
+use Rattle.snap_scan.specs.Scan.{start_scan}
+use Rattle.snap_scan.specs.State.{State}
+use Rattle.snap_token.specs.Place.{before_nul}
+use Rattle.snap_token.specs.declared.token.TokenType.{TokenType}
+use Rattle.snap_event.specs.declared.event.Event.{Event}
+use Rattle.snap_event.specs.Nodes.{stream_events}
+use Rattle.snap_parser.specs.Place.{Spot, start_spot}
+use Rattle.snap_parser.specs.Twin.{Parsed, parse_step, stage_step, Yields, finished, then_one}
+use Rattle.snap_parser.specs.declared.state.Stage.TheVariants as g
+use Rattle.snap_yaml.specs.Value.{Value}
+use Rattle.snap_parse.specs.Documents.{document_value}
+use Rattle.snap_parse.specs.PrintedEvents.{node_of}
+use Rattle.snap_parse.specs.Steps.{steps, start}
+use Rattle.snap_parse.proofs.Folds.{stream-steps}
+use Rattle.snap_parse.proofs.PrintedRuns.{printed-events}
+
+-- fetches lead from a state to one end
+stopped : (s u : State) → s.ended ≡ true → Steps s u → s ≡ u
+stopped _ _ last (none_more s) = refl
+stopped _ _ last (one_more s t u open_ found rest) = absurd (cc)
+
+behind : (s t u : State) → s.ended ≡ false → fetched s ≡ Some t → u.ended ≡ true → Steps s u → Steps t u
+behind _ t _ open_ found last (none_more s) = absurd (cc)
+behind _ t _ open_ found last (one_more s v u again other rest) =
+    let P : State → Type 0 = λ x. Steps x u in
+    let same : v ≡ t = cc in
+    subst P same rest
+
+one-end : (s t u : State) → Steps s t → t.ended ≡ true → Steps s u → u.ended ≡ true → t ≡ u
+one-end _ _ u (none_more s) left more right = stopped s u left more
+one-end _ _ u (one_more s v t open_ found rest) left more right = one-end v t u rest left (behind s v u open_ found right more) right
+
+-- so the tokens that are owed are the same
+owed-same : (s : State) (xs ys : List TokenType) → Owes s xs → Owes s ys → xs ≡ ys
+owed-same s xs ys h k = sym h.given ∙ ap (λ e. map type_of e.held) (one-end s h.end k.end h.steps h.ended k.steps k.ended) ∙ k.given
+
+-- nothing is parsed behind the stream's end
+never : (p : Spot) (ts : List TokenType) (r : Parsed) → p.stage ≡ g.Ended → parse_step p ts ≡ Some r → ⊥
+never p ts r at step = let none = ap (λ v. stage_step v p.outer ts) at in cc
+
+-- and the events that these tokens yield are the same
+yielded-none : (p : Spot) (ts : List TokenType) (es : List Event) → p.stage ≡ g.Ended → Yields p ts es → [] ≡ es
+yielded-none p ts _ at (finished _ _ h) = refl
+yielded-none p ts _ at (then_one _ _ r es step more) = absurd (never p ts r at step)
+
+record First (r : Parsed) (es : List Event) : Type 0 where
+  rest : List Event
+  is : es ≡ r.event ∷ rest
+  more : Yields r.spot r.rest rest
+
+first-yielded : (p : Spot) (ts : List TokenType) (r : Parsed) (es : List Event) → parse_step p ts ≡ Some r → Yields p ts es → First r es
+first-yielded p ts r _ step (finished _ _ h) = absurd (never p ts r h step)
+first-yielded p ts r _ step (then_one _ _ q es other more) =
+    let same : q ≡ r = cc in
+    let P : Parsed → Type 0 = λ x. Yields x.spot x.rest es in
+    record { rest = es; is = ap (λ x. x.event ∷ es) same; more = subst P same more }
+
+yielded-same : (p : Spot) (ts : List TokenType) (xs ys : List Event) → Yields p ts xs → Yields p ts ys → xs ≡ ys
+yielded-same p ts _ ys (finished _ _ h) k = yielded-none p ts ys h k
+yielded-same p ts _ ys (then_one _ _ r es step more) k =
+    let other = first-yielded p ts r ys step k in
+    ap (λ x. r.event ∷ x) (yielded-same r.spot r.rest es other.rest more other.more) ∙ sym other.is
+
+one-value : (x y : Value) → ◌≡◌ {A = List Value} (x ∷ []) (y ∷ []) → x ≡ y
+one-value x y same = cc
+
+pub documents-same : (a b : Plain) → document_of a ≡ document_of b → document_value (node_of a) ≡ document_value (node_of b)
+documents-same a b same =
+    let P : List ℕ → Type 0 = λ v. Owes (start_scan (before_nul v)).state (document_tokens b) in
+    let tokens = owed-same (start_scan (before_nul (document_of a))).state (document_tokens a) (document_tokens b) (plain-source a) (subst P (sym same) (plain-source b)) in
+    let Q : List TokenType → Type 0 = λ v. Yields start_spot v (stream_events (node_of b ∷ [])) in
+    let events = yielded-same start_spot (document_tokens a) (stream_events (node_of a ∷ [])) (stream_events (node_of b ∷ [])) (printed-events a) (subst Q (sym tokens) (printed-events b)) in
+    let f : List Event → List Value = λ es. (steps es start).documents in
+    one-value (document_value (node_of a)) (document_value (node_of b)) (sym (stream-steps (node_of a ∷ [])) ∙ ap f events ∙ stream-steps (node_of b ∷ []))
