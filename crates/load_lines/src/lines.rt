@@ -1,4 +1,5 @@
 //! What the loader makes of a text, as lines.
+use row_lines::add_escaped;
 use snap_content::{OutOfMemory, Text};
 use snap_parse::{Array, Hash, ScanError, Yaml, YamlLoader};
 use std::alloc::Global;
@@ -97,15 +98,6 @@ fn add_line(
 ) -> Result<(), OutOfMemory> {
     let head = format!(in alloc; "{depth} {name}\t")?;
     lines.push_str(alloc, head.as_str())?;
-    for c in text.chars() {
-        match c {
-            '\n' => lines.push_str(alloc, "\\n")?,
-            '\r' => lines.push_str(alloc, "\\r")?,
-            '\t' => lines.push_str(alloc, "\\t")?,
-            '\0' => lines.push_str(alloc, "\\0")?,
-            '\\' => lines.push_str(alloc, "\\\\")?,
-            _ => lines.push(alloc, c)?,
-        }
-    }
+    add_escaped(alloc, lines, text)?;
     lines.push_str(alloc, "\n")
 }

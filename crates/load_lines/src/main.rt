@@ -8,47 +8,16 @@
 mod lines;
 
 use crate::lines::document_lines;
-use snap_content::{OutOfMemory, Text};
+use row_lines::{answer_lines, text_of};
+use snap_content::Text;
 use std::alloc::Global;
-use std::io::{self, BufRead, Write};
 
-/// The text that a line stands for.
-fn text_of(alloc: Global, line: &str) -> Result<Text, OutOfMemory> {
-    let mut text = Text::empty();
-    let mut is_escaped = false;
-    for c in line.chars() {
-        if is_escaped {
-            text.push(alloc, escaped(c))?;
-            is_escaped = false;
-        } else if c == '\\' {
-            is_escaped = true;
-        } else {
-            text.push(alloc, c)?;
-        }
-    }
-    Ok(text)
-}
-
-fn escaped(c: char) -> char {
-    match c {
-        'n' => '\n',
-        'r' => '\r',
-        't' => '\t',
-        '0' => '\0',
-        _ => c,
-    }
+/// The lines that answer a line.
+fn answer(alloc: Global, line: &str) -> Result<Text, anyhow::Error> {
+    let text = text_of(alloc, line)?;
+    Ok(document_lines(alloc, text.as_str())?)
 }
 
 fn main(rt: HostRuntime) -> Result<(), anyhow::Error> {
-    let alloc = rt.alloc();
-    let mut out = io::BufWriter::new(alloc, rt.stdout())?;
-    let input = io::BufReader::new(alloc, rt.stdin())?;
-    for line in input.lines(alloc) {
-        let line = line?;
-        let text = text_of(alloc, line.as_str())?;
-        let lines = document_lines(alloc, text.as_str())?;
-        writeln!(out, "{}", lines.as_str())?;
-    }
-    out.flush()?;
-    Ok(())
+    answer_lines(rt.alloc(), rt.stdin(), rt.stdout(), answer)
 }

@@ -3,6 +3,7 @@ ghost use Rattle.std.specs.Prelude.{◌≡◌, ◌<◌, IfOk, true};
 ghost use Rattle.snap_event.specs.Meaning.{is_stream_end};
 ghost use Rattle.snap_parser.specs.Parsing.{events_left};
 
+use row_lines::add_escaped;
 use snap_content::{OutOfMemory, Text};
 use snap_event::{Event, Tag};
 use snap_parser::Parser;
@@ -128,15 +129,5 @@ fn style_name(style: &TScalarStyle) -> &'static str {
 /// Adds a field, in which a backslash stands before the letter of a line end, a tab or NUL, and before a backslash.
 fn add_field(alloc: Global, lines: &mut Text, field: &str) -> Result<(), OutOfMemory> {
     lines.push_str(alloc, "\t")?;
-    for c in field.chars() {
-        match c {
-            '\n' => lines.push_str(alloc, "\\n")?,
-            '\r' => lines.push_str(alloc, "\\r")?,
-            '\t' => lines.push_str(alloc, "\\t")?,
-            '\0' => lines.push_str(alloc, "\\0")?,
-            '\\' => lines.push_str(alloc, "\\\\")?,
-            _ => lines.push(alloc, c)?,
-        }
-    }
-    Ok(())
+    add_escaped(alloc, lines, field)
 }
