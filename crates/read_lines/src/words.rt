@@ -1,0 +1,81 @@
+//! The tree of a text as words.
+use row_lines::add_escaped;
+use snap_content::{Content, Error, Items, OutOfMemory, Pairs, Text};
+use snap_emit::parse_str;
+use std::alloc::Global;
+
+/// The words of the tree that a text is read as, a tab behind each and a collection behind what it holds; or `!` and why there is
+/// none.
+///
+/// `n` is null, `t` and `f` are truths, a number stands behind the name of its kind, a text behind `s`; `a` and how many of the
+/// trees before it are the items; `h` and how many pairs of the trees before it are the entries.
+pub fn tree_line(alloc: Global, text: &str) -> Result<Text, OutOfMemory> {
+    let mut line = Text::empty();
+    match parse_str(alloc, text, &Text::empty()) {
+        Ok(content) => add_tree(alloc, &mut line, &content)?,
+        Err(error) => add_refusal(alloc, &mut line, &error)?,
+    }
+    Ok(line)
+}
+
+/// After want of memory there is no line.
+fn add_refusal(alloc: Global, line: &mut Text, error: &Error) -> Result<(), OutOfMemory> {
+    match error {
+        Error::OutOfMemory => Err(OutOfMemory),
+        Error::FloatText(_) => line.push_ascii(alloc, "! FloatText"),
+        _ => line.push_ascii(alloc, "! FailedParsingYaml"),
+    }
+}
+
+#[cycle(words)]
+fn add_tree(alloc: Global, line: &mut Text, content: &Content) -> Result<(), OutOfMemory> {
+    match content {
+        Content::None => line.push_ascii(alloc, "n\t"),
+        Content::Bool(true) => line.push_ascii(alloc, "t\t"),
+        Content::Bool(false) => line.push_ascii(alloc, "f\t"),
+        Content::String(text) => add_text(alloc, line, text.as_str()),
+        Content::Seq(items) => add_items(alloc, line, items),
+        Content::Map(pairs) => add_pairs(alloc, line, pairs),
+        number => add_number(alloc, line, number),
+    }
+}
+
+#[cycle(words)]
+fn add_items(alloc: Global, line: &mut Text, items: &Items) -> Result<(), OutOfMemory> {
+    for item in items.as_slice() {
+        add_tree(alloc, line, item)?;
+    }
+    add_count(alloc, line, "a", items.len())
+}
+
+#[cycle(words)]
+fn add_pairs(alloc: Global, line: &mut Text, pairs: &Pairs) -> Result<(), OutOfMemory> {
+    for (key, value) in pairs.as_slice() {
+        add_tree(alloc, line, key)?;
+        add_tree(alloc, line, value)?;
+    }
+    add_count(alloc, line, "h", pairs.len())
+}
+
+fn add_count(alloc: Global, line: &mut Text, word: &str, count: usize) -> Result<(), OutOfMemory> {
+    let counted = format!(in alloc; "{word}{count}\t")?;
+    line.push_str(alloc, counted.as_str())
+}
+
+fn add_text(alloc: Global, line: &mut Text, text: &str) -> Result<(), OutOfMemory> {
+    line.push_ascii(alloc, "s")?;
+    add_escaped(alloc, line, text)?;
+    line.push_ascii(alloc, "\t")
+}
+
+/// A reader makes numbers of these kinds alone.
+fn add_number(alloc: Global, line: &mut Text, number: &Content) -> Result<(), OutOfMemory> {
+    let word = match number {
+        Content::I64(number) => format!(in alloc; "I64 {number}\t")?,
+        Content::U64(number) => format!(in alloc; "U64 {number}\t")?,
+        Content::I128(number) => format!(in alloc; "I128 {number}\t")?,
+        Content::U128(number) => format!(in alloc; "U128 {number}\t")?,
+        _ => format!(in alloc; "?\t")?,
+    };
+    line.push_str(alloc, word.as_str())
+}
