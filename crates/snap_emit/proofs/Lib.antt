@@ -1,3 +1,4 @@
+mod Printing
 mod Magnitudes
 mod PlainRead
 mod ReadBack

@@ -1,8 +1,6 @@
-//! Trees, printed through their values: beside worked texts, and beside the printer by lists of lines.
+//! Trees, printed through their values, beside worked texts.
 use snap_content::{Blob, Content, Fields, Items, OutOfMemory, Pairs, Text};
 use snap_emitter::printing::{print_body, printed_document};
-use snap_print::from_content::plain_tree;
-use snap_print::print::document_text;
 use std::alloc::Global;
 use std::process::Abort;
 use std::test::Fail;
@@ -117,14 +115,5 @@ const PRINTED: &str =
 fn trees_of_each_kind_are_printed_as_their_plain_form(rt: HostRuntime) -> Result<(), Fail> {
     let tree = Content::Seq(variants(rt.alloc())?);
     assert_eq!(rt; printed_document(rt.alloc(), &tree)?.as_str(), PRINTED);
-    Ok(())
-}
-
-/// The printer by lists of lines writes the same text.
-#[test]
-fn lists_of_lines_are_the_same_text(rt: HostRuntime) -> Result<(), Fail> {
-    let tree = Content::Seq(variants(rt.alloc())?);
-    let plain = plain_tree(rt.alloc(), &tree)?;
-    assert_eq!(rt; document_text(rt.alloc(), &plain)?.as_str(), PRINTED);
     Ok(())
 }

@@ -3,8 +3,5 @@ pub mod Digits
 pub mod Words
 pub mod Escapes
 pub mod Spellings
-pub mod Trees
-pub mod Plains
-pub mod Within
 pub mod LineFacts
 pub mod Typing

@@ -6,11 +6,22 @@ use Rattle.snap_content.specs.Lines.{behind, indented, lines_of, item_lines, ent
 use Rattle.snap_content.specs.Printed.{IsLine, AreLines, is_break, begins_dashes, cut}
 use Rattle.snap_content.specs.Quotes.{ends_badly}
 use Rattle.snap_content.specs.Readable.{IsWithin, AreWithin, AreEntriesWithin}
-use Rattle.snap_content.specs.Spell.{spelling, is_flat}
+use Rattle.snap_content.specs.Spell.{spelling, is_flat, is_scalar}
 use Rattle.snap_print.proofs.Spellings.{spelling_line}
-use Rattle.snap_print.proofs.Tests.{and_no}
-use Rattle.snap_print.proofs.Trees.{simple_flat}
+use Rattle.snap_print.proofs.Tests.{and_left, and_no}
 use Rattle.snap_content.proofs.Booleans.{or_left, or_right}
+
+-- a simple key is written on one line
+scalar_flat : (k : p.Plain) → is_scalar k ≡ true → is_flat k ≡ true
+scalar_flat p.null h = refl
+scalar_flat (p.bool b) h = refl
+scalar_flat (p.int z) h = refl
+scalar_flat (p.text s) h = refl
+scalar_flat (p.list _) h = absurd (cc)
+scalar_flat (p.dict _) h = absurd (cc)
+
+simple_flat : (k : p.Plain) → is_simple k ≡ true → is_flat k ≡ true
+simple_flat k h = scalar_flat k (and_left (is_scalar k) _ h)
 
 lines-append : (xs ys : List (List ℕ)) → AreLines xs → AreLines ys → AreLines (xs ++ ys)
 lines-append [] ys h k = k

@@ -1,11 +1,8 @@
-//! How a scalar is spelled.
-ghost use Rattle.std.specs.Prelude.{◌≡◌, ◌++◌, IfOk, OnOk, false, ◌<◌, ◌^◌};
-ghost use Rattle.snap_content.specs.Readable.{IsNumber};
-ghost use Rattle.snap_content.specs.Spell.{escaped, escaped_code, quoted, spell_text, spell_bool};
-ghost use Rattle.snap_print.specs.PlainTree.{number_of};
-ghost use Rattle.std.specs.Fmt.{decimal, signed_decimal, digit_glyph};
+//! How a text is spelled.
+ghost use Rattle.std.specs.Prelude.{◌≡◌, ◌++◌, IfOk, OnOk, false, ◌<◌};
+ghost use Rattle.snap_content.specs.Spell.{escaped, escaped_code, quoted, spell_text};
+ghost use Rattle.std.specs.Fmt.{digit_glyph};
 
-use crate::plain::WholeNumber;
 use crate::quotes::need_quotes;
 use snap_content::{OutOfMemory, Text};
 use std::alloc::Global;
@@ -69,44 +66,4 @@ pub fn spelled_text(alloc: Global, value: &Text) -> Result<Text, OutOfMemory>
     } else {
         value.try_clone(alloc)
     }
-}
-
-/// `true` or `false`.
-pub fn spelled_bool(alloc: Global, value: bool) -> Result<Text, OutOfMemory>
-    ensures { IfOk result (λ text. text ≡ spell_bool value) }
-{
-    if value {
-        Text::from_ascii(alloc, "true")
-    } else {
-        Text::from_ascii(alloc, "false")
-    }
-}
-
-/// The number in base ten.
-pub fn spelled_number(alloc: Global, value: WholeNumber) -> Result<Text, OutOfMemory>
-    ensures value { IfOk result (λ text. text ≡ signed_decimal (number_of value)) }
-    ensures within { IsNumber (number_of value) }
-{
-    match value {
-        WholeNumber::Unsigned(number) => unsigned_digits(alloc, number),
-        WholeNumber::Signed(number) => signed_digits(alloc, number),
-    }
-}
-
-/// The number in base ten. It is a parameter, so that its range is known.
-fn unsigned_digits(alloc: Global, number: u128) -> Result<Text, OutOfMemory>
-    ensures value { IfOk result (λ text. text ≡ decimal number) }
-    ensures within { number < 2 ^ 128 }
-{
-    let digits = format!(in alloc; "{number}")?;
-    Text::from_ascii(alloc, digits.as_str())
-}
-
-/// The same of a number with a sign.
-fn signed_digits(alloc: Global, number: i128) -> Result<Text, OutOfMemory>
-    ensures value { IfOk result (λ text. text ≡ signed_decimal number) }
-    ensures within { IsNumber number }
-{
-    let digits = format!(in alloc; "{number}")?;
-    Text::from_ascii(alloc, digits.as_str())
 }

@@ -1,7 +1,7 @@
 use Rattle.snap_content.specs.Plain.{plain}
 use Rattle.snap_content.specs.View.{tree}
 use Rattle.snap_print.proofs.LineFacts.{printed_lines}
-use Rattle.snap_print.proofs.Within.{at_success}
+use Rattle.snap_emit.proofs.Printing.{at_success}
 use Rattle.snap_emit.proofs.yaml.to_string.Goals as goal
 
 pub returns-clause-lines : goal.returns-clause-lines

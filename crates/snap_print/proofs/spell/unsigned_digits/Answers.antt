@@ -1,9 +1,0 @@
-use Rattle.std.proofs.Common.{◌<◌, ◌^◌, arith}
-use Rattle.std.proofs.lemmas.Fmt.{IsAscii-decimal_wide}
-use Rattle.snap_content.proofs.Ascii.{list_all-IsAscii}
-use Rattle.snap_print.proofs.spell.unsigned_digits.Goals as goal
-
-pub from_ascii-requires : goal.from_ascii-requires
-from_ascii-requires c =
-    let range : c.args.number < 10 ^ 64 = omega arith in
-    rw (c.as_str.ensures.value, c.in_ok-digits.ensures.ok) (list_all-IsAscii _ (IsAscii-decimal_wide c.args.number range))

@@ -1,2 +1,0 @@
-pub mod PlainTree
-pub mod FromContent
