@@ -18,3 +18,5 @@ pub mod Orders
 pub mod Compared
 pub mod TotalOrder
 pub mod OrderLaws
+pub mod Keys
+pub mod KeyLaws

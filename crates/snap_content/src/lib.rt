@@ -4,7 +4,7 @@
 //!
 //! In the order in which data flows: `memory` and `error` (what goes wrong), `text`, `characters`, `blob` and `lent`
 //! (what a tree holds), `content` and `lists` (trees), `make` (trees of one value), `access` (looking into them),
-//! `clone`, `order` and `comparisons` (copies and comparisons), `laws`.
+//! `clone`, `order` and `comparisons` (copies and comparisons), `key` (keys of maps), `laws`.
 #![tactic(auto)]
 
 pub mod access;
@@ -14,6 +14,7 @@ pub mod clone;
 pub mod comparisons;
 pub mod content;
 pub mod error;
+pub mod key;
 pub mod laws;
 pub mod lent;
 pub mod lists;
@@ -25,6 +26,7 @@ pub mod text;
 pub use blob::Blob;
 pub use content::Content;
 pub use error::Error;
+pub use key::Key;
 pub use lent::Lent;
 pub use lists::{Fields, Items, Pairs};
 pub use memory::OutOfMemory;
