@@ -8,3 +8,7 @@ pub mod Rewrapped
 pub mod Booleans
 pub mod BeforeRest
 pub mod DictMade
+pub mod Count
+mod Joined
+mod Rearrangements
+mod KeyOrdered

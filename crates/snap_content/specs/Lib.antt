@@ -20,3 +20,4 @@ pub mod TotalOrder
 pub mod OrderLaws
 pub mod Keys
 pub mod KeyLaws
+pub mod Sorted

@@ -4,7 +4,7 @@
 //!
 //! In the order in which data flows: `memory` and `error` (what goes wrong), `text`, `characters`, `blob` and `lent`
 //! (what a tree holds), `content` and `lists` (trees), `make` (trees of one value), `access` (looking into them),
-//! `clone`, `order` and `comparisons` (copies and comparisons), `key` (keys of maps), `laws`.
+//! `clone`, `order` and `comparisons` (copies and comparisons), `key` and `sorting` (maps in the order of their keys), `laws`.
 #![tactic(auto)]
 
 pub mod access;
@@ -21,6 +21,7 @@ pub mod lists;
 pub mod make;
 pub mod memory;
 pub mod order;
+pub mod sorting;
 pub mod text;
 
 pub use blob::Blob;
