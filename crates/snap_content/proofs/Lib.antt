@@ -12,3 +12,5 @@ pub mod Count
 mod Joined
 mod Rearrangements
 mod KeyOrdered
+mod OneOrder
+mod Settled
