@@ -4,7 +4,8 @@
 //!
 //! In the order in which data flows: `memory` and `error` (what goes wrong), `text`, `characters`, `blob` and `lent`
 //! (what a tree holds), `content` and `lists` (trees), `make` (trees of one value), `access` (looking into them),
-//! `clone`, `order` and `comparisons` (copies and comparisons), `key` and `sorting` (maps in the order of their keys), `laws`.
+//! `clone`, `order` and `comparisons` (copies and comparisons), `key` and `sorting` (maps in the order of their keys),
+//! `to_content` (what a tree can be made of), `laws`.
 #![tactic(auto)]
 
 pub mod access;
@@ -23,6 +24,7 @@ pub mod memory;
 pub mod order;
 pub mod sorting;
 pub mod text;
+pub mod to_content;
 
 pub use blob::Blob;
 pub use content::Content;
@@ -32,3 +34,4 @@ pub use lent::Lent;
 pub use lists::{Fields, Items, Pairs};
 pub use memory::OutOfMemory;
 pub use text::Text;
+pub use to_content::ToContent;

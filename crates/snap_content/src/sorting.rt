@@ -88,10 +88,7 @@ fn sort_list(list: Items, alloc: Global) -> (Items, Result<(), OutOfMemory>)
 }
 
 #[cycle(sort)]
-fn sort_items(
-    mut items: Vec<Content>,
-    alloc: Global,
-) -> (Vec<Content>, Result<(), OutOfMemory>)
+fn sort_items(mut items: Vec<Content>, alloc: Global) -> (Vec<Content>, Result<(), OutOfMemory>)
     ensures ok { OnOk result.1 (ItemsRearranged InKeyOrder
         (item_trees items.items) (item_trees result.0.items)) }
     ensures partly { ItemsRearranged AsBeforeOrInKeyOrder
@@ -168,10 +165,7 @@ fn sort_pair(pair: &mut (Content, Content), alloc: Global) -> Result<(), OutOfMe
 }
 
 /// The entries by their keys; those with equal keys keep their order. After want of memory they stand as before.
-fn sort_entries(
-    entries: &mut [(Content, Content)],
-    alloc: Global,
-) -> Result<(), OutOfMemory>
+fn sort_entries(entries: &mut [(Content, Content)], alloc: Global) -> Result<(), OutOfMemory>
     ensures ok { OnOk result (InKeyOrder (map pair_tree entries.old) (map pair_tree entries.new)) }
     ensures partly { AsBeforeOrInKeyOrder
         (map pair_tree entries.old) (map pair_tree entries.new) }

@@ -215,22 +215,73 @@ struct Row {
 }
 
 #[test]
-fn keys_that_are_numbers(rt: HostRuntime) -> Result<(), Fail> {
+fn keys_without_a_sign(rt: HostRuntime) -> Result<(), Fail> {
     for row in &[
-        Row { tree: Content::Bool(true), key: Key::Bool(true) },
-        Row { tree: Content::U8(255), key: Key::U64(255) },
-        Row { tree: Content::U16(7), key: Key::U64(7) },
-        Row { tree: Content::U32(7), key: Key::U64(7) },
-        Row { tree: Content::U64(u64::MAX), key: Key::U64(u64::MAX) },
-        Row { tree: Content::Char('é'), key: Key::U64(233) },
-        Row { tree: Content::I8(-128), key: Key::I64(-128) },
-        Row { tree: Content::I16(-7), key: Key::I64(-7) },
-        Row { tree: Content::I32(7), key: Key::I64(7) },
-        Row { tree: Content::I64(i64::MIN), key: Key::I64(i64::MIN) },
-        Row { tree: Content::U128(7), key: Key::U128(7) },
-        Row { tree: Content::I128(7), key: Key::I128(7) },
-        Row { tree: Content::None, key: Key::Other },
-        Row { tree: Content::Unit, key: Key::Other },
+        Row {
+            tree: Content::Bool(true),
+            key: Key::Bool(true),
+        },
+        Row {
+            tree: Content::U8(255),
+            key: Key::U64(255),
+        },
+        Row {
+            tree: Content::U16(7),
+            key: Key::U64(7),
+        },
+        Row {
+            tree: Content::U32(7),
+            key: Key::U64(7),
+        },
+        Row {
+            tree: Content::U64(u64::MAX),
+            key: Key::U64(u64::MAX),
+        },
+        Row {
+            tree: Content::Char('é'),
+            key: Key::U64(233),
+        },
+        Row {
+            tree: Content::U128(7),
+            key: Key::U128(7),
+        },
+    ] {
+        assert!(rt; row.tree.as_key() == row.key);
+    }
+    Ok(())
+}
+
+#[test]
+fn keys_with_a_sign(rt: HostRuntime) -> Result<(), Fail> {
+    for row in &[
+        Row {
+            tree: Content::I8(-128),
+            key: Key::I64(-128),
+        },
+        Row {
+            tree: Content::I16(-7),
+            key: Key::I64(-7),
+        },
+        Row {
+            tree: Content::I32(7),
+            key: Key::I64(7),
+        },
+        Row {
+            tree: Content::I64(i64::MIN),
+            key: Key::I64(i64::MIN),
+        },
+        Row {
+            tree: Content::I128(7),
+            key: Key::I128(7),
+        },
+        Row {
+            tree: Content::None,
+            key: Key::Other,
+        },
+        Row {
+            tree: Content::Unit,
+            key: Key::Other,
+        },
     ] {
         assert!(rt; row.tree.as_key() == row.key);
     }
