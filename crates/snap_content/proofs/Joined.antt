@@ -4,7 +4,7 @@ use Rattle.std.proofs.lemmas.List.{drop-set-lt}
 use Rattle.snap_content.specs.Tree as t
 use Rattle.snap_content.specs.View.{tree, item_trees, pair_tree, pair_trees, field_trees}
 use Rattle.snap_content.specs.declared.content.Content.{Content}
-use Rattle.snap_content.proofs.Count.{count, count_items, count_pairs, count_fields}
+use Rattle.snap_content.specs.Count.{count, count_items, count_pairs, count_fields}
 
 abbrev pub joined : List Content → t.Trees → t.Trees
 joined [] more = more
@@ -13,6 +13,10 @@ joined (c ∷ cs) more = t.tree (tree c) (joined cs more)
 abbrev pub joined_fields : List (List ℕ × Content) → t.TreeFields → t.TreeFields
 joined_fields [] more = more
 joined_fields (f ∷ fs) more = t.field f.0 (tree f.1) (joined_fields fs more)
+
+abbrev pub joined_pairs : List (Content × Content) → t.TreePairs → t.TreePairs
+joined_pairs [] more = more
+joined_pairs (p ∷ ps) more = t.pair (tree p.0) (tree p.1) (joined_pairs ps more)
 
 pub joined-push : (cs : List Content) (c : Content) (more : t.Trees) → joined (cs ++ c ∷ []) more ≡ joined cs (t.tree (tree c) more)
 joined-push [] c more = refl
@@ -26,6 +30,14 @@ pub joined-whole : (k : ℕ) (cs : List Content) → joined (take k cs) (item_tr
 joined-whole zero cs = refl
 joined-whole (suc k) [] = refl
 joined-whole (suc k) (c ∷ cs) = ap (λ y. t.tree (tree c) y) (joined-whole k cs)
+
+pub joined_pairs-push : (ps : List (Content × Content)) (p : Content × Content) (more : t.TreePairs) → joined_pairs (ps ++ p ∷ []) more ≡ joined_pairs ps (t.pair (tree p.0) (tree p.1) more)
+joined_pairs-push [] p more = refl
+joined_pairs-push (x ∷ xs) p more = ap (λ y. t.pair (tree x.0) (tree x.1) y) (joined_pairs-push xs p more)
+
+pub joined_pairs-end : (ps : List (Content × Content)) → joined_pairs ps t.no_pairs ≡ pair_trees ps
+joined_pairs-end [] = refl
+joined_pairs-end (x ∷ xs) = ap (λ y. t.pair (tree x.0) (tree x.1) y) (joined_pairs-end xs)
 
 pub joined_fields-push : (fs : List (List ℕ × Content)) (f : List ℕ × Content) (more : t.TreeFields) → joined_fields (fs ++ f ∷ []) more ≡ joined_fields fs (t.field f.0 (tree f.1) more)
 joined_fields-push [] f more = refl

@@ -21,3 +21,5 @@ pub mod OrderLaws
 pub mod Keys
 pub mod KeyLaws
 pub mod Sorted
+pub mod Count
+pub mod Walked

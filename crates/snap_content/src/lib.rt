@@ -5,7 +5,7 @@
 //! In the order in which data flows: `memory` and `error` (what goes wrong), `text`, `characters`, `blob` and `lent`
 //! (what a tree holds), `content` and `lists` (trees), `make` (trees of one value), `access` (looking into them),
 //! `clone`, `order` and `comparisons` (copies and comparisons), `key` and `sorting` (maps in the order of their keys),
-//! `to_content` (what a tree can be made of), `laws`.
+//! `walking` (walks over trees), `to_content` (what a tree can be made of), `laws`.
 #![tactic(auto)]
 
 pub mod access;
@@ -25,6 +25,7 @@ pub mod order;
 pub mod sorting;
 pub mod text;
 pub mod to_content;
+pub mod walking;
 
 pub use blob::Blob;
 pub use content::Content;

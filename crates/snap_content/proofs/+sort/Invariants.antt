@@ -2,7 +2,7 @@ use Rattle.std.proofs.Common.{◌≡◌, ◌+◌, ◌*◌, List, ◌++◌, map, 
 use Rattle.snap_content.specs.Tree as t
 use Rattle.snap_content.specs.View.{tree, item_list, item_trees, pair_tree, pair_list, pair_trees, field_list, field_trees}
 use Rattle.snap_content.specs.Sorted.{Entry, InKeyOrder, AsBeforeOrInKeyOrder, ItemsRearranged, PairsRearranged, FieldsRearranged}
-use Rattle.snap_content.proofs.Count.{count, count_items, count_pairs, count_fields}
+use Rattle.snap_content.specs.Count.{count, count_items, count_pairs, count_fields}
 use Rattle.snap_content.proofs.Joined.{joined, joined_fields}
 use Rattle.snap_content.proofs.+sort.Given as goal
 
