@@ -23,8 +23,3 @@ pub record IsLine (line : List ℕ) : Type 0 where
 abbrev pub AreLines : List (List ℕ) → Type 0
 AreLines [] = Unit {0}
 AreLines (line ∷ lines) = IsLine line × AreLines lines
-
--- the lines of a text, from those characters of its first line that were seen
-abbrev pub cut : List ℕ → List ℕ → List (List ℕ)
-cut line [] = []
-cut line (c ∷ cs) = if c == 10 then line ∷ cut [] cs else cut (line ++ c ∷ []) cs
