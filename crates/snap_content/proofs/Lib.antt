@@ -8,3 +8,10 @@ pub mod Rewrapped
 pub mod Booleans
 pub mod BeforeRest
 pub mod DictMade
+mod Joined
+mod Rearrangements
+mod KeyOrdered
+mod OneOrder
+mod Settled
+mod Visits
+mod WalkTurns

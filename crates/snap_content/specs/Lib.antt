@@ -18,3 +18,8 @@ pub mod Orders
 pub mod Compared
 pub mod TotalOrder
 pub mod OrderLaws
+pub mod Keys
+pub mod KeyLaws
+pub mod Sorted
+pub mod Count
+pub mod Walked

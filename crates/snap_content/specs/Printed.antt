@@ -1,5 +1,5 @@
 -- What every printed line is known by.
-use Rattle.std.specs.Prelude.{◌≡◌, ℕ, List, [], ◌∷◌, ◌++◌, Bool, false, ◌==◌, ◌||◌, ◌&&◌, if◌then◌else◌}
+use Rattle.std.specs.Prelude.{◌≡◌, ℕ, List, [], ◌∷◌, Bool, false, ◌==◌, ◌||◌, ◌&&◌}
 use Rattle.std.specs.List.{list_any}
 use Rattle.snap_content.specs.Front.{begins}
 use Rattle.snap_content.specs.Quotes.{ends_badly}
@@ -23,8 +23,3 @@ pub record IsLine (line : List ℕ) : Type 0 where
 abbrev pub AreLines : List (List ℕ) → Type 0
 AreLines [] = Unit {0}
 AreLines (line ∷ lines) = IsLine line × AreLines lines
-
--- the lines of a text, from those characters of its first line that were seen
-abbrev pub cut : List ℕ → List ℕ → List (List ℕ)
-cut line [] = []
-cut line (c ∷ cs) = if c == 10 then line ∷ cut [] cs else cut (line ++ c ∷ []) cs

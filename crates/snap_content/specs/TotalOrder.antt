@@ -80,7 +80,7 @@ abbrev mutual
   fields t.no_fields r = number 0 r
   fields (t.field s v fs) r = number 1 (text s (code v (fields fs r)))
 
-then_equal : (o : Ordering) → ordering_then o Equal ≡ o
+pub then_equal : (o : Ordering) → ordering_then o Equal ≡ o
 then_equal Less = refl
 then_equal Equal = refl
 then_equal Greater = refl
@@ -174,7 +174,7 @@ coded_total : IsTotalOrder coded_cmp
 coded_total = on_total (λ a. code a []) (lists_total part_total)
 
 -- an order that answers as a total one does is total
-as_total : {K : Type 0} (R S : K → K → Ordering) → IsTotalOrder R → ((x y : K) → R x y ≡ S x y) → IsTotalOrder S
+pub as_total : {K : Type 0} (R S : K → K → Ordering) → IsTotalOrder R → ((x y : K) → R x y ≡ S x y) → IsTotalOrder S
 as_total R S o same = record {
   antisymm = λ x y. sym (same x y) ∙ o.antisymm x y ∙ ap ordering_reverse (same y x);
   trans = λ x y z h k. sym (same x z) ∙ o.trans x y z (same x y ∙ h) (same y z ∙ k);

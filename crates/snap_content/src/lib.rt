@@ -4,7 +4,8 @@
 //!
 //! In the order in which data flows: `memory` and `error` (what goes wrong), `text`, `characters`, `blob` and `lent`
 //! (what a tree holds), `content` and `lists` (trees), `make` (trees of one value), `access` (looking into them),
-//! `clone`, `order` and `comparisons` (copies and comparisons), `laws`.
+//! `clone`, `order` and `comparisons` (copies and comparisons), `key` and `sorting` (maps in the order of their keys),
+//! `walking` (walks over trees), `to_content` (what a tree can be made of), `laws`.
 #![tactic(auto)]
 
 pub mod access;
@@ -14,18 +15,24 @@ pub mod clone;
 pub mod comparisons;
 pub mod content;
 pub mod error;
+pub mod key;
 pub mod laws;
 pub mod lent;
 pub mod lists;
 pub mod make;
 pub mod memory;
 pub mod order;
+pub mod sorting;
 pub mod text;
+pub mod to_content;
+pub mod walking;
 
 pub use blob::Blob;
 pub use content::Content;
 pub use error::Error;
+pub use key::Key;
 pub use lent::Lent;
 pub use lists::{Fields, Items, Pairs};
 pub use memory::OutOfMemory;
 pub use text::Text;
+pub use to_content::ToContent;

@@ -4,3 +4,5 @@
 
 #[cfg(test)]
 mod parts;
+#[cfg(test)]
+mod sorting;

@@ -1,5 +1,7 @@
 //! That calls that take memory give what they say, the order of trees at concrete values, and the texts of errors.
-use snap_content::{Blob, Content, Error, Fields, Items, Lent, OutOfMemory, Pairs, Text};
+use snap_content::{
+    Blob, Content, Error, Fields, Items, Lent, OutOfMemory, Pairs, Text, ToContent,
+};
 use std::alloc::Global;
 use std::fmt::Display;
 use std::process::Abort;
@@ -92,6 +94,18 @@ fn copies_of_trees(rt: HostRuntime) -> Result<(), Fail> {
     assert!(rt; copy == tree);
     let slice = copy.as_slice().ok_or("no items")?;
     assert_eq!(rt; slice.len(), 3);
+    Ok(())
+}
+
+/// The tree of a value.
+fn made<T: ToContent>(alloc: Global, value: &T) -> Result<Content, OutOfMemory> {
+    value.to_content(alloc)
+}
+
+#[test]
+fn trees_of_values(rt: HostRuntime) -> Result<(), Fail> {
+    let tree = Content::Seq(one_item(rt.alloc(), "a")?);
+    assert!(rt; made(rt.alloc(), &tree)? == tree);
     Ok(())
 }
 

@@ -1,10 +1,9 @@
 //! The tree of a value of YAML.
 ghost use Rattle.std.specs.Prelude.{◌≡◌, ◌||◌, IfOk, IfSome, option_map};
-ghost use Rattle.std.specs.Str.{chars};
 ghost use Rattle.snap_content.specs.Plain.{content_of, trees_made, pairs_made};
 ghost use Rattle.snap_content.specs.View.{tree, item_trees, pair_trees};
 ghost use Rattle.snap_yaml.specs.View.{value_of, array_values, hash_values};
-ghost use Rattle.snap_emit.specs.PlainRead.{number_read, is_whole, plain_read, plains_read, entries_read, has_number_text, have_number_texts, are_number_texts_in};
+ghost use Rattle.snap_emit.specs.PlainRead.{number_read, plain_read, plains_read, entries_read, has_number_text, have_number_texts, are_number_texts_in};
 ghost use Rattle.snap_yaml.specs.Value.{real};
 
 use crate::whole::{signed_content, whole_number};

@@ -3,7 +3,7 @@ use Rattle.std.proofs.Common.{◌≡◌, ℕ, List, [], ◌∷◌, ◌++◌, map
 use Rattle.std.specs.List.{flat_map, list_any}
 use Rattle.snap_content.specs.Plain as p
 use Rattle.snap_content.specs.Lines.{behind, indented, lines_of, item_lines, entry_lines, entry_block, is_simple, ended}
-use Rattle.snap_content.specs.Printed.{IsLine, AreLines, is_break, begins_dashes, cut}
+use Rattle.snap_content.specs.Printed.{IsLine, AreLines, is_break, begins_dashes}
 use Rattle.snap_content.specs.Quotes.{ends_badly}
 use Rattle.snap_content.specs.Readable.{IsWithin, AreWithin, AreEntriesWithin}
 use Rattle.snap_content.specs.Spell.{spelling, is_flat, is_scalar}
@@ -104,18 +104,3 @@ mutual
   entries_are (p.entry k v es) h =
       lines-append (entry_block k v (lines_of k) (lines_of v)) (entry_lines es)
       (entry_lines_are (is_simple k) (is_flat v) k v (lines_of k) (lines_of v) refl refl h.0 h.1.0 (printed_lines k h.0) (printed_lines v h.1.0)) (entries_are es h.1.1)
-
--- a text is cut into the lines that it was made of
-no_feed : (c : ℕ) → is_break c ≡ false → (c == 10) ≡ false
-no_feed c h = or_left (c == 10) (c == 13) h
-
-cut_line : (seen line more : List ℕ) → list_any is_break line ≡ false → cut seen (line ++ 10 ∷ more) ≡ (seen ++ line) ∷ cut [] more
-cut_line seen [] more h = ap (λ l. l ∷ cut [] more) (sym (append-nil seen))
-cut_line seen (c ∷ cs) more h =
-    rw (no_feed c (or_left (is_break c) (list_any is_break cs) h))
-    (cut_line (seen ++ c ∷ []) cs more (or_right (is_break c) (list_any is_break cs) h) ∙ ap (λ l. l ∷ cut [] more) (append_assoc seen (c ∷ []) cs))
-
-pub cut_lines : (lines : List (List ℕ)) → AreLines lines → cut [] (flat_map ended lines) ≡ lines
-cut_lines [] h = refl
-cut_lines (line ∷ lines) h =
-    ap (cut []) (append_assoc line (10 ∷ []) (flat_map ended lines)) ∙ cut_line [] line (flat_map ended lines) h.0.unbroken ∙ ap (λ ls. line ∷ ls) (cut_lines lines h.1)

@@ -1,0 +1,5 @@
+use Rattle.snap_content.specs.KeyLaws.{key_total}
+use Rattle.snap_content.proofs.laws.key_order_is_total.Goals as goal
+
+pub returns : goal.returns
+returns c = key_total
