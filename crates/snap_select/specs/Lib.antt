@@ -5,6 +5,7 @@ pub mod Reading
 pub mod Examples
 pub mod Pieces
 pub mod Stops
+pub mod Parts
 pub mod Selectors
 pub mod Matching
 pub mod Positions

@@ -3,15 +3,15 @@ use Rattle.std.specs.Prelude.{ℕ, suc, List, [], ◌∷◌, ◌++◌, if◌then
 use Rattle.snap_content.specs.Tree as t
 use Rattle.snap_select.specs.Matching.{Step, under_key, into_field, to_item, path_match}
 use Rattle.snap_select.specs.Positions.{count_of}
-use Rattle.snap_select.specs.declared.segment.Segment.{Segment}
+use Rattle.snap_select.specs.Parts.{Parts}
 
 -- what is put where the path is matched, else the tree
-abbrev pub put_or : List Segment → t.Tree → List Step → t.Tree → t.Tree
+abbrev pub put_or : Parts → t.Tree → List Step → t.Tree → t.Tree
 put_or ss put path c = if path_match ss path then put else c
 
 abbrev mutual
   -- the tree at a path that isn't matched
-  pub inside : List Segment → t.Tree → List Step → t.Tree → t.Tree
+  pub inside : Parts → t.Tree → List Step → t.Tree → t.Tree
   inside ss put path (t.some inner) = t.some (put_or ss put path (inside ss put path inner))
   inside ss put path (t.newtype_struct name inner) = t.newtype_struct name (put_or ss put path (inside ss put path inner))
   inside ss put path (t.newtype_variant name index variant inner) =
@@ -26,25 +26,25 @@ abbrev mutual
   inside ss put path (t.struct_variant name index variant fields) = t.struct_variant name index variant (redacted_fields ss put path fields)
   inside ss put path other = other
 
-  pub redacted_items : List Segment → t.Tree → List Step → ℕ → ℕ → t.Trees → t.Trees
+  pub redacted_items : Parts → t.Tree → List Step → ℕ → ℕ → t.Trees → t.Trees
   redacted_items ss put path total index t.no_trees = t.no_trees
   redacted_items ss put path total index (t.tree first rest) =
       t.tree (put_or ss put (path ++ to_item index total ∷ []) (inside ss put (path ++ to_item index total ∷ []) first))
       (redacted_items ss put path total (suc index) rest)
 
-  pub redacted_pairs : List Segment → t.Tree → List Step → t.TreePairs → t.TreePairs
+  pub redacted_pairs : Parts → t.Tree → List Step → t.TreePairs → t.TreePairs
   redacted_pairs ss put path t.no_pairs = t.no_pairs
   redacted_pairs ss put path (t.pair key value rest) =
       t.pair (put_or ss put (path ++ into_field (codes "$key") ∷ []) (inside ss put (path ++ into_field (codes "$key") ∷ []) key))
       (put_or ss put (path ++ under_key key ∷ []) (inside ss put (path ++ under_key key ∷ []) value))
       (redacted_pairs ss put path rest)
 
-  pub redacted_fields : List Segment → t.Tree → List Step → t.TreeFields → t.TreeFields
+  pub redacted_fields : Parts → t.Tree → List Step → t.TreeFields → t.TreeFields
   redacted_fields ss put path t.no_fields = t.no_fields
   redacted_fields ss put path (t.field name value rest) =
       t.field name (put_or ss put (path ++ into_field name ∷ []) (inside ss put (path ++ into_field name ∷ []) value))
       (redacted_fields ss put path rest)
 
 -- the tree at a path
-abbrev pub redacted : List Segment → t.Tree → List Step → t.Tree → t.Tree
+abbrev pub redacted : Parts → t.Tree → List Step → t.Tree → t.Tree
 redacted ss put path c = put_or ss put path (inside ss put path c)

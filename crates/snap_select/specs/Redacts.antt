@@ -3,17 +3,17 @@ use Rattle.std.specs.Prelude.{◌≡◌, ℕ, true, false, List, [], ◌∷◌, 
 use Rattle.snap_content.specs.Tree as t
 use Rattle.snap_select.specs.Matching.{Step, path_match}
 use Rattle.snap_select.specs.Positions.{part_at, path_at}
-use Rattle.snap_select.specs.declared.segment.Segment.{Segment}
+use Rattle.snap_select.specs.Parts.{Parts}
 
 -- a position is hit where its path is matched, and the path of no shorter front of it is
-pub record IsHit (ss : List Segment) (path : List Step) (c : t.Tree) (position : List ℕ) : Type 0 where
+pub record IsHit (ss : Parts) (path : List Step) (c : t.Tree) (position : List ℕ) : Type 0 where
   pub steps : List Step
   pub is : path_at path c position ≡ Some steps
   pub matched : path_match ss steps ≡ true
   pub first : (front : List ℕ) (k : ℕ) (rest : List ℕ) (shorter : List Step) → position ≡ front ++ k ∷ rest → path_at path c front ≡ Some shorter → path_match ss shorter ≡ false
 
 -- no position at it or above it is hit
-abbrev pub IsUntouched : List Segment → List Step → t.Tree → List ℕ → Type 0
+abbrev pub IsUntouched : Parts → List Step → t.Tree → List ℕ → Type 0
 IsUntouched ss path c position = (front rest : List ℕ) → position ≡ front ++ rest → ¬ IsHit ss path c front
 
 -- the tree with a unit for each of its children: its variant, names, index and number of children, and its value
@@ -50,10 +50,10 @@ pub record IsKept (out : t.Tree) (position : List ℕ) (part : t.Tree) : Type 0 
   pub same : node now ≡ node part
 
 -- of the tree at that path: each hit position holds what is put, and each untouched one its node
-pub record RedactsAt (ss : List Segment) (put : t.Tree) (path : List Step) (c out : t.Tree) : Type 0 where
+pub record RedactsAt (ss : Parts) (put : t.Tree) (path : List Step) (c out : t.Tree) : Type 0 where
   pub replaced : (position : List ℕ) → IsHit ss path c position → part_at out position ≡ Some put
   pub kept : (position : List ℕ) (part : t.Tree) → part_at c position ≡ Some part → IsUntouched ss path c position → IsKept out position part
 
 -- of a whole tree, whose path is empty
-abbrev pub Redacts : List Segment → t.Tree → t.Tree → t.Tree → Type 0
+abbrev pub Redacts : Parts → t.Tree → t.Tree → t.Tree → Type 0
 Redacts ss put c out = RedactsAt ss put [] c out

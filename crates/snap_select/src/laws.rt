@@ -3,6 +3,7 @@ ghost use Rattle.std.specs.Prelude.{◌≡◌, ℕ, List, []};
 ghost use Rattle.snap_content.specs.Tree.{Tree};
 ghost use Rattle.snap_select.specs.Examples.{AreSelected, AreRefused};
 ghost use Rattle.snap_select.specs.Grammar.{IsSelector};
+ghost use Rattle.snap_select.specs.Parts.{Parts};
 ghost use Rattle.snap_select.specs.Reading.{outcome, at_start, selects};
 ghost use Rattle.snap_select.specs.Redacted.{redacted};
 ghost use Rattle.snap_select.specs.Redacts.{IsHit, Redacts};
@@ -29,7 +30,7 @@ pub const fn worked_examples()
 
 /// The redacted tree, part by part, is what a redaction makes of the tree; and it is the tree itself where no position is hit.
 pub const fn redacted_parts_are_the_redaction()
-    ensures redacts { (ss : List Segment) (put c : Tree) → Redacts ss put c (redacted ss put [] c) }
-    ensures untouched { (ss : List Segment) (put c : Tree)
+    ensures redacts { (ss : Parts) (put c : Tree) → Redacts ss put c (redacted ss put [] c) }
+    ensures untouched { (ss : Parts) (put c : Tree)
         → ((position : List ℕ) → ¬ IsHit ss [] c position) → redacted ss put [] c ≡ c }
 {}

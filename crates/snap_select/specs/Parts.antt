@@ -1,0 +1,7 @@
+-- What a selector consists of.
+use Rattle.std.specs.Prelude.{List}
+use Rattle.snap_select.specs.declared.segment.Segment.{Segment}
+
+-- its segments
+abbrev pub Parts : Type 0
+Parts = List Segment
