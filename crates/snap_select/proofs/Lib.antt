@@ -13,3 +13,6 @@ pub mod Lasts
 pub mod RedactedParts
 pub mod QuietTrees
 pub mod RedactedLists
+mod StableSorts
+mod ListsInOrder
+mod SortedTrees

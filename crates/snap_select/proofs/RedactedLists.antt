@@ -14,17 +14,17 @@ use Rattle.snap_select.specs.declared.path_item.PathItem.{PathItem}
 use Rattle.snap_select.specs.Parts.{Parts}
 
 -- items from a position on
-abbrev pub items_from : Parts → t.Tree → List Step → ℕ → ℕ → List t.Tree → List t.Tree
+abbrev pub items_from : Parts → (t.Tree → t.Tree) → List Step → ℕ → ℕ → List t.Tree → List t.Tree
 items_from ss put path total index [] = []
 items_from ss put path total index (x ∷ xs) = redacted ss put (path ++ to_item index total ∷ []) x ∷ items_from ss put path total (suc index) xs
 
-abbrev pub redacted_pair : Parts → t.Tree → List Step → t.Tree × t.Tree → t.Tree × t.Tree
+abbrev pub redacted_pair : Parts → (t.Tree → t.Tree) → List Step → t.Tree × t.Tree → t.Tree × t.Tree
 redacted_pair ss put path p = (redacted ss put (path ++ into_field (codes "$key") ∷ []) p.0, redacted ss put (path ++ under_key p.0 ∷ []) p.1)
 
-abbrev pub redacted_field : Parts → t.Tree → List Step → List ℕ × t.Tree → List ℕ × t.Tree
+abbrev pub redacted_field : Parts → (t.Tree → t.Tree) → List Step → List ℕ × t.Tree → List ℕ × t.Tree
 redacted_field ss put path f = (f.0, redacted ss put (path ++ into_field f.0 ∷ []) f.1)
 
-items_are : (ss : Parts) (put : t.Tree) (path : List Step) (total index : ℕ) (xs : List t.Tree) → t.trees_of (items_from ss put path total index xs) ≡ redacted_items ss put path total index (t.trees_of xs)
+items_are : (ss : Parts) (put : t.Tree → t.Tree) (path : List Step) (total index : ℕ) (xs : List t.Tree) → t.trees_of (items_from ss put path total index xs) ≡ redacted_items ss put path total index (t.trees_of xs)
 items_are ss put path total index [] = refl
 items_are ss put path total index (x ∷ xs) = ap (λ y. t.tree (redacted ss put (path ++ to_item index total ∷ []) x) y) (items_are ss put path total (suc index) xs)
 
@@ -32,29 +32,29 @@ count_is : (xs : List t.Tree) → length xs ≡ count_of (t.trees_of xs)
 count_is [] = refl
 count_is (x ∷ xs) = ap suc (count_is xs)
 
-pub pairs_are : (ss : Parts) (put : t.Tree) (path : List Step) (ps : List (Content × Content))
+pub pairs_are : (ss : Parts) (put : t.Tree → t.Tree) (path : List Step) (ps : List (Content × Content))
     → t.pairs_of (map (λ p. redacted_pair ss put path (pair_tree p)) ps) ≡ redacted_pairs ss put path (pair_trees ps)
 pairs_are ss put path [] = refl
 pairs_are ss put path (p ∷ ps) =
     ap (λ y. t.pair (redacted_pair ss put path (pair_tree p)).0 (redacted_pair ss put path (pair_tree p)).1 y) (pairs_are ss put path ps)
 
-pub fields_are : (ss : Parts) (put : t.Tree) (path : List Step) (fs : List (List ℕ × Content))
+pub fields_are : (ss : Parts) (put : t.Tree → t.Tree) (path : List Step) (fs : List (List ℕ × Content))
     → t.fields_of (map (λ f. redacted_field ss put path (field_tree f)) fs) ≡ redacted_fields ss put path (field_trees fs)
 fields_are ss put path [] = refl
 fields_are ss put path (f ∷ fs) = ap (λ y. t.field f.0 (redacted_field ss put path (field_tree f)).1 y) (fields_are ss put path fs)
 
 -- what is made of the items so far, and what is left of them
-pub record ItemsSoFar (ss : Parts) (put : t.Tree) (path : List Step) (all made left : List Content) : Type 0 where
+pub record ItemsSoFar (ss : Parts) (put : t.Tree → t.Tree) (path : List Step) (all made left : List Content) : Type 0 where
   pub is : map tree made ++ items_from ss put path (length all) (length made) (map tree left) ≡ items_from ss put path (length all) 0 (map tree all)
 
-pub items_begin : (ss : Parts) (put : t.Tree) (path : List Step) (all made : List Content) → made ≡ [] → ItemsSoFar ss put path all made all
+pub items_begin : (ss : Parts) (put : t.Tree → t.Tree) (path : List Step) (all made : List Content) → made ≡ [] → ItemsSoFar ss put path all made all
 items_begin ss put path all made e = let P : List Content → Type 0 = λ x. ItemsSoFar ss put path all x all in subst P (sym e) (record { is = refl })
 
 map_end : (made : List Content) (new : Content) → map tree (made ++ new ∷ []) ≡ map tree made ++ tree new ∷ []
 map_end [] new = refl
 map_end (x ∷ xs) new = ap (λ y. tree x ∷ y) (map_end xs new)
 
-pub items_more : (ss : Parts) (put : t.Tree) (path : List Step) (all made left later out : List Content) (item new : Content) → ItemsSoFar ss put path all made left → left ≡ item ∷ later
+pub items_more : (ss : Parts) (put : t.Tree → t.Tree) (path : List Step) (all made left later out : List Content) (item new : Content) → ItemsSoFar ss put path all made left → left ≡ item ∷ later
     → tree new ≡ redacted ss put (path ++ to_item (length made) (length all) ∷ []) (tree item) → out ≡ made ++ new ∷ [] → ItemsSoFar ss put path all out later
 items_more ss put path all made left later out item new h e n o =
     let P : List Content → Type 0 = λ x. ItemsSoFar ss put path all x later in
@@ -72,7 +72,7 @@ items_more ss put path all made left later out item new h e n o =
     ∙ ap (λ x. map tree made ++ items_from ss put path (length all) (length made) (map tree x)) (sym e) in
     subst P (sym o) (record { is = front ∙ middle ∙ back ∙ h.is })
 
-pub items_done : (ss : Parts) (put : t.Tree) (path : List Step) (all made left : List Content) → ItemsSoFar ss put path all made left → left ≡ []
+pub items_done : (ss : Parts) (put : t.Tree → t.Tree) (path : List Step) (all made left : List Content) → ItemsSoFar ss put path all made left → left ≡ []
     → item_trees made ≡ redacted_items ss put path (count_of (item_trees all)) 0 (item_trees all)
 items_done ss put path all made left h none =
     let P : List Content → Type 0 = λ x. map tree made ++ items_from ss put path (length all) (length made) (map tree x) ≡ items_from ss put path (length all) 0 (map tree all) in
@@ -81,13 +81,13 @@ items_done ss put path all made left h none =
     ap t.trees_of whole ∙ items_are ss put path (length all) 0 (map tree all) ∙ ap (λ n. redacted_items ss put path n 0 (item_trees all)) total
 
 -- one level, where the search is given the equation
-pub inside_struct : (ss : Parts) (put : t.Tree) (path : List Step) (whole : Content) (name own : List ℕ) (out fields : Fields) → whole ≡ Struct own fields → name ≡ own
+pub inside_struct : (ss : Parts) (put : t.Tree → t.Tree) (path : List Step) (whole : Content) (name own : List ℕ) (out fields : Fields) → whole ≡ Struct own fields → name ≡ own
     → field_trees (field_list out) ≡ redacted_fields ss put path (field_trees (field_list fields)) → tree (Struct name out) ≡ inside ss put path (tree whole)
 inside_struct ss put path whole name own out fields is same_name same_fields =
     let seen : tree whole ≡ t.struct own (field_trees (field_list fields)) = ap tree is ∙ tree-Struct own fields in
     tree-Struct name out ∙ ap (λ x. t.struct x (field_trees (field_list out))) same_name ∙ ap (λ x. t.struct own x) same_fields ∙ sym (ap (inside ss put path) seen)
 
-pub inside_struct_variant : (ss : Parts) (put : t.Tree) (path : List Step) (whole : Content) (name own : List ℕ) (index : ℕ) (variant own_variant : List ℕ) (out fields : Fields)
+pub inside_struct_variant : (ss : Parts) (put : t.Tree → t.Tree) (path : List Step) (whole : Content) (name own : List ℕ) (index : ℕ) (variant own_variant : List ℕ) (out fields : Fields)
     → whole ≡ StructVariant own index own_variant fields → name ≡ own → variant ≡ own_variant
     → field_trees (field_list out) ≡ redacted_fields ss put path (field_trees (field_list fields)) → tree (StructVariant name index variant out) ≡ inside ss put path (tree whole)
 inside_struct_variant ss put path whole name own index variant own_variant out fields is same_name same_variant same_fields =
@@ -102,7 +102,7 @@ turn f g outs out new items i item h small is same o =
     ap (map g) o ∙ map-append g outs (new ∷ []) ∙ ap (λ x. x ++ g new ∷ []) h ∙ ap (λ x. map f (take i items) ++ x ∷ []) (same ∙ ap f is)
     ∙ sym (map-append f (take i items) (get_or items i item ∷ [])) ∙ ap (map f) (sym (take_more items i item small))
 
-pub items_step : (ss : Parts) (put : t.Tree) (now was : List PathItem) (all made out items : List Content) (i a b : ℕ) (item new : Content) → ItemsSoFar ss put (map step_of was) all made (drop i items)
+pub items_step : (ss : Parts) (put : t.Tree → t.Tree) (now was : List PathItem) (all made out items : List Content) (i a b : ℕ) (item new : Content) → ItemsSoFar ss put (map step_of was) all made (drop i items)
     → i < length items → item ≡ get_or items i item → tree new ≡ redacted ss put (map step_of now ++ to_item a b ∷ []) (tree item) → now ≡ was → a ≡ length made → b ≡ length all → out ≡ made ++ new ∷ []
     → ItemsSoFar ss put (map step_of was) all out (drop (i + 1) items)
 items_step ss put now was all made out items i a b item new h small is n path first total o =
@@ -112,7 +112,7 @@ items_step ss put now was all made out items i a b item new h small is n path fi
     ∙ ap (λ x. redacted ss put (map step_of was ++ to_item (length made) x ∷ []) (tree item)) total in
     items_more ss put (map step_of was) all made (drop i items) (drop (i + 1) items) out item new h e seen o
 
-pub pairs_step : (ss : Parts) (put : t.Tree) (now later was : List PathItem) (outs out items : List (Content × Content)) (i : ℕ) (item : Content × Content) (name : List ℕ) (copy new_key new_value : Content)
+pub pairs_step : (ss : Parts) (put : t.Tree → t.Tree) (now later was : List PathItem) (outs out items : List (Content × Content)) (i : ℕ) (item : Content × Content) (name : List ℕ) (copy new_key new_value : Content)
     → now ≡ was → later ≡ now → name ≡ codes "$key" → tree copy ≡ tree item.0 → tree new_key ≡ redacted ss put (map step_of now ++ into_field name ∷ []) (tree item.0)
     → tree new_value ≡ redacted ss put (map step_of later ++ under_key (tree copy) ∷ []) (tree item.1)
     → map pair_tree outs ≡ map (λ p. redacted_pair ss put (map step_of was) (pair_tree p)) (take i items) → i < length items → item ≡ get_or items i item → out ≡ outs ++ (new_key, new_value) ∷ []
@@ -126,12 +126,12 @@ pairs_step ss put now later was outs out items i item name copy new_key new_valu
     = ap (λ x. (x, tree new_value)) first ∙ ap (λ x. (redacted ss put (map step_of was ++ into_field (codes "$key") ∷ []) (tree item.0), x)) second in
     turn (λ p. redacted_pair ss put (map step_of was) (pair_tree p)) pair_tree outs out (new_key, new_value) items i item h small is both o
 
-pub pairs_done : (ss : Parts) (put : t.Tree) (was : List PathItem) (outs items all : List (Content × Content)) (i : ℕ) → map pair_tree outs ≡ map (λ p. redacted_pair ss put (map step_of was) (pair_tree p)) (take i items)
+pub pairs_done : (ss : Parts) (put : t.Tree → t.Tree) (was : List PathItem) (outs items all : List (Content × Content)) (i : ℕ) → map pair_tree outs ≡ map (λ p. redacted_pair ss put (map step_of was) (pair_tree p)) (take i items)
     → length items ≤ i → items ≡ all → pair_trees outs ≡ redacted_pairs ss put (map step_of was) (pair_trees all)
 pairs_done ss put was outs items all i h done e =
     ap t.pairs_of (h ∙ ap (map (λ p. redacted_pair ss put (map step_of was) (pair_tree p))) (take_all i items done ∙ e)) ∙ pairs_are ss put (map step_of was) all
 
-pub fields_step : (ss : Parts) (put : t.Tree) (now was : List PathItem) (outs out items : List (List ℕ × Content)) (i : ℕ) (item : List ℕ × Content) (name copy : List ℕ) (new : Content)
+pub fields_step : (ss : Parts) (put : t.Tree → t.Tree) (now was : List PathItem) (outs out items : List (List ℕ × Content)) (i : ℕ) (item : List ℕ × Content) (name copy : List ℕ) (new : Content)
     → now ≡ was → name ≡ item.0 → copy ≡ item.0 → tree new ≡ redacted ss put (map step_of now ++ into_field name ∷ []) (tree item.1)
     → map field_tree outs ≡ map (λ f. redacted_field ss put (map step_of was) (field_tree f)) (take i items) → i < length items → item ≡ get_or items i item → out ≡ outs ++ (copy, new) ∷ []
     → map field_tree out ≡ map (λ f. redacted_field ss put (map step_of was) (field_tree f)) (take (i + 1) items)
@@ -141,7 +141,7 @@ fields_step ss put now was outs out items i item name copy new a n k value h sma
     let both : field_tree (copy, new) ≡ redacted_field ss put (map step_of was) (field_tree item) = ap (λ x. (x, tree new)) k ∙ ap (λ x. (item.0, x)) seen in
     turn (λ f. redacted_field ss put (map step_of was) (field_tree f)) field_tree outs out (copy, new) items i item h small is both o
 
-pub fields_done : (ss : Parts) (put : t.Tree) (was : List PathItem) (outs items all : List (List ℕ × Content)) (i : ℕ) → map field_tree outs ≡ map (λ f. redacted_field ss put (map step_of was) (field_tree f)) (take i items)
+pub fields_done : (ss : Parts) (put : t.Tree → t.Tree) (was : List PathItem) (outs items all : List (List ℕ × Content)) (i : ℕ) → map field_tree outs ≡ map (λ f. redacted_field ss put (map step_of was) (field_tree f)) (take i items)
     → length items ≤ i → items ≡ all → field_trees outs ≡ redacted_fields ss put (map step_of was) (field_trees all)
 fields_done ss put was outs items all i h done e =
     ap t.fields_of (h ∙ ap (map (λ f. redacted_field ss put (map step_of was) (field_tree f))) (take_all i items done ∙ e)) ∙ fields_are ss put (map step_of was) all

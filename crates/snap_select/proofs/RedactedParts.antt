@@ -1,5 +1,5 @@
 -- The redacted tree, part by part, is what a redaction makes.
-use Rattle.std.proofs.Common.{◌≡◌, ℕ, zero, suc, Bool, true, false, List, [], ◌∷◌, ◌++◌, Some, slice_get, cond, refl, sym, ap, ◌∙◌, subst, append-nil}
+use Rattle.std.proofs.Common.{◌≡◌, ℕ, zero, suc, Bool, true, false, List, [], ◌∷◌, ◌++◌, Option, Some, slice_get, option_and_then, cond, refl, sym, ap, ◌∙◌, subst, append-nil}
 use Rattle.std.proofs.lemmas.Bool.{both_ways}
 use Rattle.std.proofs.lemmas.Option.{same_Some, option_and_then_some}
 use Rattle.std.specs.Prelude.{codes}
@@ -11,17 +11,17 @@ use Rattle.snap_select.specs.Redacts.{IsHit, IsUntouched, node, units, pair_unit
 use Rattle.snap_select.specs.Parts.{Parts}
 
 -- at any path
-abbrev Good : Parts → t.Tree → t.Tree → Type 0
+abbrev Good : Parts → (t.Tree → t.Tree) → t.Tree → Type 0
 Good ss put c = (path : List Step) → RedactsAt ss put path c (redacted ss put path c)
 
 -- a child, and the one that stands in its place
-record Follows (ss : Parts) (put : t.Tree) (path : List Step) (child : Child) (nexts : List Child) (k : ℕ) : Type 0 where
+record Follows (ss : Parts) (put : t.Tree → t.Tree) (path : List Step) (child : Child) (nexts : List Child) (k : ℕ) : Type 0 where
   next : Child
   at : slice_get nexts k ≡ Some next
   part : next.part ≡ redacted ss put (path ++ child.steps) child.part
   good : Good ss put child.part
 
-abbrev AllFollow : Parts → t.Tree → List Step → List Child → List Child → Type 0
+abbrev AllFollow : Parts → (t.Tree → t.Tree) → List Step → List Child → List Child → Type 0
 AllFollow ss put path olds nexts = (k : ℕ) (child : Child) → slice_get olds k ≡ Some child → Follows ss put path child nexts k
 
 -- a front of a position, and the position below a child
@@ -62,13 +62,16 @@ hit_above ss path c k ks child n at h = record { steps = h.steps; is = rw at h.i
 part_below : (out : t.Tree) (k : ℕ) (ks : List ℕ) (next : Child) (part result : t.Tree) → slice_get (children out) k ≡ Some next → next.part ≡ part → part_at part ks ≡ Some result → part_at out (k ∷ ks) ≡ Some result
 part_below out k ks next part result at e h = rw at (let P : t.Tree → Type 0 = λ x. part_at x ks ≡ Some result in subst P (sym e) h)
 
-replaced_below : (ss : Parts) (put : t.Tree) (path : List Step) (c out : t.Tree) (k : ℕ) (ks : List ℕ) → AllFollow ss put path (children c) (children out) → IsHit ss path c (k ∷ ks) → part_at out (k ∷ ks) ≡ Some put
-replaced_below ss put path c out k ks all h =
-    option_and_then_some {P = part_at out (k ∷ ks) ≡ Some put} (λ child. path_at (path ++ child.steps) child.part ks) (slice_get (children c) k) h.steps h.is
+replaced_below : (ss : Parts) (put : t.Tree → t.Tree) (path : List Step) (c out : t.Tree) (k : ℕ) (ks : List ℕ) (part : t.Tree) → AllFollow ss put path (children c) (children out)
+    → part_at c (k ∷ ks) ≡ Some part → IsHit ss path c (k ∷ ks) → part_at out (k ∷ ks) ≡ Some (put part)
+replaced_below ss put path c out k ks part all here h =
+    option_and_then_some {P = part_at out (k ∷ ks) ≡ Some (put part)} (λ child. path_at (path ++ child.steps) child.part ks) (slice_get (children c) k) h.steps h.is
     (λ child at is. let f = all k child at in
-    part_below out k ks f.next (redacted ss put (path ++ child.steps) child.part) put f.at f.part ((f.good (path ++ child.steps)).replaced ks (hit_below ss path c k ks child h at is)))
+    let P : Option Child → Type 0 = λ o. option_and_then (λ x. part_at x.part ks) o ≡ Some part in
+    part_below out k ks f.next (redacted ss put (path ++ child.steps) child.part) (put part) f.at f.part
+    ((f.good (path ++ child.steps)).replaced ks part (subst P at here) (hit_below ss path c k ks child h at is)))
 
-kept_below : (ss : Parts) (put : t.Tree) (path : List Step) (c out : t.Tree) (k : ℕ) (ks : List ℕ) (part : t.Tree) → path_match ss path ≡ false → AllFollow ss put path (children c) (children out)
+kept_below : (ss : Parts) (put : t.Tree → t.Tree) (path : List Step) (c out : t.Tree) (k : ℕ) (ks : List ℕ) (part : t.Tree) → path_match ss path ≡ false → AllFollow ss put path (children c) (children out)
     → part_at c (k ∷ ks) ≡ Some part → IsUntouched ss path c (k ∷ ks) → IsKept out (k ∷ ks) part
 kept_below ss put path c out k ks part n all h untouched =
     option_and_then_some {P = IsKept out (k ∷ ks) part} (λ child. part_at child.part ks) (slice_get (children c) k) part h
@@ -78,24 +81,26 @@ kept_below ss put path c out k ks part n all h untouched =
     record { now = kept.now; is = part_below out k ks f.next (redacted ss put (path ++ child.steps) child.part) kept.now f.at f.part kept.is; same = kept.same })
 
 -- a tree whose children follow
-replaced_at : (ss : Parts) (put : t.Tree) (path : List Step) (c out : t.Tree) → path_match ss path ≡ false → AllFollow ss put path (children c) (children out) → (position : List ℕ) → IsHit ss path c position → part_at out position ≡ Some put
-replaced_at ss put path c out n all [] h =
+replaced_at : (ss : Parts) (put : t.Tree → t.Tree) (path : List Step) (c out : t.Tree) → path_match ss path ≡ false → AllFollow ss put path (children c) (children out)
+    → (position : List ℕ) (part : t.Tree) → part_at c position ≡ Some part → IsHit ss path c position → part_at out position ≡ Some (put part)
+replaced_at ss put path c out n all [] part here h =
     let same : path ≡ h.steps = same_Some path h.steps h.is in
     let P : List Step → Type 0 = λ x. path_match ss x ≡ false in
     absurd (both_ways (path_match ss h.steps) (subst P same n) h.matched)
-replaced_at ss put path c out n all (k ∷ ks) h = replaced_below ss put path c out k ks all h
+replaced_at ss put path c out n all (k ∷ ks) part here h = replaced_below ss put path c out k ks part all here h
 
-kept_at : (ss : Parts) (put : t.Tree) (path : List Step) (c out : t.Tree) → path_match ss path ≡ false → AllFollow ss put path (children c) (children out) → node out ≡ node c
+kept_at : (ss : Parts) (put : t.Tree → t.Tree) (path : List Step) (c out : t.Tree) → path_match ss path ≡ false → AllFollow ss put path (children c) (children out) → node out ≡ node c
     → (position : List ℕ) (part : t.Tree) → part_at c position ≡ Some part → IsUntouched ss path c position → IsKept out position part
 kept_at ss put path c out n all same [] part h untouched = record { now = out; is = refl; same = same ∙ ap node (same_Some c part h) }
 kept_at ss put path c out n all same (k ∷ ks) part h untouched = kept_below ss put path c out k ks part n all h untouched
 
-put_replaced : (ss : Parts) (put : t.Tree) (path : List Step) (c : t.Tree) → path_match ss path ≡ true → (position : List ℕ) → IsHit ss path c position → part_at put position ≡ Some put
-put_replaced ss put path c e [] h = refl
-put_replaced ss put path c e (k ∷ ks) h = absurd (both_ways (path_match ss path) (h.first [] k ks path refl refl) e)
+put_replaced : (ss : Parts) (put : t.Tree → t.Tree) (path : List Step) (c : t.Tree) → path_match ss path ≡ true
+    → (position : List ℕ) (part : t.Tree) → part_at c position ≡ Some part → IsHit ss path c position → part_at (put c) position ≡ Some (put part)
+put_replaced ss put path c e [] part here h = ap (λ x. Some (put x)) (same_Some c part here)
+put_replaced ss put path c e (k ∷ ks) part here h = absurd (both_ways (path_match ss path) (h.first [] k ks path refl refl) e)
 
-node_redacts : (ss : Parts) (put : t.Tree) (path : List Step) (c : t.Tree) (b : Bool) → path_match ss path ≡ b → AllFollow ss put path (children c) (children (inside ss put path c))
-    → node (inside ss put path c) ≡ node c → RedactsAt ss put path c (cond b put (inside ss put path c))
+node_redacts : (ss : Parts) (put : t.Tree → t.Tree) (path : List Step) (c : t.Tree) (b : Bool) → path_match ss path ≡ b → AllFollow ss put path (children c) (children (inside ss put path c))
+    → node (inside ss put path c) ≡ node c → RedactsAt ss put path c (cond b (put c) (inside ss put path c))
 node_redacts ss put path c true e all same = record {
   replaced = put_replaced ss put path c e;
   kept = λ position part h untouched. absurd (untouched [] position refl (root_hit ss path c e));
@@ -106,10 +111,10 @@ node_redacts ss put path c false e all same = record {
 }
 
 -- the parts of lists
-no_follow : (ss : Parts) (put : t.Tree) (path : List Step) (nexts : List Child) → AllFollow ss put path [] nexts
+no_follow : (ss : Parts) (put : t.Tree → t.Tree) (path : List Step) (nexts : List Child) → AllFollow ss put path [] nexts
 no_follow ss put path nexts k child e = absurd (cc)
 
-one_follows : (ss : Parts) (put : t.Tree) (path : List Step) (old next : Child) (olds nexts : List Child) → next.part ≡ redacted ss put (path ++ old.steps) old.part → Good ss put old.part
+one_follows : (ss : Parts) (put : t.Tree → t.Tree) (path : List Step) (old next : Child) (olds nexts : List Child) → next.part ≡ redacted ss put (path ++ old.steps) old.part → Good ss put old.part
     → AllFollow ss put path olds nexts → AllFollow ss put path (old ∷ olds) (next ∷ nexts)
 one_follows ss put path old next olds nexts e good later zero child h =
     let same : old ≡ child = same_Some old child h in
@@ -119,31 +124,31 @@ one_follows ss put path old next olds nexts e good later zero child h =
 one_follows ss put path old next olds nexts e good later (suc k) child h =
     let f = later k child h in record { next = f.next; at = f.at; part = f.part; good = f.good }
 
-units_same : (ss : Parts) (put : t.Tree) (path : List Step) (total index : ℕ) (items : t.Trees) → units (redacted_items ss put path total index items) ≡ units items
+units_same : (ss : Parts) (put : t.Tree → t.Tree) (path : List Step) (total index : ℕ) (items : t.Trees) → units (redacted_items ss put path total index items) ≡ units items
 units_same ss put path total index t.no_trees = refl
 units_same ss put path total index (t.tree first rest) = ap (λ x. t.tree t.unit x) (units_same ss put path total (suc index) rest)
 
-pair_units_same : (ss : Parts) (put : t.Tree) (path : List Step) (pairs : t.TreePairs) → pair_units (redacted_pairs ss put path pairs) ≡ pair_units pairs
+pair_units_same : (ss : Parts) (put : t.Tree → t.Tree) (path : List Step) (pairs : t.TreePairs) → pair_units (redacted_pairs ss put path pairs) ≡ pair_units pairs
 pair_units_same ss put path t.no_pairs = refl
 pair_units_same ss put path (t.pair key value rest) = ap (λ x. t.pair t.unit t.unit x) (pair_units_same ss put path rest)
 
-field_units_same : (ss : Parts) (put : t.Tree) (path : List Step) (fields : t.TreeFields) → field_units (redacted_fields ss put path fields) ≡ field_units fields
+field_units_same : (ss : Parts) (put : t.Tree → t.Tree) (path : List Step) (fields : t.TreeFields) → field_units (redacted_fields ss put path fields) ≡ field_units fields
 field_units_same ss put path t.no_fields = refl
 field_units_same ss put path (t.field name value rest) = ap (λ x. t.field name t.unit x) (field_units_same ss put path rest)
 
-wrapper : (ss : Parts) (put : t.Tree) (path : List Step) (inner : t.Tree) → Good ss put inner
+wrapper : (ss : Parts) (put : t.Tree → t.Tree) (path : List Step) (inner : t.Tree) → Good ss put inner
     → AllFollow ss put path (record { steps = []; part = inner } ∷ []) (record { steps = []; part = redacted ss put path inner } ∷ [])
 wrapper ss put path inner good =
     one_follows ss put path (record { steps = []; part = inner }) (record { steps = []; part = redacted ss put path inner }) [] []
     (ap (λ x. redacted ss put x inner) (sym (append-nil path))) good (no_follow ss put path [])
 
-leaf : (ss : Parts) (put : t.Tree) (path : List Step) (c : t.Tree) → children c ≡ [] → inside ss put path c ≡ c → RedactsAt ss put path c (redacted ss put path c)
+leaf : (ss : Parts) (put : t.Tree → t.Tree) (path : List Step) (c : t.Tree) → children c ≡ [] → inside ss put path c ≡ c → RedactsAt ss put path c (redacted ss put path c)
 leaf ss put path c none same =
     let P : List Child → Type 0 = λ x. AllFollow ss put path x (children (inside ss put path c)) in
     node_redacts ss put path c (path_match ss path) refl (subst P (sym none) (no_follow ss put path (children (inside ss put path c)))) (ap node same)
 
 mutual
-  pub tree_good : (ss : Parts) (put c : t.Tree) → Good ss put c
+  pub tree_good : (ss : Parts) (put : t.Tree → t.Tree) (c : t.Tree) → Good ss put c
   tree_good ss put (t.some inner) path = node_redacts ss put path (t.some inner) (path_match ss path) refl (wrapper ss put path inner (tree_good ss put inner)) refl
   tree_good ss put (t.newtype_struct name inner) path =
       node_redacts ss put path (t.newtype_struct name inner) (path_match ss path) refl (wrapper ss put path inner (tree_good ss put inner)) refl
@@ -171,7 +176,7 @@ mutual
       (ap (λ x. t.struct_variant name index variant x) (field_units_same ss put path fields))
   tree_good ss put other path = leaf ss put path other refl refl
 
-  items_good : (ss : Parts) (put : t.Tree) (path : List Step) (total after index : ℕ) (items : t.Trees)
+  items_good : (ss : Parts) (put : t.Tree → t.Tree) (path : List Step) (total after index : ℕ) (items : t.Trees)
       → AllFollow ss put path (item_children total index items) (item_children after index (redacted_items ss put path total index items))
   items_good ss put path total after index t.no_trees = no_follow ss put path []
   items_good ss put path total after index (t.tree first rest) =
@@ -180,7 +185,7 @@ mutual
       (item_children total (suc index) rest) (item_children after (suc index) (redacted_items ss put path total (suc index) rest)) refl
       (tree_good ss put first) (items_good ss put path total after (suc index) rest)
 
-  pairs_good : (ss : Parts) (put : t.Tree) (path : List Step) (pairs : t.TreePairs) → AllFollow ss put path (pair_children pairs) (pair_children (redacted_pairs ss put path pairs))
+  pairs_good : (ss : Parts) (put : t.Tree → t.Tree) (path : List Step) (pairs : t.TreePairs) → AllFollow ss put path (pair_children pairs) (pair_children (redacted_pairs ss put path pairs))
   pairs_good ss put path t.no_pairs = no_follow ss put path []
   pairs_good ss put path (t.pair key value rest) =
       let field = into_field (codes "$key") in
@@ -192,12 +197,12 @@ mutual
       (one_follows ss put path (record { steps = under_key key ∷ []; part = value }) (record { steps = under_key new_key ∷ []; part = new_value })
       (pair_children rest) (pair_children (redacted_pairs ss put path rest)) refl (tree_good ss put value) (pairs_good ss put path rest))
 
-  fields_good : (ss : Parts) (put : t.Tree) (path : List Step) (fields : t.TreeFields) → AllFollow ss put path (field_children fields) (field_children (redacted_fields ss put path fields))
+  fields_good : (ss : Parts) (put : t.Tree → t.Tree) (path : List Step) (fields : t.TreeFields) → AllFollow ss put path (field_children fields) (field_children (redacted_fields ss put path fields))
   fields_good ss put path t.no_fields = no_follow ss put path []
   fields_good ss put path (t.field name value rest) =
       one_follows ss put path (record { steps = into_field name ∷ []; part = value })
       (record { steps = into_field name ∷ []; part = redacted ss put (path ++ into_field name ∷ []) value })
       (field_children rest) (field_children (redacted_fields ss put path rest)) refl (tree_good ss put value) (fields_good ss put path rest)
 
-pub redacted_redacts : (ss : Parts) (put c : t.Tree) → RedactsAt ss put [] c (redacted ss put [] c)
+pub redacted_redacts : (ss : Parts) (put : t.Tree → t.Tree) (c : t.Tree) → RedactsAt ss put [] c (redacted ss put [] c)
 redacted_redacts ss put c = tree_good ss put c []

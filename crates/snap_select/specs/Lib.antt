@@ -11,5 +11,7 @@ pub mod Matching
 pub mod Positions
 pub mod Redacts
 pub mod Redacted
+pub mod InOrder
+pub mod SortedTree
 pub mod Put
 pub mod Selected

@@ -49,11 +49,11 @@ pub record IsKept (out : t.Tree) (position : List ℕ) (part : t.Tree) : Type 0 
   pub is : part_at out position ≡ Some now
   pub same : node now ≡ node part
 
--- of the tree at that path: each hit position holds what is put, and each untouched one its node
-pub record RedactsAt (ss : Parts) (put : t.Tree) (path : List Step) (c out : t.Tree) : Type 0 where
-  pub replaced : (position : List ℕ) → IsHit ss path c position → part_at out position ≡ Some put
+-- of the tree at that path: each hit position holds what is put in place of its part, and each untouched one its node
+pub record RedactsAt (ss : Parts) (put : t.Tree → t.Tree) (path : List Step) (c out : t.Tree) : Type 0 where
+  pub replaced : (position : List ℕ) (part : t.Tree) → part_at c position ≡ Some part → IsHit ss path c position → part_at out position ≡ Some (put part)
   pub kept : (position : List ℕ) (part : t.Tree) → part_at c position ≡ Some part → IsUntouched ss path c position → IsKept out position part
 
 -- of a whole tree, whose path is empty
-abbrev pub Redacts : Parts → t.Tree → t.Tree → t.Tree → Type 0
+abbrev pub Redacts : Parts → (t.Tree → t.Tree) → t.Tree → t.Tree → Type 0
 Redacts ss put c out = RedactsAt ss put [] c out

@@ -1,5 +1,6 @@
 //! Laws of selectors' texts.
 ghost use Rattle.std.specs.Prelude.{◌≡◌, ℕ, List, []};
+ghost use Rattle.snap_content.specs.Sorted.{Sorted};
 ghost use Rattle.snap_content.specs.Tree.{Tree};
 ghost use Rattle.snap_select.specs.Examples.{AreSelected, AreRefused};
 ghost use Rattle.snap_select.specs.Grammar.{IsSelector};
@@ -7,6 +8,7 @@ ghost use Rattle.snap_select.specs.Parts.{Parts};
 ghost use Rattle.snap_select.specs.Reading.{outcome, at_start, selects};
 ghost use Rattle.snap_select.specs.Redacted.{redacted};
 ghost use Rattle.snap_select.specs.Redacts.{IsHit, Redacts};
+ghost use Rattle.snap_select.specs.SortedTree.{sorted_tree};
 ghost use Rattle.snap_select.specs.declared.segment.Segment.{Segment};
 
 /// A text is a selector of one list of segments at most.
@@ -30,7 +32,13 @@ pub const fn worked_examples()
 
 /// The redacted tree, part by part, is what a redaction makes of the tree; and it is the tree itself where no position is hit.
 pub const fn redacted_parts_are_the_redaction()
-    ensures redacts { (ss : Parts) (put c : Tree) → Redacts ss put c (redacted ss put [] c) }
-    ensures untouched { (ss : Parts) (put c : Tree)
+    ensures redacts { (ss : Parts) (put : Tree → Tree) (c : Tree)
+        → Redacts ss put c (redacted ss put [] c) }
+    ensures untouched { (ss : Parts) (put : Tree → Tree) (c : Tree)
         → ((position : List ℕ) → ¬ IsHit ss [] c position) → redacted ss put [] c ≡ c }
+{}
+
+/// What sorting the maps of a tree makes is one tree.
+pub const fn sorting_makes_the_sorted_tree()
+    ensures { (c out : Tree) → Sorted c out → out ≡ sorted_tree c }
 {}

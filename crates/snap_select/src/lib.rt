@@ -4,11 +4,12 @@
 //!
 //! In the order in which data flows: `pieces` and `quotes` (names, digits and keys at the front of a text), `reading` and
 //! `stop` (segments), `segment` and `selector` (what was read), `fault` (what was not), `copies`, `path_item` and `matching`
-//! (which paths are hit), `redaction` and `redact` (the new tree), `laws`.
+//! (which paths are hit), `redaction`, `in_order` and `redact` (the new tree), `laws`.
 #![tactic(auto)]
 
 pub mod copies;
 pub mod fault;
+pub mod in_order;
 pub mod laws;
 pub mod matching;
 pub mod path_item;

@@ -3,6 +3,7 @@ ghost use Rattle.std.specs.Prelude.{◌≡◌, ℕ, List, [], ◌∷◌, ◌++�
 ghost use Rattle.snap_content.specs.View.{tree, item_list, item_trees, pair_list, pair_trees, field_list, field_trees};
 ghost use Rattle.snap_select.specs.Matching.{step_of};
 ghost use Rattle.snap_select.specs.Positions.{count_of};
+ghost use Rattle.snap_select.specs.Put.{put_of};
 ghost use Rattle.snap_select.specs.Redacted.{redacted, inside, redacted_items, redacted_pairs, redacted_fields};
 ghost use Rattle.snap_select.specs.Selectors.{segments_of};
 
@@ -17,19 +18,19 @@ use std::alloc::Global;
 fn redact_at(
     value: &Content,
     selector: &Selector<'_>,
-    put: &Content,
+    redaction: &Redaction,
     alloc: Global,
     path: &mut Vec<PathItem>,
 ) -> Result<Content, OutOfMemory>
     ensures ok { IfOk result (λ out. tree out
-        ≡ redacted (segments_of selector.now) (tree put.now) (map step_of path.old.items)
+        ≡ redacted (segments_of selector.now) (put_of redaction.now) (map step_of path.old.items)
         (tree value.now)) }
     ensures path { OnOk result (path.new.items ≡ path.old.items) }
 {
     if selector.is_match(path.as_slice()) {
-        return put.try_clone(alloc);
+        return redaction.replacement(alloc, value);
     }
-    redact_inside(value, selector, put, alloc, path)
+    redact_inside(value, selector, redaction, alloc, path)
 }
 
 /// The same behind one step more.
@@ -37,18 +38,18 @@ fn redact_at(
 fn redact_behind(
     value: &Content,
     selector: &Selector<'_>,
-    put: &Content,
+    redaction: &Redaction,
     alloc: Global,
     path: &mut Vec<PathItem>,
     step: PathItem,
 ) -> Result<Content, OutOfMemory>
     ensures ok { IfOk result (λ out. tree out
-        ≡ redacted (segments_of selector.now) (tree put.now)
+        ≡ redacted (segments_of selector.now) (put_of redaction.now)
         (map step_of path.old.items ++ step_of step ∷ []) (tree value.now)) }
     ensures path { OnOk result (path.new.items ≡ path.old.items) }
 {
     path.push(step)?;
-    let out = redact_at(value, selector, put, alloc, path)?;
+    let out = redact_at(value, selector, redaction, alloc, path)?;
     let _ = path.pop();
     Ok(out)
 }
@@ -58,16 +59,16 @@ fn redact_behind(
 fn redact_box(
     value: &Box<Content>,
     selector: &Selector<'_>,
-    put: &Content,
+    redaction: &Redaction,
     alloc: Global,
     path: &mut Vec<PathItem>,
 ) -> Result<Box<Content>, OutOfMemory>
     ensures ok { IfOk result (λ out. tree out.value
-        ≡ redacted (segments_of selector.now) (tree put.now) (map step_of path.old.items)
+        ≡ redacted (segments_of selector.now) (put_of redaction.now) (map step_of path.old.items)
         (tree value.now.value)) }
     ensures path { OnOk result (path.new.items ≡ path.old.items) }
 {
-    let inner = redact_at(value, selector, put, alloc, path)?;
+    let inner = redact_at(value, selector, redaction, alloc, path)?;
     Ok(Box::new(alloc, inner)?)
 }
 
@@ -76,56 +77,56 @@ fn redact_box(
 fn redact_inside(
     value: &Content,
     selector: &Selector<'_>,
-    put: &Content,
+    redaction: &Redaction,
     alloc: Global,
     path: &mut Vec<PathItem>,
 ) -> Result<Content, OutOfMemory>
     ensures ok { IfOk result (λ out. tree out
-        ≡ inside (segments_of selector.now) (tree put.now) (map step_of path.old.items)
+        ≡ inside (segments_of selector.now) (put_of redaction.now) (map step_of path.old.items)
         (tree value.now)) }
     ensures path { OnOk result (path.new.items ≡ path.old.items) }
 {
     match value {
         Content::Some(inner) => {
-            Ok(Content::Some(redact_box(inner, selector, put, alloc, path)?))
+            Ok(Content::Some(redact_box(inner, selector, redaction, alloc, path)?))
         }
         Content::NewtypeStruct(name, inner) => {
             let name = name.try_clone(alloc)?;
-            let inner = redact_box(inner, selector, put, alloc, path)?;
+            let inner = redact_box(inner, selector, redaction, alloc, path)?;
             Ok(Content::NewtypeStruct(name, inner))
         }
         Content::NewtypeVariant(name, index, variant, inner) => {
             let (name, variant) = names(alloc, name, variant)?;
-            let inner = redact_box(inner, selector, put, alloc, path)?;
+            let inner = redact_box(inner, selector, redaction, alloc, path)?;
             Ok(Content::NewtypeVariant(name, *index, variant, inner))
         }
         Content::Seq(items) => {
-            Ok(Content::Seq(redact_items(items, selector, put, alloc, path)?))
+            Ok(Content::Seq(redact_items(items, selector, redaction, alloc, path)?))
         }
         Content::Tuple(items) => {
-            Ok(Content::Tuple(redact_items(items, selector, put, alloc, path)?))
+            Ok(Content::Tuple(redact_items(items, selector, redaction, alloc, path)?))
         }
         Content::TupleStruct(name, items) => {
             let name = name.try_clone(alloc)?;
-            let items = redact_items(items, selector, put, alloc, path)?;
+            let items = redact_items(items, selector, redaction, alloc, path)?;
             Ok(Content::TupleStruct(name, items))
         }
         Content::TupleVariant(name, index, variant, items) => {
             let (name, variant) = names(alloc, name, variant)?;
-            let items = redact_items(items, selector, put, alloc, path)?;
+            let items = redact_items(items, selector, redaction, alloc, path)?;
             Ok(Content::TupleVariant(name, *index, variant, items))
         }
         Content::Map(pairs) => {
-            Ok(Content::Map(redact_pairs(pairs, selector, put, alloc, path)?))
+            Ok(Content::Map(redact_pairs(pairs, selector, redaction, alloc, path)?))
         }
         Content::Struct(name, fields) => {
             let name = name.try_clone(alloc)?;
-            let fields = redact_fields(fields, selector, put, alloc, path)?;
+            let fields = redact_fields(fields, selector, redaction, alloc, path)?;
             Ok(Content::Struct(name, fields))
         }
         Content::StructVariant(name, index, variant, fields) => {
             let (name, variant) = names(alloc, name, variant)?;
-            let fields = redact_fields(fields, selector, put, alloc, path)?;
+            let fields = redact_fields(fields, selector, redaction, alloc, path)?;
             Ok(Content::StructVariant(name, *index, variant, fields))
         }
         _ => value.try_clone(alloc),
@@ -145,19 +146,19 @@ fn names(alloc: Global, name: &Text, variant: &Text) -> Result<(Text, Text), Out
 fn redact_items(
     items: &Items,
     selector: &Selector<'_>,
-    put: &Content,
+    redaction: &Redaction,
     alloc: Global,
     path: &mut Vec<PathItem>,
 ) -> Result<Items, OutOfMemory>
     ensures ok { IfOk result (λ out. item_trees (item_list out)
-        ≡ redacted_items (segments_of selector.now) (tree put.now) (map step_of path.old.items)
+        ≡ redacted_items (segments_of selector.now) (put_of redaction.now) (map step_of path.old.items)
         (count_of (item_trees (item_list items.now))) 0 (item_trees (item_list items.now))) }
     ensures path { OnOk result (path.new.items ≡ path.old.items) }
 {
     let mut out = Items::new(alloc);
     for item in items.as_slice() {
         let step = PathItem::Index(out.len() as u64, items.len() as u64);
-        let new_item = redact_behind(item, selector, put, alloc, path, step)?;
+        let new_item = redact_behind(item, selector, redaction, alloc, path, step)?;
         out.push(new_item)?;
     }
     Ok(out)
@@ -168,21 +169,21 @@ fn redact_items(
 fn redact_pairs(
     pairs: &Pairs,
     selector: &Selector<'_>,
-    put: &Content,
+    redaction: &Redaction,
     alloc: Global,
     path: &mut Vec<PathItem>,
 ) -> Result<Pairs, OutOfMemory>
     ensures ok { IfOk result (λ out. pair_trees (pair_list out)
-        ≡ redacted_pairs (segments_of selector.now) (tree put.now) (map step_of path.old.items)
+        ≡ redacted_pairs (segments_of selector.now) (put_of redaction.now) (map step_of path.old.items)
         (pair_trees (pair_list pairs.now))) }
     ensures path { OnOk result (path.new.items ≡ path.old.items) }
 {
     let mut out = Pairs::new(alloc);
     for (key, value) in pairs.as_slice() {
         let step = PathItem::Field(Text::from_ascii(alloc, "$key")?);
-        let new_key = redact_behind(key, selector, put, alloc, path, step)?;
+        let new_key = redact_behind(key, selector, redaction, alloc, path, step)?;
         let step = PathItem::Content(key.try_clone(alloc)?);
-        let new_value = redact_behind(value, selector, put, alloc, path, step)?;
+        let new_value = redact_behind(value, selector, redaction, alloc, path, step)?;
         out.push((new_key, new_value))?;
     }
     Ok(out)
@@ -193,19 +194,19 @@ fn redact_pairs(
 fn redact_fields(
     fields: &Fields,
     selector: &Selector<'_>,
-    put: &Content,
+    redaction: &Redaction,
     alloc: Global,
     path: &mut Vec<PathItem>,
 ) -> Result<Fields, OutOfMemory>
     ensures ok { IfOk result (λ out. field_trees (field_list out)
-        ≡ redacted_fields (segments_of selector.now) (tree put.now) (map step_of path.old.items)
+        ≡ redacted_fields (segments_of selector.now) (put_of redaction.now) (map step_of path.old.items)
         (field_trees (field_list fields.now))) }
     ensures path { OnOk result (path.new.items ≡ path.old.items) }
 {
     let mut out = Fields::new(alloc);
     for (name, value) in fields.as_slice() {
         let step = PathItem::Field(name.try_clone(alloc)?);
-        let new_value = redact_behind(value, selector, put, alloc, path, step)?;
+        let new_value = redact_behind(value, selector, redaction, alloc, path, step)?;
         out.push((name.try_clone(alloc)?, new_value))?;
     }
     Ok(out)
@@ -215,18 +216,17 @@ fn redact_fields(
 fn redact_tree(
     value: &Content,
     selector: &Selector<'_>,
-    put: &Content,
+    redaction: &Redaction,
     alloc: Global,
 ) -> Result<Content, OutOfMemory>
     ensures { IfOk result (λ out. tree out
-        ≡ redacted (segments_of selector.now) (tree put.now) [] (tree value.now)) }
+        ≡ redacted (segments_of selector.now) (put_of redaction.now) [] (tree value.now)) }
 {
     let mut path = Vec::new(alloc);
-    redact_at(value, selector, put, alloc, &mut path)
+    redact_at(value, selector, redaction, alloc, &mut path)
 }
 
 impl Selector<'_> {
-    ghost use Rattle.snap_select.specs.Put.{put_of};
     ghost use Rattle.snap_select.specs.Redacts.{IsHit, Redacts};
 
     /// The tree with what the redaction puts in place of each part whose path the selector matches. Nothing below such a part is visited.
@@ -247,6 +247,6 @@ impl Selector<'_> {
         ensures parts { IfOk result (λ out. tree out
             ≡ redacted (segments_of self.now) (put_of redaction.now) [] (tree value)) }
     {
-        redact_tree(&value, self, redaction.content(), alloc)
+        redact_tree(&value, self, redaction, alloc)
     }
 }

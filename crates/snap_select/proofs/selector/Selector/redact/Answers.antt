@@ -16,7 +16,7 @@ returns-clause-redacted c =
     let put = put_of c.args.redaction.now in
     let value = tree c.args.value in
     IfOk-weaker c.redact_tree.result _ _ (λ out e.
-    let same : tree out ≡ redacted ss put [] value = e ∙ ap (λ x. redacted ss x [] value) c.content.ensures in
+    let same : tree out ≡ redacted ss put [] value = e in
     let P : Tree → Type 0 = λ x. Redacts ss put value x in
     subst P (sym same) (redacted_redacts ss put value)) c.redact_tree.ensures
 
@@ -25,4 +25,4 @@ returns-clause-untouched c =
     let ss = segments_of c.args.self.now in
     let put = put_of c.args.redaction.now in
     let value = tree c.args.value in
-    IfOk-weaker c.redact_tree.result _ _ (λ out e quiet. e ∙ ap (λ x. redacted ss x [] value) c.content.ensures ∙ quiet_tree ss put value [] quiet) c.redact_tree.ensures
+    IfOk-weaker c.redact_tree.result _ _ (λ out e quiet. e ∙ quiet_tree ss put value [] quiet) c.redact_tree.ensures
