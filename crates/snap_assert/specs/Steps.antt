@@ -7,8 +7,7 @@ use Rattle.snap_outside.specs.Files.{Files}
 use Rattle.snap_store.specs.Meta.{Meta, header_tree, without_line}
 pub use Rattle.snap_store.specs.Image.{pending_path}
 use Rattle.snap_store.specs.Image.{file_of}
-use Rattle.snap_settings.specs.Redactions.{redacted_by}
-use Rattle.snap_settings.specs.Settings.{SettingsView}
+use Rattle.snap_settings.specs.Settings.{SettingsView, printed_tree}
 use Rattle.snap_path.specs.Names.{past_mark}
 use Rattle.snap_place.specs.Place.{PlaceView, holds_slash}
 use Rattle.snap_place.specs.SnapshotPath.{path_of, flat_module, new_meta}
@@ -26,14 +25,14 @@ pub record Asked : Type 0 where
   pub meta : Meta
   pub tree : Plain
 
--- under a name with its suffix: the tree is redacted, and its plain form is asked
+-- under a name with its suffix: the tree is sorted and redacted, and its plain form is asked
 abbrev pub asked_as : SettingsView → PlaceView → List ℕ → Tree → Asked
 asked_as settings place name content = record {
   path = path_of settings place name;
   module_name = flat_module place.module_name;
   name = name;
   meta = new_meta settings place;
-  tree = plain (redacted_by settings.redactions content);
+  tree = plain (printed_tree settings content);
 }
 
 -- under a given name, which gets the suffix of the settings

@@ -59,7 +59,7 @@ fn new_snapshot(
     ))
 }
 
-/// All that an assertion needs: the tree is redacted and printed before anything is looked at.
+/// All that an assertion needs: the tree is sorted, redacted and printed before anything is looked at.
 pub fn prepare(
     alloc: Global,
     settings: &Settings,
@@ -71,7 +71,7 @@ pub fn prepare(
         (asked_of (settings_of settings.now) (place_of place.now) name.now
         (tree content)) prepared) }
 {
-    let content = settings.redactions().apply(alloc, content)?;
+    let content = settings.printed_tree(alloc, content)?;
     let path = snapshot_path(alloc, settings, place, name)?;
     let mut pending = path.try_clone(alloc)?;
     pending.push_ascii(alloc, ".new")?;

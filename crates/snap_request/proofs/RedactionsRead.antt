@@ -8,24 +8,21 @@ use Rattle.snap_content.specs.declared.content.Content.{Content, Seq}
 use Rattle.snap_content.specs.declared.lists.Items.{Items}
 use Rattle.snap_content.proofs.Views.{tree-Seq}
 use Rattle.snap_select.specs.Selected.{selected}
-use Rattle.snap_select.specs.declared.segment.Segment.{Segment}
+use Rattle.snap_select.specs.Parts.{Parts}
 use Rattle.snap_store.specs.Fields.{last_value, text_value}
 use Rattle.snap_settings.specs.Redactions.{RedactionView}
-use Rattle.snap_request.specs.Requests.{needed, is_keyed, redaction_keys, redaction_from, redaction_in, redactions_in}
-use Rattle.snap_request.proofs.RequestMade.{value_of, needed_by}
+use Rattle.snap_request.specs.Requests.{needed, is_keyed, redaction_keys, put_from, redaction_from, redaction_in, redactions_in}
+use Rattle.snap_request.proofs.RequestMade.{needed_by}
 
 -- a map of these two is this redaction
-pub redaction_made : (es : Entries) (at : List ℕ) (segments : List Segment) (made : t.Tree) → is_keyed redaction_keys es ≡ true
-    → text_value (last_value (codes "at") es) ≡ Some at → selected at ≡ Some segments → Some made ≡ option_map p.content_of (last_value (codes "put") es)
-    → redaction_in (dict es) ≡ Some (record { segments = segments; put = made })
-redaction_made es at segments made keyed at_at at_segments at_put =
-    let found = value_of made (last_value (codes "put") es) at_put in
-    let redaction : t.Tree → Option RedactionView = λ v. Some (record { segments = segments; put = v }) in
+pub redaction_made : (es : Entries) (at : List ℕ) (parts : Parts) (put : t.Tree → t.Tree) → is_keyed redaction_keys es ≡ true
+    → text_value (last_value (codes "at") es) ≡ Some at → selected at ≡ Some parts → put_from (last_value (codes "put") es) (last_value (codes "sort") es) ≡ Some put
+    → redaction_in (dict es) ≡ Some (record { parts = parts; put = put })
+redaction_made es at parts put keyed at_at at_parts at_put =
     ap (λ b. cond b (redaction_from es) None) keyed
     ∙ needed_by (text_value (last_value (codes "at") es)) _ at at_at
-    ∙ needed_by (selected at) _ segments at_segments
-    ∙ needed_by (last_value (codes "put") es) _ found.value found.is
-    ∙ ap redaction (sym found.made_is)
+    ∙ needed_by (selected at) _ parts at_parts
+    ∙ needed_by (put_from (last_value (codes "put") es) (last_value (codes "sort") es)) _ put at_put
 
 -- the items of a list that was read were made of plain trees
 pub record IsList (plain : Plain) (items : List Content) : Type 0 where

@@ -1,5 +1,5 @@
 -- The request that the pairs of a map are.
-use Rattle.std.proofs.Common.{◌≡◌, ℕ, true, cond, List, [], ◌∷◌, length, Option, None, Some, option_map, refl, ap, sym, ◌∙◌, codes, arith}
+use Rattle.std.proofs.Common.{◌≡◌, ℕ, Bool, true, cond, List, [], ◌∷◌, length, Option, None, Some, option_map, refl, ap, sym, ◌∙◌, codes, arith}
 use Rattle.snap_content.specs.Plain as p
 use Rattle.snap_content.specs.Plain.{Plain, Entries, dict}
 use Rattle.snap_content.specs.Tree as t
@@ -12,7 +12,7 @@ use Rattle.snap_content.specs.declared.error.Error.{Error}
 use Rattle.snap_content.specs.declared.error.Error.TheVariants.{FailedParsingYaml, UnexpectedDataType, MissingField, FileIo, FloatText, JsonKey, NotText, NoFile, OutOfMemory}
 use Rattle.snap_emit.specs.Parsed.{IsReadFrom, MayBeReadAs, RefusalEnd}
 use Rattle.snap_settings.specs.Redactions.{RedactionView}
-use Rattle.snap_request.specs.Requests.{RequestView, Spells, ReadsAs, needed, pair_count, request_keys, redactions_from, request_from, request_in, is_keyed}
+use Rattle.snap_request.specs.Requests.{RequestView, Spells, ReadsAs, needed, pair_count, request_keys, redactions_from, sort_from, request_from, request_in, is_keyed}
 use Rattle.snap_request.proofs.Requesting.{no_request_read}
 
 others_same : (a b c d : t.Tree) (x y : t.TreePairs) → t.pair a b x ≡ t.pair c d y → x ≡ y
@@ -40,16 +40,16 @@ pub needed_by : {A B : Type 0} (held : Option A) (made : A → Option B) (value 
 needed_by held made value e = ap (λ o. needed o made) e
 
 -- a map with these values at its keys, and no other key, is this request
-pub request_made : (es : Entries) (module_name file name expr : List ℕ) (line : ℕ) (made : t.Tree) (redactions : List RedactionView) → is_keyed request_keys es ≡ true
+pub request_made : (es : Entries) (module_name file name expr : List ℕ) (line : ℕ) (made : t.Tree) (redactions : List RedactionView) (sort : Bool) → is_keyed request_keys es ≡ true
     → text_value (last_value (codes "module") es) ≡ Some module_name → text_value (last_value (codes "file") es) ≡ Some file
     → line_value (last_value (codes "line") es) ≡ Some line → text_value (last_value (codes "name") es) ≡ Some name
     → text_value (last_value (codes "expr") es) ≡ Some expr → Some made ≡ option_map p.content_of (last_value (codes "value") es)
-    → redactions_from (last_value (codes "redactions") es) ≡ Some redactions → names_file file ≡ true
-    → request_in (dict es) ≡ Some (record { module_name = module_name; file = file; line = line; name = name; expr = expr; value = made; redactions = redactions })
-request_made es module_name file name expr line made redactions keyed at_module at_file at_line at_name at_expr at_value at_redactions is_file =
+    → redactions_from (last_value (codes "redactions") es) ≡ Some redactions → sort_from (last_value (codes "sort") es) ≡ Some sort → names_file file ≡ true
+    → request_in (dict es) ≡ Some (record { module_name = module_name; file = file; line = line; name = name; expr = expr; value = made; redactions = redactions; sort = sort })
+request_made es module_name file name expr line made redactions sort keyed at_module at_file at_line at_name at_expr at_value at_redactions at_sort is_file =
     let found = value_of made (last_value (codes "value") es) at_value in
     let request : t.Tree → Option RequestView =
-    λ v. Some (record { module_name = module_name; file = file; line = line; name = name; expr = expr; value = v; redactions = redactions }) in
+    λ v. Some (record { module_name = module_name; file = file; line = line; name = name; expr = expr; value = v; redactions = redactions; sort = sort }) in
     ap (λ b. cond b (request_from es) None) keyed
     ∙ needed_by (text_value (last_value (codes "module") es)) _ module_name at_module
     ∙ needed_by (text_value (last_value (codes "file") es)) _ file at_file
@@ -58,6 +58,7 @@ request_made es module_name file name expr line made redactions keyed at_module 
     ∙ needed_by (text_value (last_value (codes "expr") es)) _ expr at_expr
     ∙ needed_by (last_value (codes "value") es) _ found.value found.is
     ∙ needed_by (redactions_from (last_value (codes "redactions") es)) _ redactions at_redactions
+    ∙ needed_by (sort_from (last_value (codes "sort") es)) _ sort at_sort
     ∙ ap (λ b. cond b (request (p.content_of found.value)) None) is_file
     ∙ ap request (sym found.made_is)
 

@@ -9,7 +9,7 @@ use Rattle.snap_emit.proofs.OneText.{texts_same}
 use Rattle.std.specs.Str.{chars}
 use Rattle.snap_store.specs.Fields.{last_value, text_value, line_value}
 use Rattle.snap_place.specs.Place.{names_file}
-use Rattle.snap_request.specs.Requests.{RequestView, Spells, ReadsAs, needed, request_keys, redactions_from, request_from, request_in, is_keyed}
+use Rattle.snap_request.specs.Requests.{RequestView, Spells, ReadsAs, needed, request_keys, redactions_from, sort_from, request_from, request_in, is_keyed}
 
 pub record IsNeeded {A B : Type 0} (held : Option A) (made : A → Option B) (answer : B) : Type 0 where
   pub value : A
@@ -37,7 +37,8 @@ from_entries_file es r e =
     let f = needed_some (text_value (last_value (codes "expr") es)) _ r d.gives in
     let g = needed_some (last_value (codes "value") es) _ r f.gives in
     let h = needed_some (redactions_from (last_value (codes "redactions") es)) _ r g.gives in
-    file_chosen (names_file b.value) _ r refl h.gives
+    let i = needed_some (sort_from (last_value (codes "sort") es)) _ r h.gives in
+    file_chosen (names_file b.value) _ r refl i.gives
 
 -- the file of a request is the path of a file
 pub file_named : (tree : Plain) (r : RequestView) → request_in tree ≡ Some r → names_file r.file ≡ true

@@ -13,4 +13,5 @@ request_of request = record {
   expr = request.expr;
   value = tree request.value;
   redactions = redactions_of request.redactions;
+  sort = request.sort;
 }

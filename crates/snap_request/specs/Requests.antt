@@ -1,8 +1,9 @@
 -- Requests, and the documents that spell them.
-use Rattle.std.specs.Prelude.{◌≡◌, ◌+◌, nat_eq, ℕ, Bool, List, [], ◌∷◌, Option, None, Some, is_some, codes, count_by, if◌then◌else◌}
+use Rattle.std.specs.Prelude.{◌≡◌, ◌+◌, nat_eq, ℕ, Bool, true, false, List, [], ◌∷◌, Option, None, Some, is_some, codes, count_by, if◌then◌else◌}
 use Rattle.std.specs.Str.{IsUtf8, chars}
-use Rattle.snap_content.specs.Plain.{Plain, list, dict, Plains, item, no_items, Entries, entry, no_entries, content_of}
+use Rattle.snap_content.specs.Plain.{Plain, bool, list, dict, Plains, item, no_items, Entries, entry, no_entries, content_of}
 use Rattle.snap_content.specs.Tree.{Tree}
+use Rattle.snap_select.specs.InOrder.{in_order}
 use Rattle.snap_select.specs.Selected.{selected}
 use Rattle.snap_content.specs.Lines.{document_of}
 use Rattle.snap_content.specs.Readable.{IsWithin}
@@ -19,13 +20,14 @@ pub record RequestView : Type 0 where
   pub expr : List ℕ
   pub value : Tree
   pub redactions : List RedactionView
+  pub sort : Bool
 
--- the keys that are built; all but the last are needed
+-- the keys of a request; all but the last two are needed
 abbrev pub request_keys : List (List ℕ)
-request_keys = codes "module" ∷ codes "file" ∷ codes "line" ∷ codes "name" ∷ codes "expr" ∷ codes "value" ∷ codes "redactions" ∷ []
+request_keys = codes "module" ∷ codes "file" ∷ codes "line" ∷ codes "name" ∷ codes "expr" ∷ codes "value" ∷ codes "redactions" ∷ codes "sort" ∷ []
 
 abbrev pub redaction_keys : List (List ℕ)
-redaction_keys = codes "at" ∷ codes "put" ∷ []
+redaction_keys = codes "at" ∷ codes "put" ∷ codes "sort" ∷ []
 
 abbrev pub pair_count : Entries → ℕ
 pair_count no_entries = 0
@@ -43,12 +45,18 @@ abbrev pub needed : {A B : Type 0} → Option A → (A → Option B) → Option 
 needed None made = None
 needed (Some value) made = made value
 
+-- what a redaction puts in place of a value: the tree at `put`, or, where `sort` is true, the value with its list in order
+abbrev pub put_from : Option Plain → Option Plain → Option (Tree → Tree)
+put_from (Some put) None = Some (λ _. content_of put)
+put_from None (Some (bool true)) = Some in_order
+put_from _ _ = None
+
 abbrev pub redaction_from : Entries → Option RedactionView
 redaction_from entries =
     needed (text_value (last_value (codes "at") entries)) (λ at.
-    needed (selected at) (λ segments.
-    needed (last_value (codes "put") entries) (λ put.
-    Some (record { segments = segments; put = content_of put }))))
+    needed (selected at) (λ parts.
+    needed (put_from (last_value (codes "put") entries) (last_value (codes "sort") entries)) (λ put.
+    Some (record { parts = parts; put = put }))))
 
 -- the redaction that a tree is, if it is one
 abbrev pub redaction_in : Plain → Option RedactionView
@@ -65,6 +73,12 @@ redactions_from None = Some []
 redactions_from (Some (list items)) = redactions_in items
 redactions_from (Some _) = None
 
+-- whether the maps of the value are sorted: not where the key is not there
+abbrev pub sort_from : Option Plain → Option Bool
+sort_from None = Some false
+sort_from (Some (bool value)) = Some value
+sort_from (Some _) = None
+
 abbrev pub request_from : Entries → Option RequestView
 request_from entries =
     needed (text_value (last_value (codes "module") entries)) (λ name_of_module.
@@ -74,9 +88,10 @@ request_from entries =
     needed (text_value (last_value (codes "expr") entries)) (λ expr.
     needed (last_value (codes "value") entries) (λ value.
     needed (redactions_from (last_value (codes "redactions") entries)) (λ redactions.
+    needed (sort_from (last_value (codes "sort") entries)) (λ sort.
     if names_file file
-    then Some (record { module_name = name_of_module; file = file; line = line; name = name; expr = expr; value = content_of value; redactions = redactions })
-    else None)))))))
+    then Some (record { module_name = name_of_module; file = file; line = line; name = name; expr = expr; value = content_of value; redactions = redactions; sort = sort })
+    else None))))))))
 
 -- the request that a tree is, if it is one
 abbrev pub request_in : Plain → Option RequestView

@@ -3,11 +3,12 @@ ghost use Rattle.std.specs.Prelude.{◌≡◌, IfOk, codes, count_by, option_map
 ghost use Rattle.std.specs.Str.{chars};
 ghost use Rattle.snap_content.specs.Plain.{Plain, dict, Plains, Entries, content_of, trees_made, pairs_made};
 ghost use Rattle.snap_content.specs.View.{tree, item_trees, pair_trees};
+ghost use Rattle.snap_select.specs.Put.{put_of};
 ghost use Rattle.snap_select.specs.Selected.{selected};
 ghost use Rattle.snap_select.specs.Selectors.{segments_of};
 ghost use Rattle.snap_store.specs.Fields.{last_value};
 ghost use Rattle.snap_settings.specs.Redactions.{redaction_of, redactions_of};
-ghost use Rattle.snap_request.specs.Requests.{is_keyed, holds_key, redaction_keys, redaction_from, redaction_in, redactions_in, redactions_from};
+ghost use Rattle.snap_request.specs.Requests.{is_keyed, holds_key, redaction_keys, put_from, redaction_from, redaction_in, redactions_in, redactions_from};
 
 use crate::request::count_of_key;
 use snap_content::{Content, OutOfMemory};
@@ -76,11 +77,23 @@ fn redaction_of_pairs(
     let Some(selector) = read_selector(alloc, at)? else {
         return Ok(None);
     };
-    let Some(put) = value_named(pairs, "put") else {
+    let Some(redaction) = read_put(alloc, pairs)? else {
         return Ok(None);
     };
-    let redaction = Redaction::from_content(put.try_clone(alloc)?);
     Ok(Some((selector, redaction)))
+}
+
+/// What stands in place of a value: the tree at `put`, or, where `sort` is true, the value with its list in order.
+fn read_put(alloc: Global, pairs: &[(Content, Content)]) -> Result<Option<Redaction>, OutOfMemory>
+    ensures { (entries : Entries) → pair_trees pairs.now ≡ pairs_made entries
+        → IfOk result (λ found. option_map put_of found
+        ≡ put_from (last_value (codes "put") entries) (last_value (codes "sort") entries)) }
+{
+    match (value_named(pairs, "put"), value_named(pairs, "sort")) {
+        (Some(put), None) => Ok(Some(Redaction::from_content(put.try_clone(alloc)?))),
+        (None, Some(Content::Bool(true))) => Ok(Some(Redaction::Sorted)),
+        _ => Ok(None),
+    }
 }
 
 /// Whether the keys are those of a redaction, each once.
@@ -96,7 +109,7 @@ fn held_keys(pairs: &[(Content, Content)]) -> usize
     ensures { (entries : Entries) → pair_trees pairs.now ≡ pairs_made entries
         → result ≡ count_by (holds_key entries) redaction_keys }
 {
-    count_of_key(pairs, "at") + count_of_key(pairs, "put")
+    count_of_key(pairs, "at") + count_of_key(pairs, "put") + count_of_key(pairs, "sort")
 }
 
 /// The selector that a text is, if it is one.

@@ -1,11 +1,12 @@
 //! A request: what a document of a stream asks for.
-ghost use Rattle.std.specs.Prelude.{◌≡◌, List, ℕ, IfOk, IsErrOf, IsTrue, option_map, count_by, ◌≤◌, if◌then◌else◌};
+ghost use Rattle.std.specs.Prelude.{◌≡◌, List, ℕ, IfOk, IsErrOf, IsTrue, option_map, codes, count_by, ◌≤◌, if◌then◌else◌};
 ghost use Rattle.std.specs.Str.{chars};
 ghost use Rattle.std.specs.Char.{is_ascii};
 ghost use Rattle.std.specs.List.{list_all};
 ghost use Rattle.snap_content.specs.Plain.{Plain, dict, Entries, content_of, pairs_made};
 ghost use Rattle.snap_content.specs.View.{tree, pair_trees};
-ghost use Rattle.snap_request.specs.Requests.{RequestView, Spells, ReadsAs, is_keyed, holds_key, request_keys, request_in};
+ghost use Rattle.snap_store.specs.Fields.{last_value};
+ghost use Rattle.snap_request.specs.Requests.{RequestView, Spells, ReadsAs, is_keyed, holds_key, request_keys, request_in, sort_from};
 ghost use Rattle.snap_request.specs.RequestOf.{request_of};
 
 use crate::redaction_items::redactions_of_pairs;
@@ -26,6 +27,8 @@ pub struct Request {
     pub expr: Text,
     pub value: Content,
     pub redactions: Redactions,
+    /// Whether the maps of the value are sorted.
+    pub sort: bool,
 }
 
 /// Why a document is not read.
@@ -78,6 +81,9 @@ fn request_of_pairs(
     if !is_file_path(file) {
         return Ok(None);
     }
+    let Some(sort) = sort_of_pairs(pairs) else {
+        return Ok(None);
+    };
     let Some(redactions) = redactions_of_pairs(alloc, pairs)? else {
         return Ok(None);
     };
@@ -89,7 +95,20 @@ fn request_of_pairs(
         expr: Text::from_str(alloc, expr)?,
         value: value.try_clone(alloc)?,
         redactions,
+        sort,
     }))
+}
+
+/// Whether the pairs of a request say that maps are sorted; none where what stands there is no truth value.
+fn sort_of_pairs(pairs: &[(Content, Content)]) -> Option<bool>
+    ensures { (entries : Entries) → pair_trees pairs.now ≡ pairs_made entries
+        → result ≡ sort_from (last_value (codes "sort") entries) }
+{
+    match value_named(pairs, "sort") {
+        None => Some(false),
+        Some(Content::Bool(value)) => Some(*value),
+        Some(_) => None,
+    }
 }
 
 /// One where the key is among the pairs, else none.
@@ -116,7 +135,7 @@ fn held_keys(pairs: &[(Content, Content)]) -> usize
     let tree = count_of_key(pairs, "name")
         + count_of_key(pairs, "expr")
         + count_of_key(pairs, "value");
-    place + tree + count_of_key(pairs, "redactions")
+    place + tree + count_of_key(pairs, "redactions") + count_of_key(pairs, "sort")
 }
 
 /// Whether there are as many pairs as keys of a request among them.

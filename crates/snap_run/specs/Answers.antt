@@ -82,9 +82,9 @@ place_by workspace request = record {
   expr = request.expr;
 }
 
--- and with new settings but for its redactions
+-- and with new settings but for its sorting and its redactions
 abbrev pub settings_by : RequestView → SettingsView
-settings_by request = record new_settings { redactions = request.redactions }
+settings_by request = record new_settings { sort_maps = request.sort; redactions = request.redactions }
 
 abbrev pub asked_by : List ℕ → RequestView → Asked
 asked_by workspace request = asked_of (settings_by request) (place_by workspace request) request.name request.value

@@ -129,7 +129,7 @@ fn assert_document<F: Store>(
         Ok(place) => place,
         Err(_) => return Err(DocumentError::OutOfMemory),
     };
-    let Ok(settings) = Settings::of_redactions(alloc, request.redactions) else {
+    let Ok(settings) = Settings::of_parts(alloc, request.sort, request.redactions) else {
         return Err(DocumentError::OutOfMemory);
     };
     let value = request.value;

@@ -35,9 +35,11 @@ REQUESTS are YAML documents on standard input, each headed by ---, with the keys
   name           the name of the snapshot
   expr           the expression that the value came of
   value          the value, any tree
-  redactions     may be left out: a list of maps, each with
+  redactions     may be left out: a list of maps, each with at, and put or sort
     at           a selector, as .users[0].id
     put          what stands there in place of the value
+    sort         true: the list that stands there is put in order
+  sort           may be left out; true: maps are sorted by their keys
 
 Each answer is a line: passed, updated, pending or rejected, and the snapshot's path.
 

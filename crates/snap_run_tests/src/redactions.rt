@@ -1,4 +1,4 @@
-//! Redactions in requests.
+//! Redactions and sorting in requests.
 use snap_content::{Blob, Text};
 use snap_outside::{SteadySink, SteadySource, SteadyStore};
 use snap_run::run;
@@ -8,7 +8,7 @@ use std::test::Fail;
 const FRONT: &str = "---\nmodule: m\nfile: src/a.rs\nline: 7\nname: one\nexpr: x\n";
 
 /// What follows in a request, the exit status, and the body of the file; an empty one where no file is written.
-const CASES: [(&str, u8, &str); 8] = [
+const CASES: [(&str, u8, &str); 14] = [
     (
         "redactions:\n  - at: \".id\"\n    put: \"[id]\"\nvalue:\n  id: 42\n  user: joe\n",
         0,
@@ -26,9 +26,27 @@ const CASES: [(&str, u8, &str); 8] = [
         "",
     ),
     (
-        "redactions:\n  - at: \".a\"\n    sort: true\nvalue:\n  a: 1\n",
+        "redactions:\n  - at: \".a\"\n    sort: true\nvalue:\n  a:\n    - 2\n    - 1\n",
+        0,
+        "a:\n  - 1\n  - 2\n",
+    ),
+    (
+        "redactions:\n  - at: \".a\"\n    sort: false\nvalue:\n  a: 1\n",
         3,
         "",
+    ),
+    (
+        "redactions:\n  - at: \".a\"\n    put: 1\n    sort: true\nvalue:\n  a: 1\n",
+        3,
+        "",
+    ),
+    ("sort: true\nvalue:\n  b: 1\n  a: 2\n", 0, "a: 2\nb: 1\n"),
+    ("sort: false\nvalue:\n  b: 1\n  a: 2\n", 0, "b: 1\na: 2\n"),
+    ("sort: 1\nvalue:\n  a: 2\n", 3, ""),
+    (
+        "sort: true\nredactions:\n  - at: \".c\"\n    put:\n      b: 1\n      a: 2\nvalue:\n  c: 0\n",
+        0,
+        "c:\n  b: 1\n  a: 2\n",
     ),
     ("redactions:\n  - at: \".a\"\nvalue:\n  a: 1\n", 3, ""),
     (

@@ -15,4 +15,4 @@ pub mod QuietTrees
 pub mod RedactedLists
 mod StableSorts
 mod ListsInOrder
-mod SortedTrees
+pub mod SortedTrees

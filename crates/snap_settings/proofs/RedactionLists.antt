@@ -11,9 +11,9 @@ use Rattle.snap_select.specs.declared.redaction.Redaction.{Redaction}
 use Rattle.snap_select.specs.declared.selector.Selector.{Selector}
 use Rattle.snap_settings.specs.Redactions.{RedactionView, redaction_of, redacted_by, IsRedaction, AreRedactions, AreRefused}
 
-redacted_by-push : (rs : List RedactionView) (r : RedactionView) (t : Tree) → redacted_by (rs ++ r ∷ []) t ≡ redacted r.segments r.put [] (redacted_by rs t)
+redacted_by-push : (rs : List RedactionView) (r : RedactionView) (t : Tree) → redacted_by (rs ++ r ∷ []) t ≡ redacted r.parts r.put [] (redacted_by rs t)
 redacted_by-push [] r t = refl
-redacted_by-push (x ∷ rs) r t = redacted_by-push rs r (redacted x.segments x.put [] t)
+redacted_by-push (x ∷ rs) r t = redacted_by-push rs r (redacted x.parts x.put [] t)
 
 map-push : (ps : List (Selector × Redaction)) (p : Selector × Redaction) → map redaction_of (ps ++ p ∷ []) ≡ map redaction_of ps ++ redaction_of p ∷ []
 map-push [] p = refl
@@ -48,7 +48,7 @@ goes_on whole rest more p made made' r g is h next = record {
       let here : AreRedactions rest (r ∷ later) = subst (λ l. AreRedactions l (r ∷ later)) (sym is) (h, k) in
       subst (λ m. AreRedactions whole m) (sym (append_assoc made (r ∷ []) later) ∙ ap (λ m. m ++ later) (sym next)) (g.ok (r ∷ later) here);
   no = λ error k.
-      let here : AreRefused rest error = subst (λ l. AreRefused l error) (sym is) (inr (r.segments, h.selector, k)) in
+      let here : AreRefused rest error = subst (λ l. AreRefused l error) (sym is) (inr (r.parts, h.selector, k)) in
       g.no error here;
 }
 

@@ -3,23 +3,23 @@ use Rattle.std.specs.Prelude.{◌≡◌, ◌⊎◌, ℕ, List, [], ◌∷◌, ma
 use Rattle.snap_content.specs.Tree.{Tree}
 use Rattle.snap_select.specs.Grammar.{IsSelector}
 use Rattle.snap_select.specs.Redacted.{redacted}
+use Rattle.snap_select.specs.Parts.{Parts}
 use Rattle.snap_select.specs.Put.{put_of}
 use Rattle.snap_select.specs.Refusal.{IsRefused}
 use Rattle.snap_select.specs.Selectors.{segments_of}
 use Rattle.snap_select.specs.declared.fault.SelectError.{SelectError}
 use Rattle.snap_select.specs.declared.fault.SelectError.TheVariants.{OutOfMemory}
 use Rattle.snap_select.specs.declared.redaction.Redaction.{Redaction}
-use Rattle.snap_select.specs.declared.segment.Segment.{Segment}
 use Rattle.snap_select.specs.declared.selector.Selector.{Selector}
 use Rattle.snap_settings.specs.declared.redactions.Redactions.{Redactions}
 
--- the segments of a selector, and what stands in place of what they hit
+-- what a selector consists of, and what stands in place of what it hits
 pub record RedactionView : Type 0 where
-  pub segments : List Segment
-  pub put : Tree
+  pub parts : Parts
+  pub put : Tree → Tree
 
 abbrev pub redaction_of : Selector × Redaction → RedactionView
-redaction_of pair = record { segments = segments_of pair.0; put = put_of pair.1 }
+redaction_of pair = record { parts = segments_of pair.0; put = put_of pair.1 }
 
 abbrev pub redactions_of : Redactions → List RedactionView
 redactions_of redactions = map redaction_of redactions.items.items
@@ -27,11 +27,11 @@ redactions_of redactions = map redaction_of redactions.items.items
 -- each redaction in turn
 abbrev pub redacted_by : List RedactionView → Tree → Tree
 redacted_by [] t = t
-redacted_by (r ∷ rs) t = redacted_by rs (redacted r.segments r.put [] t)
+redacted_by (r ∷ rs) t = redacted_by rs (redacted r.parts r.put [] t)
 
 -- the redaction of a text that is a selector
-pub record IsRedaction (text : List ℕ) (put : Tree) (redaction : RedactionView) : Type 0 where
-  pub selector : IsSelector text redaction.segments
+pub record IsRedaction (text : List ℕ) (put : Tree → Tree) (redaction : RedactionView) : Type 0 where
+  pub selector : IsSelector text redaction.parts
   pub put_is : redaction.put ≡ put
 
 -- the same of each text and what is put
@@ -44,4 +44,4 @@ AreRedactions (p ∷ ps) (r ∷ rs) = IsRedaction p.0 (put_of p.1) r × AreRedac
 -- the first text that is no selector is refused as such; or memory was wanting
 abbrev pub AreRefused : List (List ℕ × Redaction) → SelectError → Type 0
 AreRefused [] error = error ≡ OutOfMemory
-AreRefused (p ∷ ps) error = IsRefused p.0 error ⊎ ((segments : List Segment) × IsSelector p.0 segments × AreRefused ps error)
+AreRefused (p ∷ ps) error = IsRefused p.0 error ⊎ ((parts : Parts) × IsSelector p.0 parts × AreRefused ps error)

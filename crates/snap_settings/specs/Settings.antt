@@ -1,7 +1,8 @@
 -- What the settings of an assertion say.
 use Rattle.std.specs.Prelude.{ℕ, Bool, true, false, List, [], Option, None, codes}
 use Rattle.snap_content.specs.Tree.{Tree}
-use Rattle.snap_settings.specs.Redactions.{RedactionView, redactions_of}
+use Rattle.snap_select.specs.SortedTree.{sorted_tree}
+use Rattle.snap_settings.specs.Redactions.{RedactionView, redactions_of, redacted_by}
 use Rattle.snap_settings.specs.declared.settings.Settings.{Settings}
 
 pub record SettingsView : Type 0 where
@@ -29,6 +30,15 @@ new_settings = record {
   redactions = [];
 }
 
--- no call changes settings yet but for the redactions
+-- no call changes settings yet but for sorting and the redactions
 abbrev pub settings_of : Settings → SettingsView
-settings_of settings = record new_settings { snapshot_path = settings.snapshot_path; redactions = redactions_of settings.redactions }
+settings_of settings =
+    record new_settings { sort_maps = settings.sort_maps; snapshot_path = settings.snapshot_path; redactions = redactions_of settings.redactions }
+
+-- the tree that is printed: its maps sorted where that is set, and then each redaction in turn
+abbrev pub sorted_where : Bool → Tree → Tree
+sorted_where true c = sorted_tree c
+sorted_where false c = c
+
+abbrev pub printed_tree : SettingsView → Tree → Tree
+printed_tree settings c = redacted_by settings.redactions (sorted_where settings.sort_maps c)

@@ -1,43 +1,50 @@
 //! The settings of an assertion.
 ghost use Rattle.std.specs.Prelude.{◌≡◌, List, [], ◌∷◌, ◌++◌, IfOk, IfErr, OnOk, OnErr, is_some, option_map};
 ghost use Rattle.std.specs.Str.{chars};
+ghost use Rattle.snap_content.specs.View.{tree};
+ghost use Rattle.snap_settings.specs.Settings.{sorted_where};
 ghost use Rattle.snap_store.specs.Meta.{shown_text};
 
 use crate::redactions::Redactions;
-use snap_content::{OutOfMemory, Text};
+use snap_content::{Content, OutOfMemory, Text};
 use snap_select::{Redaction, SelectError};
 use std::alloc::Global;
 
-/// The settings of an assertion. No call changes them yet but for the redactions.
+/// The settings of an assertion. Calls change sorting and the redactions; the rest stays as it is yet.
 #[derive(Debug, Drop)]
 pub struct Settings {
+    sort_maps: bool,
     snapshot_path: Text,
     redactions: Redactions,
 }
 
 impl Settings {
+    ghost use Rattle.snap_select.specs.InOrder.{in_order};
     ghost use Rattle.snap_select.specs.Put.{put_of};
     ghost use Rattle.snap_select.specs.Refusal.{IsRefused};
     ghost use Rattle.snap_settings.specs.Redactions.{RedactionView, IsRedaction, AreRedactions, AreRefused, redactions_of};
-    ghost use Rattle.snap_settings.specs.Settings.{settings_of, new_settings};
+    ghost use Rattle.snap_settings.specs.Settings.{settings_of, new_settings, printed_tree};
 
     /// Trees as they are, snapshots in the folder `snapshots`, no suffix, the expression kept and the
     /// module in front of the name.
     pub fn new(alloc: Global) -> Result<Settings, OutOfMemory>
         ensures { IfOk result (λ settings. settings_of settings ≡ new_settings) }
     {
-        let snapshot_path = Text::from_ascii(alloc, "snapshots")?;
-        Ok(Settings {
-            snapshot_path,
-            redactions: Redactions::new(alloc),
-        })
+        Settings::of_parts(alloc, false, Redactions::new(alloc))
     }
 
     /// Whether the entries of maps are sorted before they are printed.
     pub fn sort_maps(&self) -> bool
         ensures { result ≡ (settings_of self.now).sort_maps }
     {
-        false
+        self.sort_maps
+    }
+
+    /// Says whether the entries of maps are sorted before they are printed.
+    pub fn set_sort_maps(&mut self, value: bool)
+        ensures { settings_of self.new ≡ record (settings_of self.old) { sort_maps = value } }
+    {
+        self.sort_maps = value;
     }
 
     /// Whether the module stands before the name in the name of the snapshot's file.
@@ -110,6 +117,22 @@ impl Settings {
         self.redactions.add(alloc, selector, replacement)
     }
 
+    /// Has the lists that the selector hits put in order, behind the redactions so far.
+    /// After a refusal and after want of memory the settings are as they were.
+    pub fn sort_selector(&mut self, selector: &str) -> Result<(), SelectError>
+        ensures ok { OnOk result ((made : RedactionView)
+            × IsRedaction (chars selector.now) in_order made
+            × (settings_of self.new ≡ record
+            (settings_of self.old) {
+              redactions = (settings_of self.old).redactions
+                  ++ made ∷ [];
+            })) }
+        ensures refused { IfErr result (λ e. IsRefused (chars selector.now) e) }
+        ensures err { OnErr result (settings_of self.new ≡ settings_of self.old) }
+    {
+        self.add_redaction(selector, Redaction::Sorted)
+    }
+
     /// Takes these redactions in place of all. The first text that is no selector is refused.
     /// After a refusal and after want of memory the settings are as they were.
     pub fn set_redactions(&mut self, redactions: Vec<(Text, Redaction)>) -> Result<(), SelectError>
@@ -137,13 +160,28 @@ impl Settings {
         &self.redactions
     }
 
-    /// New settings but for the redactions.
-    pub fn of_redactions(alloc: Global, redactions: Redactions) -> Result<Settings, OutOfMemory>
+    /// The tree that is printed: its maps sorted where that is set, and then each redaction in turn. The one error is
+    /// want of memory.
+    pub fn printed_tree(&self, alloc: Global, content: Content) -> Result<Content, OutOfMemory>
+        ensures { IfOk result (λ made. tree made
+            ≡ printed_tree (settings_of self.now) (tree content)) }
+    {
+        let content = sorted_where(self.sort_maps, alloc, content)?;
+        self.redactions.apply(alloc, content)
+    }
+
+    /// New settings but for sorting and the redactions.
+    pub fn of_parts(
+        alloc: Global,
+        sort_maps: bool,
+        redactions: Redactions,
+    ) -> Result<Settings, OutOfMemory>
         ensures { IfOk result (λ settings. settings_of settings
-            ≡ record new_settings { redactions = redactions_of redactions }) }
+            ≡ record new_settings { sort_maps = sort_maps; redactions = redactions_of redactions }) }
     {
         let snapshot_path = Text::from_ascii(alloc, "snapshots")?;
         Ok(Settings {
+            sort_maps,
             snapshot_path,
             redactions,
         })
@@ -155,4 +193,15 @@ impl Settings {
     {
         &self.snapshot_path
     }
+}
+
+/// The tree with its maps sorted, where that is set.
+fn sorted_where(is_set: bool, alloc: Global, content: Content) -> Result<Content, OutOfMemory>
+    ensures { IfOk result (λ made. tree made ≡ sorted_where is_set (tree content)) }
+{
+    let mut content = content;
+    if is_set {
+        content.sort_maps(alloc)?;
+    }
+    Ok(content)
 }

@@ -3,8 +3,7 @@ use Rattle.snap_content.specs.Lines.{text_of, lines_of}
 use Rattle.snap_content.specs.Plain.{plain}
 use Rattle.snap_content.specs.Printed.{AreLines}
 use Rattle.snap_content.specs.View.{tree}
-use Rattle.snap_settings.specs.Redactions.{redacted_by}
-use Rattle.snap_settings.specs.Settings.{settings_of}
+use Rattle.snap_settings.specs.Settings.{settings_of, printed_tree}
 use Rattle.snap_place.specs.Place.{place_of}
 use Rattle.snap_place.proofs.FilePaths.{path_of-file}
 use Rattle.snap_assert.proofs.prepare.prepare.Goals as goal
@@ -12,8 +11,7 @@ use Rattle.snap_assert.proofs.prepare.prepare.Goals as goal
 pub returns : goal.returns
 returns c =
     let settings = settings_of c.args.settings.now in
-    let redacted : tree c.in_ok-content.content ≡ redacted_by settings.redactions (tree c.args.content) =
-    c.in_ok-content.ensures ∙ ap (λ rs. redacted_by rs (tree c.args.content)) c.redactions.ensures in
+    let redacted : tree c.in_ok-content.content ≡ printed_tree settings (tree c.args.content) = c.in_ok-content.ensures in
     record {
       path = c.in_ok-path.ensures;
       file_path = path_of-file settings (place_of c.args.place.now) c.args.name.now;

@@ -24,14 +24,14 @@ returns-in_default-clause-err g c = unchanged_before (words_of c.args.runner.now
 pub returns-in-Ok-assert_content-clause-ok : goal.returns-in-Ok-assert_content-clause-ok
 returns-in-Ok-assert_content-clause-ok g c =
     document_answered c.args.runner.now c.args.document.now (request_of c.in-Ok.request) _ _ _ _ c.in-Ok.ensures.ok
-    (assertion_is _ _ _ (request_of c.in-Ok.request) c.in-Ok-of_redactions.ensures c.in-Ok-place_of_request.ensures.place)
+    (assertion_is _ _ _ (request_of c.in-Ok.request) c.in-Ok-of_parts.ensures c.in-Ok-place_of_request.ensures.place)
     (c.in-Ok-assert_content.ensures.answered _ refl)
 
 pub returns-clause-err : goal.returns-clause-err
 returns-clause-err g c =
     refused_stops c.args.runner.now c.args.document.now (request_of c.in-Ok.request) _ _ _ _ _ _ _ c.in-Err-assert_content.ensures.cause (c.in-Err-assert_content.ensures.named _ refl)
     c.error_of.ensures.file c.error_of.ensures.memory c.in-Ok.ensures.ok
-    (asked_is _ _ _ (request_of c.in-Ok.request) c.in-Ok-of_redactions.ensures c.in-Ok-place_of_request.ensures.place)
+    (asked_is _ _ _ (request_of c.in-Ok.request) c.in-Ok-of_parts.ensures c.in-Ok-place_of_request.ensures.place)
     (c.in-Err-assert_content.ensures.kept _ refl)
 
 pub returns-clause-store_count : goal.returns-clause-store_count
