@@ -163,7 +163,7 @@ impl Settings {
     /// The tree that is printed: its maps sorted where that is set, and then each redaction in turn. The one error is
     /// want of memory.
     pub fn printed_tree(&self, alloc: Global, content: Content) -> Result<Content, OutOfMemory>
-        ensures { IfOk result (λ made. tree made
+        ensures printed { IfOk result (λ made. tree made
             ≡ printed_tree (settings_of self.now) (tree content)) }
     {
         let content = sorted_where(self.sort_maps, alloc, content)?;
