@@ -5,7 +5,7 @@ ghost use Rattle.snap_content.specs.Plain.{Plain, dict, Plains, Entries, content
 ghost use Rattle.snap_content.specs.View.{tree, item_trees, pair_trees};
 ghost use Rattle.snap_select.specs.Put.{put_of};
 ghost use Rattle.snap_select.specs.Selected.{selected};
-ghost use Rattle.snap_select.specs.Selectors.{segments_of};
+ghost use Rattle.snap_select.specs.Selectors.{parts_of};
 ghost use Rattle.snap_store.specs.Fields.{last_value};
 ghost use Rattle.snap_settings.specs.Redactions.{redaction_of, redactions_of};
 ghost use Rattle.snap_request.specs.Requests.{is_keyed, holds_key, redaction_keys, put_from, redaction_from, redaction_in, redactions_in, redactions_from};
@@ -114,7 +114,7 @@ fn held_keys(pairs: &[(Content, Content)]) -> usize
 
 /// The selector that a text is, if it is one.
 fn read_selector(alloc: Global, text: &str) -> Result<Option<Selector<'static>>, OutOfMemory>
-    ensures { IfOk result (λ found. option_map segments_of found ≡ selected (chars text.now)) }
+    ensures { IfOk result (λ found. option_map parts_of found ≡ selected (chars text.now)) }
 {
     match Selector::parse(alloc, text) {
         Ok(selector) => Ok(Some(selector.make_static(alloc)?)),

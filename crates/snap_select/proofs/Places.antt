@@ -1,62 +1,60 @@
--- What has been read at each place, and that each step keeps it.
-use Rattle.std.proofs.Common.{◌≡◌, ◌≢◌, ℕ, ◌<◌, Bool, true, false, inl, inr, List, [], ◌∷◌, ◌++◌, length, Option, Some, None, cond, refl, sym, ap, ◌∙◌, subst, append_assoc, append-nil, arith, length-append}
-use Rattle.std.proofs.lemmas.Bool.{eqb-true, eqb-false, ltb-true, and_parts, and_from}
+-- What has been read at each place: every step keeps it, and where the text may end it is the grammar.
+use Rattle.std.proofs.Common.{◌≡◌, ◌≢◌, ℕ, Bool, true, false, ◌⊎◌, inl, inr, List, [], ◌∷◌, ◌++◌, length, Option, Some, None, cond, refl, sym, ap, ◌∙◌, subst, append_assoc, append-nil, arith, length-append}
+use Rattle.std.proofs.lemmas.Bool.{eqb-true}
 use Rattle.std.proofs.lemmas.Option.{same_Some}
-use Rattle.std.specs.Char.{is_digit, digit_value}
-use Rattle.std.specs.List.{list_all}
-use Rattle.std.specs.Prelude.{IsTrue, ◌==◌}
-use Rattle.std.specs.Str.Parse.{IsNumeral, AllDigits, digits_value}
-use Rattle.unicode_ident.specs.Ident.{is_xid_continue}
-use Rattle.snap_select.specs.Grammar.{begins_name, IsName, Quoted, Quotes, dotted, bracketed, Spells, SpellsEach, MayFollowDot, Stands, IsSpelled}
-use Rattle.snap_select.specs.Reading.{Place, at_start, behind_first_dot, ready, behind_dot, in_name, behind_bracket, in_number, in_quotes, behind_backslash, behind_quotes, begin_segment, step, ended}
+use Rattle.std.specs.Prelude.{◌==◌}
+use Rattle.snap_select.specs.Grammar.{is_blank, AreBlanks, begins_name, dotted, bracketed, Behind, Spells, SpellsEach, MayFollowDot, Stands, SpellsPart, BeforeComma, EachBeforeComma, IsSpelled}
+use Rattle.snap_select.specs.Parts.{Parts}
+use Rattle.snap_select.specs.Reading.{Token, dot, in_name, star, bracket, in_quotes, backslash, minus, number, behind_number, colon, to_minus, to_number, closing, Move, on, ends, ended_before, nowhere, move, whole, Place, before_part, first_dot, ready, inside, behind_part, separate, follow, moved, step, with_last, ended}
 use Rattle.snap_select.specs.declared.segment.Segment.{Segment}
-use Rattle.snap_select.specs.declared.segment.Segment.TheVariants.{Key, Index}
+use Rattle.snap_select.specs.declared.segment.Segment.TheVariants.{DeepWildcard, Wildcard, Key, Index, Range}
+use Rattle.snap_select.proofs.Tokens.{TokenMeans, MoveMeans, token_on, all_more}
 
--- a piece of a segment's text behind whole segments
-pub record Open (ss : List Segment) (piece text : List ℕ) : Type 0 where
-  pub before : List ℕ
-  pub is : text ≡ before ++ piece
-  pub stands : Stands ss before
+-- earlier parts, blanks, segments of this part, and then a piece; behind a lone dot only a bracket goes on
+pub record Opened (ps : Parts) (ss : List Segment) (piece text : List ℕ) : Type 0 where
+  pub front : List ℕ
+  pub blanks : List ℕ
+  pub body : List ℕ
+  pub is : text ≡ (front ++ blanks ++ body) ++ piece
+  pub commas : EachBeforeComma ps front
+  pub blank : AreBlanks blanks
+  pub stands : Stands ss body
+  pub solid : body ≡ 46 ∷ [] → (r : List ℕ) × (piece ≡ 91 ∷ r)
 
--- the same, where a dot may follow what stands before
-pub record OpenDot (ss : List Segment) (piece text : List ℕ) : Type 0 where
-  pub before : List ℕ
-  pub is : text ≡ before ++ piece
-  pub stands : Stands ss before
-  pub solid : before ≢ 46 ∷ []
+-- earlier parts, blanks, and segments of this part, no lone dot among them
+pub record Filled (ps : Parts) (ss : List Segment) (text : List ℕ) : Type 0 where
+  pub front : List ℕ
+  pub blanks : List ℕ
+  pub body : List ℕ
+  pub is : text ≡ front ++ blanks ++ body
+  pub commas : EachBeforeComma ps front
+  pub blank : AreBlanks blanks
+  pub stands : Stands ss body
+  pub filled : body ≢ []
+  pub solid : body ≢ 46 ∷ []
+
+-- earlier parts, and blanks
+pub record Between (ps : Parts) (text : List ℕ) : Type 0 where
+  pub front : List ℕ
+  pub blanks : List ℕ
+  pub is : text ≡ front ++ blanks
+  pub commas : EachBeforeComma ps front
+  pub blank : AreBlanks blanks
 
 abbrev pub Means : Place → List ℕ → Type 0
-Means at_start t = t ≡ []
-Means behind_first_dot t = t ≡ 46 ∷ []
-Means (ready ss) t = Stands ss t × (t ≢ []) × (t ≢ 46 ∷ [])
-Means (behind_dot ss) t = OpenDot ss (46 ∷ []) t
-Means (in_name ss name) t = OpenDot ss (46 ∷ name) t × IsName name
-Means (behind_bracket ss) t = Open ss (91 ∷ []) t
-Means (in_number ss digits) t = Open ss (91 ∷ digits) t × IsNumeral 10 digits
-Means (in_quotes ss key) t = (inside : List ℕ) × Open ss (91 ∷ 34 ∷ inside) t × Quotes key inside
-Means (behind_backslash ss key) t = (inside : List ℕ) × Open ss (91 ∷ 34 ∷ inside ++ 92 ∷ []) t × Quotes key inside
-Means (behind_quotes ss key) t = (inside : List ℕ) × Open ss (91 ∷ 34 ∷ inside ++ 34 ∷ []) t × Quotes key inside
+Means (before_part ps) t = Between ps t
+Means (first_dot ps) t = (front : List ℕ) × Between ps front × (t ≡ front ++ 46 ∷ [])
+Means (ready ps ss) t = Filled ps ss t
+Means (inside ps ss token) t = (piece : List ℕ) × Opened ps ss piece t × TokenMeans token piece
+Means (behind_part ps) t = IsSpelled t ps
 
--- where a test decides the next place
-pub branch : (b : Bool) (x : Place) (y : Option Place) (z : Place) (P : Place → Type 0) → cond b (Some x) y ≡ Some z → (b ≡ true → P x) → (b ≡ false → y ≡ Some z → P z) → P z
-branch true x y z P e f g = subst P (same_Some x z e) (f refl)
-branch false x y z P e f g = g refl e
+abbrev pub MaybeMeans : List ℕ → Option Place → Type 0
+MaybeMeans t None = Unit {0}
+MaybeMeans t (Some s) = Means s t
 
-pub last : (x z : Place) (P : Place → Type 0) → Some x ≡ Some z → P x → P z
-last x z P e f = subst P (same_Some x z e) f
-
-pub nowhere : (z : Place) (P : Place → Type 0) → None ≡ Some z → P z
-nowhere z P e = absurd (cc)
-
--- lists that end in a character
-not_empty : (t : List ℕ) (c : ℕ) → t ++ c ∷ [] ≢ []
-not_empty [] c = λ e. absurd (cc)
-not_empty (d ∷ ds) c = λ e. absurd (cc)
-
-same_last : (t : List ℕ) (c d : ℕ) → t ++ c ∷ [] ≡ d ∷ [] → c ≡ d
-same_last [] c d e = cc
-same_last (x ∷ []) c d e = absurd (let f : c ∷ [] ≡ [] = cc in cc)
-same_last (x ∷ y ∷ ys) c d e = absurd (let f : y ∷ (ys ++ c ∷ []) ≡ [] = cc in cc)
+choose : (b : Bool) (x y : Option Place) (P : Option Place → Type 0) → (b ≡ true → P x) → (b ≡ false → P y) → P (cond b x y)
+choose true x y P f g = f refl
+choose false x y P f g = g refl
 
 -- segments, and one more
 each_more : (ss : List Segment) (body : List ℕ) (s : Segment) (piece : List ℕ) → SpellsEach ss body → Spells s piece → SpellsEach (ss ++ s ∷ []) (body ++ piece)
@@ -87,164 +85,267 @@ none_stand = record { body = []; led = inl refl; each = refl }
 pub dot_stands : Stands [] (46 ∷ [])
 dot_stands = record { body = []; led = inr (refl, tt); each = refl }
 
-more : (ss : List Segment) (piece text : List ℕ) (c : ℕ) → Open ss piece text → Open ss (piece ++ c ∷ []) (text ++ c ∷ [])
-more ss piece text c h =
-    record { before = h.before; is = ap (λ x. x ++ c ∷ []) h.is ∙ append_assoc h.before piece (c ∷ []); stands = h.stands }
+-- parts, and one more
+commas_more : (ps : Parts) (front : List ℕ) (p : List Segment) (text : List ℕ) → EachBeforeComma ps front → BeforeComma p text → EachBeforeComma (ps ++ p ∷ []) (front ++ text)
+commas_more [] front p text h k = record { front = text; back = []; is = ap (λ x. x ++ text) h ∙ sym (append-nil text); first = k; second = refl }
+commas_more (q ∷ ps) front p text h k = record {
+  front = h.front;
+  back = h.back ++ text;
+  is = ap (λ x. x ++ text) h.is ∙ append_assoc h.front h.back text;
+  first = h.first;
+  second = commas_more ps h.back p text h.second k;
+}
 
-more_dot : (ss : List Segment) (piece text : List ℕ) (c : ℕ) → OpenDot ss piece text → OpenDot ss (piece ++ c ∷ []) (text ++ c ∷ [])
-more_dot ss piece text c h =
-    record { before = h.before; is = ap (λ x. x ++ c ∷ []) h.is ∙ append_assoc h.before piece (c ∷ []); stands = h.stands; solid = h.solid }
+-- a whole text, and a comma
+unpack : (earlier : Parts) (last : List Segment) (ps : Parts) (front back text : List ℕ) → ps ≡ earlier ++ last ∷ [] → EachBeforeComma earlier front → SpellsPart last back → text ≡ front ++ back → Between ps (text ++ 44 ∷ [])
+unpack earlier last ps front back text are commas part is = record {
+  front = front ++ (back ++ 44 ∷ []);
+  blanks = [];
+  is = ap (λ x. x ++ 44 ∷ []) is ∙ append_assoc front back (44 ∷ []) ∙ sym (append-nil (front ++ (back ++ 44 ∷ [])));
+  commas = let P : Parts → Type 0 = λ x. EachBeforeComma x (front ++ (back ++ 44 ∷ [])) in
+      subst P (sym are) (commas_more earlier front last (back ++ 44 ∷ []) commas (record { part = back; is = refl; spelled = part }));
+  blank = refl;
+}
 
-shut : (ss : List Segment) (s : Segment) (r text : List ℕ) → Open ss (91 ∷ r) text → Spells s (91 ∷ r) → Stands (ss ++ s ∷ []) text
-shut ss s r text h k = let P : List ℕ → Type 0 = λ x. Stands (ss ++ s ∷ []) x in subst P (sym h.is) (stands_more ss h.before s (91 ∷ r) h.stands k (λ e. (r, refl)))
+comma_between : (ps : Parts) (t : List ℕ) → IsSpelled t ps → Between ps (t ++ 44 ∷ [])
+comma_between ps t h = unpack h.earlier h.last ps h.spelled.front h.spelled.back t h.are h.spelled.first h.spelled.second h.spelled.is
 
-pub shut_dot : (ss : List Segment) (s : Segment) (piece text : List ℕ) → OpenDot ss piece text → Spells s piece → Stands (ss ++ s ∷ []) text
-shut_dot ss s piece text h k =
-    let P : List ℕ → Type 0 = λ x. Stands (ss ++ s ∷ []) x in subst P (sym h.is) (stands_more ss h.before s piece h.stands k (λ e. absurd (h.solid e)))
+part_blank : (last : List Segment) (back : List ℕ) (c : ℕ) → SpellsPart last back → is_blank c ≡ true → SpellsPart last (back ++ c ∷ [])
+part_blank last back c h e = record {
+  before = h.before;
+  inside = h.inside;
+  after = h.after ++ c ∷ [];
+  is = ap (λ x. x ++ c ∷ []) h.is ∙ append_assoc (h.before ++ h.inside) h.after (c ∷ []);
+  blank_before = h.blank_before;
+  blank_after = all_more is_blank h.after c h.blank_after e;
+  stands = h.stands;
+  filled = h.filled;
+}
 
--- names, numerals and keys, and one character more
-all_more : (p : ℕ → Bool) (cs : List ℕ) (c : ℕ) → IsTrue (list_all p cs) → p c ≡ true → IsTrue (list_all p (cs ++ c ∷ []))
-all_more p [] c h k = rw k refl
-all_more p (d ∷ ds) c h k =
-    let q = and_parts (p d) (list_all p ds) h in and_from (p d) (list_all p (ds ++ c ∷ [])) q.0 (all_more p ds c q.1 k)
+spelled_blank : (ps : Parts) (t : List ℕ) (c : ℕ) → IsSpelled t ps → is_blank c ≡ true → IsSpelled (t ++ c ∷ []) ps
+spelled_blank ps t c h e = record {
+  earlier = h.earlier;
+  last = h.last;
+  are = h.are;
+  spelled = record {
+    front = h.spelled.front;
+    back = h.spelled.back ++ c ∷ [];
+    is = ap (λ x. x ++ c ∷ []) h.spelled.is ∙ append_assoc h.spelled.front h.spelled.back (c ∷ []);
+    first = h.spelled.first;
+    second = part_blank h.last h.spelled.back c h.spelled.second e;
+  };
+}
 
-name_more : (name : List ℕ) (c : ℕ) → IsName name → is_xid_continue c ≡ true → IsName (name ++ c ∷ [])
-name_more [] c h k = absurd h
-name_more (d ∷ ds) c h k = (h.0, all_more is_xid_continue ds c h.1 k)
+-- earlier parts, blanks and a body are whole
+pub whole_part : (ps : Parts) (ss : List Segment) (front blanks body t : List ℕ) → t ≡ front ++ blanks ++ body → EachBeforeComma ps front → AreBlanks blanks → Stands ss body → body ≢ [] → IsSpelled t (ps ++ ss ∷ [])
+whole_part ps ss front blanks body t is commas blank stands filled = record {
+  earlier = ps;
+  last = ss;
+  are = refl;
+  spelled = record {
+    front = front;
+    back = blanks ++ body;
+    is = is ∙ append_assoc front blanks body;
+    first = commas;
+    second = record { before = blanks; inside = body; after = []; is = sym (append-nil (blanks ++ body)); blank_before = blank; blank_after = refl; stands = stands; filled = filled };
+  };
+}
 
-digits_more : (ds : List ℕ) (c : ℕ) → AllDigits 10 ds → digit_value c < 10 → AllDigits 10 (ds ++ c ∷ [])
-digits_more [] c h k = (k, tt)
-digits_more (d ∷ ds) c h k = (h.0, digits_more ds c h.1 k)
+-- behind a part
+separated : (ps : Parts) (t : List ℕ) (c : ℕ) → IsSpelled t ps → MaybeMeans (t ++ c ∷ []) (separate ps c)
+separated ps t c h =
+    let P : Option Place → Type 0 = λ x. MaybeMeans (t ++ c ∷ []) x in
+    choose (is_blank c) (Some (behind_part ps)) (cond (c == 44) (Some (before_part ps)) None) P
+    (λ e. spelled_blank ps t c h e)
+    (λ f. choose (c == 44) (Some (before_part ps)) None P
+    (λ e. let Q : ℕ → Type 0 = λ x. Between ps (t ++ x ∷ []) in subst Q (sym (eqb-true c 44 e)) (comma_between ps t h)) (λ g. tt))
 
-numeral_more : (ds : List ℕ) (c : ℕ) → AllDigits 10 ds → is_digit c 10 ≡ true → IsNumeral 10 (ds ++ c ∷ [])
-numeral_more ds c h k = (omega (arith, length-append ds (c ∷ [])), digits_more ds c h (ltb-true (digit_value c) 10 k))
+-- behind a segment
+followed : (ps : Parts) (ss : List Segment) (t : List ℕ) (c : ℕ) → Filled ps ss t → MaybeMeans (t ++ c ∷ []) (follow ps ss c)
+followed ps ss t c h =
+    let P : Option Place → Type 0 = λ x. MaybeMeans (t ++ c ∷ []) x in
+    let opens : Opened ps ss (c ∷ []) (t ++ c ∷ []) = record {
+      front = h.front;
+      blanks = h.blanks;
+      body = h.body;
+      is = ap (λ x. x ++ c ∷ []) h.is;
+      commas = h.commas;
+      blank = h.blank;
+      stands = h.stands;
+      solid = λ e. absurd (h.solid e);
+    } in
+    choose (c == 46) (Some (inside ps ss dot)) (cond (c == 91) (Some (inside ps ss bracket)) (separate (ps ++ ss ∷ []) c)) P
+    (λ e. (c ∷ [], opens, ap (λ x. x ∷ []) (eqb-true c 46 e)))
+    (λ f. choose (c == 91) (Some (inside ps ss bracket)) (separate (ps ++ ss ∷ []) c) P
+    (λ e. (c ∷ [], opens, ([], ap (λ x. x ∷ []) (eqb-true c 91 e), refl)))
+    (λ g. separated (ps ++ ss ∷ []) t c (whole_part ps ss h.front h.blanks h.body t h.is h.commas h.blank h.stands h.filled)))
 
-quotes_more : (key inside : List ℕ) (c : ℕ) (tail : List ℕ) → Quotes key inside → Quoted c tail [] → Quotes (key ++ c ∷ []) (inside ++ tail)
-quotes_more [] inside c tail h k = let P : List ℕ → Type 0 = λ x. Quotes (c ∷ []) (x ++ tail) in subst P (sym h) ([], k, refl)
-quotes_more (d ∷ ds) inside c tail h k =
-    (h.0 ++ tail, elim h.1 [ inl p ↦ inl (ap (λ x. x ++ tail) p.0, p.1, p.2) | inr e ↦ inr (ap (λ x. x ++ tail) e) ], quotes_more ds h.0 c tail h.2 k)
+-- a piece that is a whole segment
+not_nothing : (body piece : List ℕ) → piece ≢ [] → body ++ piece ≢ []
+not_nothing [] piece n = n
+not_nothing (c ∷ cs) piece n = λ e. absurd (cc)
 
--- each step keeps what the places mean
-solid_name : (before : List ℕ) (d : ℕ) (ds : List ℕ) → before ++ 46 ∷ d ∷ ds ≢ 46 ∷ []
-solid_name before d ds = λ e. absurd (omega (arith, length-append before (46 ∷ d ∷ ds), ap length e))
+not_dot : (body piece : List ℕ) → piece ≢ [] → piece ≢ 46 ∷ [] → (body ≡ 46 ∷ [] → (r : List ℕ) × (piece ≡ 91 ∷ r)) → body ++ piece ≢ 46 ∷ []
+not_dot [] piece n m k = m
+not_dot (c ∷ []) [] n m k = λ e. n refl
+not_dot (c ∷ []) (p ∷ ps) n m k = λ e. absurd (cc)
+not_dot (c ∷ d ∷ ds) piece n m k = λ e. absurd (cc)
 
-begun : (ss : List Segment) (t : List ℕ) (c : ℕ) (z : Place) → Stands ss t → t ≢ 46 ∷ [] → begin_segment ss c ≡ Some z → Means z (t ++ c ∷ [])
-begun ss t c z h k e =
-    branch (c == 46) (behind_dot ss) (cond (c == 91) (Some (behind_bracket ss)) None) z (λ p. Means p (t ++ c ∷ [])) e
-    (λ q. record { before = t; is = ap (λ x. t ++ x ∷ []) (eqb-true c 46 q); stands = h; solid = k })
-    (λ q f. branch (c == 91) (behind_bracket ss) None z (λ p. Means p (t ++ c ∷ [])) f
-    (λ r. record { before = t; is = ap (λ x. t ++ x ∷ []) (eqb-true c 91 r); stands = h })
-    (λ r g. nowhere z (λ p. Means p (t ++ c ∷ [])) g))
+pub whole_segment : (ps : Parts) (ss : List Segment) (s : Segment) (piece t : List ℕ) → Opened ps ss piece t → Spells s piece → piece ≢ [] → piece ≢ 46 ∷ [] → Filled ps (ss ++ s ∷ []) t
+whole_segment ps ss s piece t h k n m = record {
+  front = h.front;
+  blanks = h.blanks;
+  body = h.body ++ piece;
+  is = h.is ∙ append_assoc (h.front ++ h.blanks) h.body piece;
+  commas = h.commas;
+  blank = h.blank;
+  stands = stands_more ss h.body s piece h.stands k h.solid;
+  filled = not_nothing h.body piece n;
+  solid = not_dot h.body piece n m h.solid;
+}
 
-shut_name : (ss : List Segment) (name t : List ℕ) → OpenDot ss (46 ∷ name) t → IsName name → Stands (ss ++ Key name ∷ []) t
-shut_name ss name t h k = shut_dot ss (Key name) (46 ∷ name) t h (dotted refl k)
+-- the piece, and one character more
+piece_more : (ps : Parts) (ss : List Segment) (piece t : List ℕ) (c : ℕ) → Opened ps ss piece t → Opened ps ss (piece ++ c ∷ []) (t ++ c ∷ [])
+piece_more ps ss piece t c h = record {
+  front = h.front;
+  blanks = h.blanks;
+  body = h.body;
+  is = ap (λ x. x ++ c ∷ []) h.is ∙ append_assoc (h.front ++ h.blanks ++ h.body) piece (c ∷ []);
+  commas = h.commas;
+  blank = h.blank;
+  stands = h.stands;
+  solid = λ e. let k = h.solid e in (k.0 ++ c ∷ [], ap (λ x. x ++ c ∷ []) k.1);
+}
 
-solid_whole : (name before t : List ℕ) → t ≡ before ++ 46 ∷ name → IsName name → t ≢ 46 ∷ []
-solid_whole [] before t h k = absurd k
-solid_whole (d ∷ ds) before t h k = λ e. solid_name before d ds (sym h ∙ e)
+-- segments are spelled by more than a dot
+by_bracket : (text r : List ℕ) → text ≡ 91 ∷ r → (text ≢ []) × (text ≢ 46 ∷ [])
+by_bracket text r is = (λ e. absurd (let f = sym is ∙ e in cc), λ e. absurd (let f = sym is ∙ e in cc))
 
-to_number : (ss : List Segment) (digits t : List ℕ) (c : ℕ) (z : Place) → Open ss (91 ∷ digits) t → IsNumeral 10 digits → step (in_number ss digits) c ≡ Some z → Means z (t ++ c ∷ [])
-to_number ss digits t c z h n e =
-    branch (is_digit c 10) (in_number ss (digits ++ c ∷ [])) (cond (c == 93) (Some (ready (ss ++ Index (digits_value 10 digits) ∷ []))) None) z (λ p. Means p (t ++ c ∷ [])) e
-    (λ q. (more ss (91 ∷ digits) t c h, numeral_more digits c n.1 q))
-    (λ q f. branch (c == 93) (ready (ss ++ Index (digits_value 10 digits) ∷ [])) None z (λ p. Means p (t ++ c ∷ [])) f
-    (λ r.
-    let is = eqb-true c 93 r in
-    let P : ℕ → Type 0 = λ x. Spells (Index (digits_value 10 digits)) (91 ∷ digits ++ x ∷ []) in (
-      shut ss (Index (digits_value 10 digits)) (digits ++ c ∷ []) (t ++ c ∷ []) (more ss (91 ∷ digits) t c h)
-          (subst P (sym is) (record { digits = digits; is = refl; numeral = n; value = refl })),
-      not_empty t c,
-      λ w. absurd (let v = same_last t c 46 w in cc),
-    ))
-    (λ r g. nowhere z (λ p. Means p (t ++ c ∷ [])) g))
+nonempty_spelled : (s : Segment) (text : List ℕ) → Spells s text → (text ≢ []) × (text ≢ 46 ∷ [])
+nonempty_spelled (Key []) text (dotted is name) = absurd name
+nonempty_spelled (Key (c ∷ cs)) text (dotted is name) = (λ e. absurd (let f = sym is ∙ e in cc), λ e. absurd (let f = sym is ∙ e in cc))
+nonempty_spelled (Key key) text (bracketed k) = by_bracket text (k.before ++ k.inside ++ k.after ++ 93 ∷ []) k.is
+nonempty_spelled (Index index) text k = by_bracket text (k.before ++ k.inside ++ k.after ++ 93 ∷ []) k.is
+nonempty_spelled Wildcard text h = (λ e. absurd (let f = sym h ∙ e in cc), λ e. absurd (let f = sym h ∙ e in cc))
+nonempty_spelled DeepWildcard text h = (λ e. absurd (let f = sym h ∙ e in cc), λ e. absurd (let f = sym h ∙ e in cc))
+nonempty_spelled (Range from to) text k = by_bracket text (k.before ++ k.inside ++ k.after ++ 93 ∷ []) k.is
 
-to_quotes : (ss : List Segment) (key t inside : List ℕ) (c : ℕ) (z : Place) → Open ss (91 ∷ 34 ∷ inside) t → Quotes key inside → step (in_quotes ss key) c ≡ Some z → Means z (t ++ c ∷ [])
-to_quotes ss key t inside c z h k e =
-    branch (c == 34) (behind_quotes ss key) (cond (c == 92) (Some (behind_backslash ss key)) (Some (in_quotes ss (key ++ c ∷ [])))) z (λ p. Means p (t ++ c ∷ [])) e
-    (λ q.
-    let P : ℕ → Type 0 = λ x. Open ss (91 ∷ 34 ∷ inside ++ x ∷ []) (t ++ c ∷ []) in
-    (inside, subst P (eqb-true c 34 q) (more ss (91 ∷ 34 ∷ inside) t c h), k))
-    (λ q f. branch (c == 92) (behind_backslash ss key) (Some (in_quotes ss (key ++ c ∷ []))) z (λ p. Means p (t ++ c ∷ [])) f
-    (λ r.
-    let P : ℕ → Type 0 = λ x. Open ss (91 ∷ 34 ∷ inside ++ x ∷ []) (t ++ c ∷ []) in
-    (inside, subst P (eqb-true c 92 r) (more ss (91 ∷ 34 ∷ inside) t c h), k))
-    (λ r g. last (in_quotes ss (key ++ c ∷ [])) z (λ p. Means p (t ++ c ∷ [])) g
-    (inside ++ c ∷ [], more ss (91 ∷ 34 ∷ inside) t c h, quotes_more key inside c (c ∷ []) k (inl (refl, eqb-false c 34 q, eqb-false c 92 r)))))
+moved_on : (ps : Parts) (ss : List Segment) (piece t : List ℕ) (c : ℕ) (m : Move) → Opened ps ss piece t → MoveMeans piece (piece ++ c ∷ []) m → MaybeMeans (t ++ c ∷ []) (moved ps ss c m)
+moved_on ps ss piece t c (on token) h k = (piece ++ c ∷ [], piece_more ps ss piece t c h, k)
+moved_on ps ss piece t c (ends s) h k =
+    let n = nonempty_spelled s (piece ++ c ∷ []) k in whole_segment ps ss s (piece ++ c ∷ []) (t ++ c ∷ []) (piece_more ps ss piece t c h) k n.0 n.1
+moved_on ps ss piece t c (ended_before s) h k =
+    let n = nonempty_spelled s piece k in followed ps (ss ++ s ∷ []) t c (whole_segment ps ss s piece t h k n.0 n.1)
+moved_on ps ss piece t c nowhere h k = tt
 
-past_backslash : (ss : List Segment) (key t inside : List ℕ) (c : ℕ) → Open ss (91 ∷ 34 ∷ inside ++ 92 ∷ []) t → Quotes key inside → Means (in_quotes ss (key ++ c ∷ [])) (t ++ c ∷ [])
-past_backslash ss key t inside c h k =
-    let P : List ℕ → Type 0 = λ x. Open ss (91 ∷ 34 ∷ x) (t ++ c ∷ []) in (
-      inside ++ 92 ∷ c ∷ [],
-      subst P (append_assoc inside (92 ∷ []) (c ∷ [])) (more ss (91 ∷ 34 ∷ inside ++ 92 ∷ []) t c h),
-      quotes_more key inside c (92 ∷ c ∷ []) k (inr refl),
-    )
+-- where a part begins
+begun : (ps : Parts) (t piece : List ℕ) → Between ps t → Opened ps [] piece (t ++ piece)
+begun ps t piece h = record {
+  front = h.front;
+  blanks = h.blanks;
+  body = [];
+  is = ap (λ x. x ++ piece) (h.is ∙ sym (append-nil (h.front ++ h.blanks)));
+  commas = h.commas;
+  blank = h.blank;
+  stands = none_stand;
+  solid = λ e. absurd (cc);
+}
 
-past_quotes : (ss : List Segment) (key t inside : List ℕ) (c : ℕ) → Open ss (91 ∷ 34 ∷ inside ++ 34 ∷ []) t → Quotes key inside → c ≡ 93 → Means (ready (ss ++ Key key ∷ [])) (t ++ c ∷ [])
-past_quotes ss key t inside c h k is =
-    let P : List ℕ → Type 0 = λ x. Open ss (91 ∷ 34 ∷ x) (t ++ c ∷ []) in
-    let held : Open ss (91 ∷ 34 ∷ inside ++ 34 ∷ c ∷ []) (t ++ c ∷ []) = subst P (append_assoc inside (34 ∷ []) (c ∷ [])) (more ss (91 ∷ 34 ∷ inside ++ 34 ∷ []) t c h) in
-    let Q : ℕ → Type 0 = λ x. Spells (Key key) (91 ∷ 34 ∷ inside ++ 34 ∷ x ∷ []) in
-    (shut ss (Key key) (34 ∷ inside ++ 34 ∷ c ∷ []) (t ++ c ∷ []) held (subst Q (sym is) (bracketed inside refl k)), not_empty t c, λ w. absurd (let v = same_last t c 46 w in cc))
+begun_dot : (ps : Parts) (t r : List ℕ) → Between ps t → Opened ps [] (91 ∷ r) ((t ++ 46 ∷ []) ++ 91 ∷ r)
+begun_dot ps t r h = record {
+  front = h.front;
+  blanks = h.blanks;
+  body = 46 ∷ [];
+  is = ap (λ x. (x ++ 46 ∷ []) ++ 91 ∷ r) h.is;
+  commas = h.commas;
+  blank = h.blank;
+  stands = dot_stands;
+  solid = λ e. (r, refl);
+}
+
+between_blank : (ps : Parts) (t : List ℕ) (c : ℕ) → Between ps t → is_blank c ≡ true → Between ps (t ++ c ∷ [])
+between_blank ps t c h e = record {
+  front = h.front;
+  blanks = h.blanks ++ c ∷ [];
+  is = ap (λ x. x ++ c ∷ []) h.is ∙ append_assoc h.front h.blanks (c ∷ []);
+  commas = h.commas;
+  blank = all_more is_blank h.blanks c h.blank e;
+}
+
+lone_dot : (ps : Parts) (front t : List ℕ) → Between ps front → t ≡ front ++ 46 ∷ [] → IsSpelled t (ps ++ [] ∷ [])
+lone_dot ps front t h is =
+    whole_part ps [] h.front h.blanks (46 ∷ []) t (is ∙ ap (λ x. x ++ 46 ∷ []) h.is) h.commas h.blank dot_stands (λ e. absurd (cc))
+
+first_dot_on : (ps : Parts) (front t : List ℕ) (c : ℕ) → Between ps front → t ≡ front ++ 46 ∷ [] → MaybeMeans (t ++ c ∷ []) (step (first_dot ps) c)
+first_dot_on ps front t c h is =
+    let P : Option Place → Type 0 = λ x. MaybeMeans (t ++ c ∷ []) x in
+    let both : t ++ c ∷ [] ≡ front ++ 46 ∷ c ∷ [] = ap (λ x. x ++ c ∷ []) is ∙ append_assoc front (46 ∷ []) (c ∷ []) in
+    let Q : List ℕ → Type 0 = λ x. Opened ps [] (46 ∷ c ∷ []) x in
+    let opened = subst Q (sym both) (begun ps front (46 ∷ c ∷ []) h) in
+    choose (begins_name c) (Some (inside ps [] (in_name (c ∷ [])))) (cond (c == 42) (Some (inside ps [] star)) (cond (c == 91) (Some (inside ps [] bracket)) (separate (ps ++ [] ∷ []) c))) P
+    (λ e. (46 ∷ c ∷ [], opened, (refl, (e, refl))))
+    (λ f. choose (c == 42) (Some (inside ps [] star)) (cond (c == 91) (Some (inside ps [] bracket)) (separate (ps ++ [] ∷ []) c)) P
+    (λ e. (46 ∷ c ∷ [], opened, ap (λ x. 46 ∷ x ∷ []) (eqb-true c 42 e)))
+    (λ f. choose (c == 91) (Some (inside ps [] bracket)) (separate (ps ++ [] ∷ []) c) P
+    (λ e. let R : List ℕ → Type 0 = λ x. Opened ps [] (91 ∷ []) x in
+        (91 ∷ [], subst R (ap (λ x. x ++ 91 ∷ []) (sym is) ∙ ap (λ x. t ++ x ∷ []) (sym (eqb-true c 91 e))) (begun_dot ps front [] h), ([], refl, refl)))
+    (λ g. separated (ps ++ [] ∷ []) t c (lone_dot ps front t h is))))
 
 -- one character more
+pub step_on : (s : Place) (t : List ℕ) (c : ℕ) → Means s t → MaybeMeans (t ++ c ∷ []) (step s c)
+step_on (before_part ps) t c h =
+    let P : Option Place → Type 0 = λ x. MaybeMeans (t ++ c ∷ []) x in
+    choose (is_blank c) (Some (before_part ps)) (cond (c == 46) (Some (first_dot ps)) (cond (c == 91) (Some (inside ps [] bracket)) None)) P
+    (λ e. between_blank ps t c h e)
+    (λ f. choose (c == 46) (Some (first_dot ps)) (cond (c == 91) (Some (inside ps [] bracket)) None) P
+    (λ e. (t, h, ap (λ x. t ++ x ∷ []) (eqb-true c 46 e)))
+    (λ f. choose (c == 91) (Some (inside ps [] bracket)) None P
+    (λ e. (c ∷ [], begun ps t (c ∷ []) h, ([], ap (λ x. x ∷ []) (eqb-true c 91 e), refl))) (λ g. tt)))
+step_on (first_dot ps) t c h = first_dot_on ps h.0 t c h.1 h.2
+step_on (ready ps ss) t c h = followed ps ss t c h
+step_on (inside ps ss token) t c h = moved_on ps ss h.0 t c (move token c) h.1 (token_on token h.0 c h.2)
+step_on (behind_part ps) t c h = separated ps t c h
+
 pub kept : (s : Place) (t : List ℕ) (c : ℕ) (z : Place) → Means s t → step s c ≡ Some z → Means z (t ++ c ∷ [])
-kept at_start t c z h e =
-    branch (c == 46) behind_first_dot (cond (c == 91) (Some (behind_bracket [])) None) z (λ p. Means p (t ++ c ∷ [])) e
-    (λ q. ap (λ x. x ++ c ∷ []) h ∙ ap (λ x. x ∷ []) (eqb-true c 46 q))
-    (λ q f. branch (c == 91) (behind_bracket []) None z (λ p. Means p (t ++ c ∷ [])) f
-    (λ r. record { before = []; is = ap (λ x. x ++ c ∷ []) h ∙ ap (λ x. x ∷ []) (eqb-true c 91 r); stands = none_stand })
-    (λ r g. nowhere z (λ p. Means p (t ++ c ∷ [])) g))
-kept behind_first_dot t c z h e =
-    branch (begins_name c) (in_name [] (c ∷ [])) (cond (c == 91) (Some (behind_bracket [])) None) z (λ p. Means p (t ++ c ∷ [])) e
-    (λ q. (record { before = []; is = ap (λ x. x ++ c ∷ []) h; stands = none_stand; solid = λ w. absurd (cc) }, (q, refl)))
-    (λ q f. branch (c == 91) (behind_bracket []) None z (λ p. Means p (t ++ c ∷ [])) f
-    (λ r. record { before = 46 ∷ []; is = ap (λ x. x ++ c ∷ []) h ∙ ap (λ x. 46 ∷ x ∷ []) (eqb-true c 91 r); stands = dot_stands })
-    (λ r g. nowhere z (λ p. Means p (t ++ c ∷ [])) g))
-kept (ready ss) t c z h e = begun ss t c z h.0 h.2 e
-kept (behind_dot ss) t c z h e =
-    branch (begins_name c) (in_name ss (c ∷ [])) None z (λ p. Means p (t ++ c ∷ [])) e
-    (λ q. (more_dot ss (46 ∷ []) t c h, (q, refl)))
-    (λ q g. nowhere z (λ p. Means p (t ++ c ∷ [])) g)
-kept (in_name ss name) t c z h e =
-    branch (is_xid_continue c) (in_name ss (name ++ c ∷ [])) (begin_segment (ss ++ Key name ∷ []) c) z (λ p. Means p (t ++ c ∷ [])) e
-    (λ q. (more_dot ss (46 ∷ name) t c h.0, name_more name c h.1 q))
-    (λ q g. begun (ss ++ Key name ∷ []) t c z (shut_name ss name t h.0 h.1) (solid_whole name h.0.before t h.0.is h.1) g)
-kept (behind_bracket ss) t c z h e =
-    branch (is_digit c 10) (in_number ss (c ∷ [])) (cond (c == 34) (Some (in_quotes ss [])) None) z (λ p. Means p (t ++ c ∷ [])) e
-    (λ q. (more ss (91 ∷ []) t c h, numeral_more [] c tt q))
-    (λ q f. branch (c == 34) (in_quotes ss []) None z (λ p. Means p (t ++ c ∷ [])) f
-    (λ r. let P : ℕ → Type 0 = λ x. Open ss (91 ∷ x ∷ []) (t ++ c ∷ []) in ([], subst P (eqb-true c 34 r) (more ss (91 ∷ []) t c h), refl))
-    (λ r g. nowhere z (λ p. Means p (t ++ c ∷ [])) g))
-kept (in_number ss digits) t c z h e = to_number ss digits t c z h.0 h.1 e
-kept (in_quotes ss key) t c z h e = to_quotes ss key t h.0 c z h.1 h.2 e
-kept (behind_backslash ss key) t c z h e =
-    last (in_quotes ss (key ++ c ∷ [])) z (λ p. Means p (t ++ c ∷ [])) e (past_backslash ss key t h.0 c h.1 h.2)
-kept (behind_quotes ss key) t c z h e =
-    branch (c == 93) (ready (ss ++ Key key ∷ [])) None z (λ p. Means p (t ++ c ∷ [])) e
-    (λ q. past_quotes ss key t h.0 c h.1 h.2 (eqb-true c 93 q))
-    (λ q g. nowhere z (λ p. Means p (t ++ c ∷ [])) g)
+kept s t c z h e = let P : Option Place → Type 0 = λ x. MaybeMeans (t ++ c ∷ []) x in subst P e (step_on s t c h)
 
 -- where the text may end
-name_ends : (name before t : List ℕ) → t ≡ before ++ 46 ∷ name → t ≢ []
-name_ends name [] t h = λ e. absurd (cc)
-name_ends name (d ∷ ds) t h = λ e. absurd (cc)
+abbrev pub MaybeSpelled : List ℕ → Option Parts → Type 0
+MaybeSpelled t None = Unit {0}
+MaybeSpelled t (Some parts) = IsSpelled t parts
 
--- from one list of segments to an equal one
-ends_so : (xs ys : List Segment) (t : List ℕ) → Some xs ≡ Some ys → IsSpelled t xs → IsSpelled t ys
-ends_so xs ys t e h = let P : List Segment → Type 0 = λ x. IsSpelled t x in subst P (same_Some xs ys e) h
+abbrev MaybeSegment : List ℕ → Option Segment → Type 0
+MaybeSegment t None = Unit {0}
+MaybeSegment t (Some s) = Spells s t
 
-no_end : (ys : List Segment) (t : List ℕ) → None ≡ Some ys → IsSpelled t ys
-no_end ys t e = absurd (cc)
+token_end : (token : Token) (t : List ℕ) → TokenMeans token t → MaybeSegment t (whole token)
+token_end (in_name name) t h = dotted h.0 h.1
+token_end star t h = h
+token_end dot t h = tt
+token_end bracket t h = tt
+token_end (in_quotes key) t h = tt
+token_end (backslash key) t h = tt
+token_end minus t h = tt
+token_end (number negative digits) t h = tt
+token_end (behind_number negative digits gap) t h = tt
+token_end (colon from) t h = tt
+token_end (to_minus from) t h = tt
+token_end (to_number from negative digits) t h = tt
+token_end (closing segment) t h = tt
 
-pub end_kept : (s : Place) (t : List ℕ) (ss : List Segment) → Means s t → ended s ≡ Some ss → IsSpelled t ss
-end_kept at_start t ss h e = no_end ss t e
-end_kept behind_first_dot t ss h e =
-    let P : List ℕ → Type 0 = λ x. Stands [] x in ends_so [] ss t e (subst P (sym h) dot_stands, λ w. absurd (let v : 46 ∷ [] ≡ [] = sym h ∙ w in cc))
-end_kept (ready xs) t ss h e = ends_so xs ss t e (h.0, h.1)
-end_kept (behind_dot xs) t ss h e = no_end ss t e
-end_kept (in_name xs name) t ss h e = ends_so (xs ++ Key name ∷ []) ss t e (shut_name xs name t h.0 h.1, name_ends name h.0.before t h.0.is)
-end_kept (behind_bracket xs) t ss h e = no_end ss t e
-end_kept (in_number xs digits) t ss h e = no_end ss t e
-end_kept (in_quotes xs key) t ss h e = no_end ss t e
-end_kept (behind_backslash xs key) t ss h e = no_end ss t e
-end_kept (behind_quotes xs key) t ss h e = no_end ss t e
+last_end : (ps : Parts) (ss : List Segment) (piece t : List ℕ) (o : Option Segment) → Opened ps ss piece t → MaybeSegment piece o → MaybeSpelled t (with_last ps ss o)
+last_end ps ss piece t None h k = tt
+last_end ps ss piece t (Some s) h k =
+    let n = nonempty_spelled s piece k in
+    let f = whole_segment ps ss s piece t h k n.0 n.1 in
+    whole_part ps (ss ++ s ∷ []) f.front f.blanks f.body t f.is f.commas f.blank f.stands f.filled
+
+place_end : (s : Place) (t : List ℕ) → Means s t → MaybeSpelled t (ended s)
+place_end (before_part ps) t h = tt
+place_end (first_dot ps) t h = lone_dot ps h.0 t h.1 h.2
+place_end (ready ps ss) t h = whole_part ps ss h.front h.blanks h.body t h.is h.commas h.blank h.stands h.filled
+place_end (inside ps ss token) t h = last_end ps ss h.0 t (whole token) h.1 (token_end token h.0 h.2)
+place_end (behind_part ps) t h = h
+
+pub end_kept : (s : Place) (t : List ℕ) (parts : Parts) → Means s t → ended s ≡ Some parts → IsSpelled t parts
+end_kept s t parts h e = let P : Option Parts → Type 0 = λ x. MaybeSpelled t x in subst P e (place_end s t h)

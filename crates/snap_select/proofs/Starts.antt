@@ -1,153 +1,263 @@
 -- From the start: the texts that lead somewhere are the beginnings of selectors.
-use Rattle.std.proofs.Common.{◌≡◌, ◌≢◌, ℕ, true, inl, inr, List, [], ◌∷◌, ◌++◌, Some, refl, sym, ap, ◌∙◌, subst}
+use Rattle.std.proofs.Common.{◌≡◌, ◌≢◌, ℕ, ℤ, Bool, true, false, ◌⊎◌, inl, inr, List, [], ◌∷◌, ◌++◌, length, Option, Some, None, refl, sym, ap, ◌∙◌, subst, append_assoc, append-nil}
+use Rattle.std.proofs.lemmas.Bool.{and_parts}
 use Rattle.std.proofs.lemmas.Option.{same_Some}
-use Rattle.unicode_ident.specs.Ident.{is_xid_start}
+use Rattle.std.specs.List.{list_all}
+use Rattle.std.specs.Prelude.{◌==◌}
+use Rattle.unicode_ident.specs.Ident.{is_xid_start, is_xid_continue}
 use Rattle.unicode_ident.proofs.Computing.{unicode_ident}
 use Rattle.snap_select.specs.Faults.{Begins}
-use Rattle.snap_select.specs.Grammar.{begins_name, IsName, dotted, bracketed, Spells, SpellsEach, MayFollowDot, Stands}
-use Rattle.snap_select.specs.Reading.{Place, at_start, behind_first_dot, ready, behind_dot, in_name, behind_bracket, in_number, in_quotes, behind_backslash, behind_quotes, step, ended}
+use Rattle.snap_select.specs.Grammar.{is_blank, AreBlanks, begins_name, IsName, dotted, bracketed, Behind, Bracketed, signed_value, Spells, SpellsEach, MayFollowDot, Stands, SpellsPart, BeforeComma, EachBeforeComma, IsSpelled}
+use Rattle.snap_select.specs.Parts.{Parts}
+use Rattle.snap_select.specs.Reading.{Token, dot, in_name, star, bracket, in_quotes, backslash, minus, number, behind_number, colon, to_minus, to_number, closing, Place, before_part, first_dot, ready, inside, behind_part, step, ended}
 use Rattle.snap_select.specs.declared.segment.Segment.{Segment}
 use Rattle.snap_select.specs.declared.segment.Segment.TheVariants.{DeepWildcard, Wildcard, Key, Index, Range}
-use Rattle.snap_select.proofs.Places.{end_kept}
-use Rattle.snap_select.proofs.Walks.{Leads, leads_on, leads_half, leads_means, each_on, at_ready}
+use Rattle.snap_select.proofs.Places.{Means, kept, end_kept}
+use Rattle.snap_select.proofs.Walks.{Leads, leads_on, leads_half, leads_as, along_blanks, at_blank, AtEnd, LeadsToEnd, at_ready, each_on}
+
+-- each step along a text keeps what the places mean
+leads_kept : (s : Place) (t a : List ℕ) (z : Place) → Means s t → Leads s a z → Means z (t ++ a)
+leads_kept s t [] z h k =
+    let P : Place → Type 0 = λ x. Means x t in let Q : List ℕ → Type 0 = λ x. Means z x in subst Q (sym (append-nil t)) (subst P k h)
+leads_kept s t (c ∷ cs) z h k =
+    let Q : List ℕ → Type 0 = λ x. Means z x in subst Q (append_assoc t (c ∷ []) cs) (leads_kept k.0 (t ++ c ∷ []) cs z (kept s t c k.0 h k.1) k.2)
+
+pub starts : Means (before_part []) []
+starts = record { front = []; blanks = []; is = refl; commas = refl; blank = refl }
+
+pub leads_means : (t : List ℕ) (z : Place) → Leads (before_part []) t z → Means z t
+leads_means t z h = leads_kept (before_part []) [] t z starts h
 
 -- how the text of segments begins
 data Shape (text : List ℕ) : Type 0 where
   by_bracket : (r : List ℕ) → text ≡ 91 ∷ r → Shape text
-  by_dot : (c : ℕ) (r : List ℕ) → text ≡ 46 ∷ c ∷ r → begins_name c ≡ true → Shape text
+  by_name : (c : ℕ) (r : List ℕ) → text ≡ 46 ∷ c ∷ r → begins_name c ≡ true → Shape text
+  by_star : (r : List ℕ) → text ≡ 46 ∷ 42 ∷ r → Shape text
 
 name_shape : (key text : List ℕ) → text ≡ 46 ∷ key → IsName key → Shape text
 name_shape [] text is name = absurd name
-name_shape (c ∷ cs) text is name = by_dot c cs is name.0
+name_shape (c ∷ cs) text is name = by_name c cs is name.0
 
 segment_shape : (seg : Segment) (text : List ℕ) → Spells seg text → Shape text
 segment_shape (Key key) text (dotted is name) = name_shape key text is name
-segment_shape (Key key) text (bracketed inside is quotes) = by_bracket (34 ∷ inside ++ 34 ∷ 93 ∷ []) is
-segment_shape (Index index) text h = by_bracket (h.digits ++ 93 ∷ []) h.is
-segment_shape DeepWildcard text h = absurd h
-segment_shape Wildcard text h = absurd h
-segment_shape (Range from to) text h = absurd h
+segment_shape (Key key) text (bracketed k) = by_bracket (k.before ++ k.inside ++ k.after ++ 93 ∷ []) k.is
+segment_shape (Index index) text k = by_bracket (k.before ++ k.inside ++ k.after ++ 93 ∷ []) k.is
+segment_shape DeepWildcard text h = by_star (42 ∷ []) h
+segment_shape Wildcard text h = by_star [] h
+segment_shape (Range from to) text k = by_bracket (k.before ++ k.inside ++ k.after ++ 93 ∷ []) k.is
 
 shape_more : (text front back : List ℕ) → text ≡ front ++ back → Shape front → Shape text
 shape_more text front back h (by_bracket r is) = by_bracket (r ++ back) (h ∙ ap (λ x. x ++ back) is)
-shape_more text front back h (by_dot c r is begins) = by_dot c (r ++ back) (h ∙ ap (λ x. x ++ back) is) begins
+shape_more text front back h (by_name c r is begins) = by_name c (r ++ back) (h ∙ ap (λ x. x ++ back) is) begins
+shape_more text front back h (by_star r is) = by_star (r ++ back) (h ∙ ap (λ x. x ++ back) is)
 
 each_shape : (y : Segment) (ys : List Segment) (text : List ℕ) → SpellsEach (y ∷ ys) text → Shape text
 each_shape y ys text h = shape_more text h.front h.back h.is (segment_shape y h.front h.first)
 
-no_shape : Shape [] → ⊥
-no_shape (by_bracket r is) = cc
-no_shape (by_dot c r is begins) = cc
+name_same : (ps : Parts) (c : ℕ) → begins_name c ≡ true → step (inside ps [] dot) c ≡ step (first_dot ps) c
+name_same ps c h = rw h refl
 
-dot_same : (c : ℕ) (m : Place) → begins_name c ≡ true → step (behind_dot []) c ≡ Some m → step behind_first_dot c ≡ Some m
-dot_same c m b h = let one : step behind_first_dot c ≡ step (behind_dot []) c = rw b refl in one ∙ h
-
-after_dot : (c : ℕ) (m1 m2 : Place) → begins_name c ≡ true → Some (behind_dot []) ≡ Some m1 → step m1 c ≡ Some m2 → step behind_first_dot c ≡ Some m2
-after_dot c m1 m2 b e h = let P : Place → Type 0 = λ x. step x c ≡ Some m2 in dot_same c m2 b (subst P (sym (same_Some (behind_dot []) m1 e)) h)
-
-by_first : (text : List ℕ) (z : Place) → Shape text → Leads (ready []) text z → Leads at_start text z
-by_first text z (by_bracket r is) h =
-    let P : List ℕ → Type 0 = λ x. Leads (ready []) x z in let Q : List ℕ → Type 0 = λ x. Leads at_start x z in
-    subst Q (sym is) (subst P is h)
-by_first text z (by_dot c r is begins) h =
-    let P : List ℕ → Type 0 = λ x. Leads (ready []) x z in let Q : List ℕ → Type 0 = λ x. Leads at_start x z in
-    let k = subst P is h in
-    subst Q (sym is) (behind_first_dot, refl, (k.2.0, after_dot c k.0 k.2.0 begins k.1 k.2.1, k.2.2))
-
--- where a text of segments leads from the start
-pub record FromStart (text : List ℕ) (ss : List Segment) : Type 0 where
-  pub to : Place
-  pub leads : Leads at_start text to
-  pub bracket : step to 91 ≡ Some (behind_bracket ss)
-  pub end : text ≢ [] → ended to ≡ Some ss
-
-body_on : (ss : List Segment) (body : List ℕ) → SpellsEach ss body → FromStart body ss
-body_on [] body h =
-    let P : List ℕ → Type 0 = λ x. Leads at_start x at_start in record { to = at_start; leads = subst P (sym h) refl; bracket = refl; end = λ n. absurd (n h) }
-body_on (y ∷ ys) body h =
-    let k = each_on (ready []) [] (y ∷ ys) body (at_ready []) h in
-    record { to = k.to; leads = by_first body k.to (each_shape y ys body h) k.leads; bracket = k.whole.bracket; end = λ n. k.whole.end }
-
-pub bracket_after_dot : step behind_first_dot 91 ≡ Some (behind_bracket [])
+star_same : (ps : Parts) → step (inside ps [] dot) 42 ≡ step (first_dot ps) 42
 unfolding unicode_ident is_xid_start
-bracket_after_dot = refl
+star_same ps = refl
 
-same_after_dot : (c : ℕ) (m : Place) → c ≡ 91 → step (ready []) c ≡ Some m → step behind_first_dot c ≡ Some m
-same_after_dot c m is h =
-    let P : ℕ → Type 0 = λ x. step behind_first_dot x ≡ step (ready []) x in subst P (sym is) bracket_after_dot ∙ h
+behind_dot : (ps : Parts) (c : ℕ) (r : List ℕ) (z : Place) → step (inside ps [] dot) c ≡ step (first_dot ps) c → Leads (ready ps []) (46 ∷ c ∷ r) z → Leads (before_part ps) (46 ∷ c ∷ r) z
+behind_dot ps c r z e h =
+    let P : Place → Type 0 = λ x. step x c ≡ Some h.2.0 in
+    (first_dot ps, refl, (h.2.0, sym e ∙ subst P (sym (same_Some (inside ps [] dot) h.0 h.1)) h.2.1, h.2.2))
 
-dotted_on : (ss : List Segment) (body : List ℕ) → SpellsEach ss body → MayFollowDot body → FromStart (46 ∷ body) ss
-dotted_on [] [] h k = record { to = behind_first_dot; leads = (behind_first_dot, refl, refl); bracket = bracket_after_dot; end = λ n. refl }
-dotted_on [] (c ∷ cs) h k = absurd (cc)
-dotted_on (y ∷ ys) [] h k = absurd (no_shape (each_shape y ys [] h))
-dotted_on (y ∷ ys) (c ∷ cs) h k =
-    let w = each_on (ready []) [] (y ∷ ys) (c ∷ cs) (at_ready []) h in
+by_first : (ps : Parts) (text : List ℕ) (z : Place) → Shape text → Leads (ready ps []) text z → Leads (before_part ps) text z
+by_first ps text z (by_bracket r is) h = leads_as (before_part ps) (91 ∷ r) text z (sym is) (leads_as (ready ps []) text (91 ∷ r) z is h)
+by_first ps text z (by_name c r is begins) h =
+    leads_as (before_part ps) (46 ∷ c ∷ r) text z (sym is) (behind_dot ps c r z (name_same ps c begins) (leads_as (ready ps []) text (46 ∷ c ∷ r) z is h))
+by_first ps text z (by_star r is) h =
+    leads_as (before_part ps) (46 ∷ 42 ∷ r) text z (sym is) (behind_dot ps 42 r z (star_same ps) (leads_as (ready ps []) text (46 ∷ 42 ∷ r) z is h))
+
+-- behind a first dot a bracket leads on as at the start
+led_first : (ps : Parts) (r : List ℕ) (z : Place) → Leads (ready ps []) (91 ∷ r) z → Leads (before_part ps) (46 ∷ 91 ∷ r) z
+unfolding unicode_ident is_xid_start
+led_first ps r z h = (first_dot ps, refl, h)
+
+-- a place where a part may end
+pub record PartEnds (s : Place) (ps : Parts) : Type 0 where
+  pub blank : (c : ℕ) → is_blank c ≡ true → step s c ≡ Some (behind_part ps)
+  pub comma : step s 44 ≡ Some (before_part ps)
+  pub end : ended s ≡ Some ps
+
+whole_ends : (s : Place) (ps : Parts) (ss : List Segment) → AtEnd s ps ss → PartEnds s (ps ++ ss ∷ [])
+whole_ends s ps ss h = record { blank = h.blank; comma = h.comma; end = h.end }
+
+dot_ends : (ps : Parts) → PartEnds (first_dot ps) (ps ++ [] ∷ [])
+unfolding unicode_ident is_xid_start
+dot_ends ps = record { blank = λ c h. at_blank (λ x. step (first_dot ps) x ≡ Some (behind_part (ps ++ [] ∷ []))) c h refl refl; comma = refl; end = refl }
+
+behind_ends : (ps : Parts) → PartEnds (behind_part ps) ps
+behind_ends ps = record { blank = λ c h. rw h refl; comma = refl; end = refl }
+
+-- where a part's text leads
+pub record ToPart (s : Place) (text : List ℕ) (ps : Parts) : Type 0 where
+  pub to : Place
+  pub leads : Leads s text to
+  pub at : PartEnds to ps
+
+from_end : (s : Place) (text : List ℕ) (ps : Parts) (ss : List Segment) → LeadsToEnd s text ps ss → ToPart s text (ps ++ ss ∷ [])
+from_end s text ps ss h = record { to = h.to; leads = h.leads; at = whole_ends h.to ps ss h.at }
+
+-- segments without a dot in front
+plain_stands : (ps : Parts) (ss : List Segment) (body : List ℕ) → SpellsEach ss body → body ≢ [] → ToPart (before_part ps) body (ps ++ ss ∷ [])
+plain_stands ps [] body h n = absurd (n h)
+plain_stands ps (y ∷ ys) body h n =
+    let k = each_on (ready ps []) ps [] (y ∷ ys) body (at_ready ps []) h in
+    record { to = k.to; leads = by_first ps body k.to (each_shape y ys body h) k.leads; at = whole_ends k.to ps (y ∷ ys) k.at }
+
+-- a dot in front of a bracket, or alone
+led_stands : (ps : Parts) (ss : List Segment) (body : List ℕ) → SpellsEach ss body → MayFollowDot body → ToPart (before_part ps) (46 ∷ body) (ps ++ ss ∷ [])
+led_stands ps [] [] h k = record { to = first_dot ps; leads = (first_dot ps, refl, refl); at = dot_ends ps }
+led_stands ps (y ∷ ys) [] h k = absurd (empty (each_shape y ys [] h))
+  where
+    empty : Shape [] → ⊥
+    empty (by_bracket r is) = cc
+    empty (by_name c r is begins) = cc
+    empty (by_star r is) = cc
+led_stands ps ss (c ∷ cs) h k =
+    let e = each_on (ready ps []) ps [] ss (c ∷ cs) (at_ready ps []) h in
+    let same : c ∷ cs ≡ 91 ∷ cs = ap (λ x. x ∷ cs) k in
     record {
-      to = w.to;
-      leads = (behind_first_dot, refl, (w.leads.0, same_after_dot c w.leads.0 k w.leads.1, w.leads.2));
-      bracket = w.whole.bracket;
-      end = λ n. w.whole.end;
+      to = e.to;
+      leads = leads_as (before_part ps) (46 ∷ 91 ∷ cs) (46 ∷ c ∷ cs) e.to (ap (λ x. 46 ∷ x) (sym same)) (led_first ps cs e.to (leads_as (ready ps []) (c ∷ cs) (91 ∷ cs) e.to same e.leads));
+      at = whole_ends e.to ps ss e.at;
     }
 
-pub stands_on : (text : List ℕ) (ss : List Segment) → Stands ss text → FromStart text ss
-stands_on text ss h =
-    let P : List ℕ → Type 0 = λ x. FromStart x ss in
-    elim h.led [ inl e ↦ subst P (sym e) (body_on ss h.body h.each) | inr p ↦ subst P (sym p.0) (dotted_on ss h.body h.each p.1) ]
+stands_part : (ps : Parts) (ss : List Segment) (text : List ℕ) → Stands ss text → text ≢ [] → ToPart (before_part ps) text (ps ++ ss ∷ [])
+stands_part ps ss text h n =
+    let P : List ℕ → Type 0 = λ x. ToPart (before_part ps) x (ps ++ ss ∷ []) in
+    elim h.led [
+      | inl e ↦ subst P (sym e) (plain_stands ps ss h.body h.each (λ f. n (e ∙ f)))
+      | inr p ↦ subst P (sym p.0) (led_stands ps ss h.body h.each p.1)
+    ]
+
+-- blanks behind a part
+trail : (s : Place) (ps : Parts) (after : List ℕ) → PartEnds s ps → AreBlanks after → ToPart s after ps
+trail s ps [] h b = record { to = s; leads = refl; at = h }
+trail s ps (c ∷ cs) h b =
+    let q = and_parts (is_blank c) (list_all is_blank cs) b in
+    record {
+      to = behind_part ps;
+      leads = (behind_part ps, h.blank c q.0, along_blanks (behind_part ps) cs (behind_ends ps).blank q.1);
+      at = behind_ends ps;
+    }
+
+start_blank : (ps : Parts) (c : ℕ) → is_blank c ≡ true → step (before_part ps) c ≡ Some (before_part ps)
+start_blank ps c h = rw h refl
+
+pub part_on : (ps : Parts) (ss : List Segment) (text : List ℕ) → SpellsPart ss text → ToPart (before_part ps) text (ps ++ ss ∷ [])
+part_on ps ss text h =
+    let k = stands_part ps ss h.inside h.stands h.filled in
+    let m = trail k.to (ps ++ ss ∷ []) h.after k.at h.blank_after in
+    record {
+      to = m.to;
+      leads = leads_as (before_part ps) ((h.before ++ h.inside) ++ h.after) text m.to (sym h.is)
+          (leads_on (before_part ps) (h.before ++ h.inside) h.after k.to m.to
+          (leads_on (before_part ps) h.before h.inside (before_part ps) k.to (along_blanks (before_part ps) h.before (start_blank ps) h.blank_before) k.leads) m.leads);
+      at = m.at;
+    }
+
+comma_on : (ps : Parts) (ss : List Segment) (text : List ℕ) → BeforeComma ss text → Leads (before_part ps) text (before_part (ps ++ ss ∷ []))
+comma_on ps ss text h =
+    let k = part_on ps ss h.part h.spelled in
+    let z = before_part (ps ++ ss ∷ []) in
+    leads_as (before_part ps) (h.part ++ 44 ∷ []) text z (sym h.is) (leads_on (before_part ps) h.part (44 ∷ []) k.to z k.leads (z, k.at.comma, refl))
+
+pub commas_on : (ps earlier : Parts) (text : List ℕ) → EachBeforeComma earlier text → Leads (before_part ps) text (before_part (ps ++ earlier))
+commas_on ps [] text h = leads_as (before_part ps) [] text (before_part (ps ++ [])) (sym h) (ap (λ x. before_part x) (sym (append-nil ps)))
+commas_on ps (q ∷ qs) text h =
+    let P : Parts → Type 0 = λ x. Leads (before_part ps) text (before_part x) in
+    let z = before_part ((ps ++ q ∷ []) ++ qs) in
+    subst P (append_assoc ps (q ∷ []) qs)
+    (leads_as (before_part ps) (h.front ++ h.back) text z (sym h.is)
+    (leads_on (before_part ps) h.front h.back (before_part (ps ++ q ∷ [])) z (comma_on ps q h.front h.first) (commas_on (ps ++ q ∷ []) qs h.back h.second)))
+
+-- every spelled text leads to its parts
+pub spelled_on : (text : List ℕ) (parts : Parts) → IsSpelled text parts → ToPart (before_part []) text parts
+spelled_on text parts h =
+    let P : Parts → Type 0 = λ x. ToPart (before_part []) text x in
+    let k = part_on h.earlier h.last h.spelled.back h.spelled.second in
+    subst P (sym h.are) (record {
+      to = k.to;
+      leads = leads_as (before_part []) (h.spelled.front ++ h.spelled.back) text k.to (sym h.spelled.is)
+          (leads_on (before_part []) h.spelled.front h.spelled.back (before_part h.earlier) k.to (commas_on [] h.earlier h.spelled.front h.spelled.first) k.leads);
+      at = k.at;
+    })
 
 -- every place leads to an end
-record Live (s : Place) : Type 0 where
-  rest : List ℕ
-  segments : List Segment
-  to : Place
-  leads : Leads s rest to
-  end : ended to ≡ Some segments
+pub record Live (s : Place) : Type 0 where
+  pub rest : List ℕ
+  pub to : Place
+  pub parts : Parts
+  pub leads : Leads s rest to
+  pub end : ended to ≡ Some parts
 
-live : (s : Place) → Live s
-live at_start = record { rest = 46 ∷ []; segments = []; to = behind_first_dot; leads = (behind_first_dot, refl, refl); end = refl }
-live behind_first_dot = record { rest = []; segments = []; to = behind_first_dot; leads = refl; end = refl }
-live (ready ss) = record { rest = []; segments = ss; to = ready ss; leads = refl; end = refl }
-live (behind_dot ss) = record { rest = 95 ∷ []; segments = ss ++ Key (95 ∷ []) ∷ []; to = in_name ss (95 ∷ []); leads = (in_name ss (95 ∷ []), refl, refl); end = refl }
-live (in_name ss name) = record { rest = []; segments = ss ++ Key name ∷ []; to = in_name ss name; leads = refl; end = refl }
-live (behind_bracket ss) = record {
-  rest = 48 ∷ 93 ∷ [];
-  segments = ss ++ Index 0 ∷ [];
-  to = ready (ss ++ Index 0 ∷ []);
-  leads = (in_number ss (48 ∷ []), refl, (ready (ss ++ Index 0 ∷ []), refl, refl));
-  end = refl;
-}
-live (in_number ss digits) = record {
-  rest = 93 ∷ [];
-  segments = _;
-  to = _;
-  leads = (_, refl, refl);
-  end = refl;
-}
-live (in_quotes ss key) = record {
-  rest = 34 ∷ 93 ∷ [];
-  segments = ss ++ Key key ∷ [];
-  to = ready (ss ++ Key key ∷ []);
-  leads = (behind_quotes ss key, refl, (ready (ss ++ Key key ∷ []), refl, refl));
-  end = refl;
-}
-live (behind_backslash ss key) = record {
-  rest = 34 ∷ 34 ∷ 93 ∷ [];
-  segments = ss ++ Key (key ++ 34 ∷ []) ∷ [];
-  to = ready (ss ++ Key (key ++ 34 ∷ []) ∷ []);
-  leads = (in_quotes ss (key ++ 34 ∷ []), refl, (behind_quotes ss (key ++ 34 ∷ []), refl, (ready (ss ++ Key (key ++ 34 ∷ []) ∷ []), refl, refl)));
-  end = refl;
-}
-live (behind_quotes ss key) = record {
-  rest = 93 ∷ [];
-  segments = ss ++ Key key ∷ [];
-  to = ready (ss ++ Key key ∷ []);
-  leads = (ready (ss ++ Key key ∷ []), refl, refl);
-  end = refl;
-}
+live_token : (ps : Parts) (ss : List Segment) (token : Token) → Live (inside ps ss token)
+unfolding unicode_ident is_xid_start is_xid_continue
+live_token ps ss dot = record { rest = 42 ∷ []; to = inside ps ss star; parts = ps ++ (ss ++ Wildcard ∷ []) ∷ []; leads = (inside ps ss star, refl, refl); end = refl }
+live_token ps ss (in_name name) = record { rest = []; to = inside ps ss (in_name name); parts = ps ++ (ss ++ Key name ∷ []) ∷ []; leads = refl; end = refl }
+live_token ps ss star = record { rest = []; to = inside ps ss star; parts = ps ++ (ss ++ Wildcard ∷ []) ∷ []; leads = refl; end = refl }
+live_token ps ss bracket =
+    let z = ready ps (ss ++ Range None None ∷ []) in record { rest = 93 ∷ []; to = z; parts = ps ++ (ss ++ Range None None ∷ []) ∷ []; leads = (z, refl, refl); end = refl }
+live_token ps ss (in_quotes key) =
+    let z = ready ps (ss ++ Key key ∷ []) in
+    record { rest = 34 ∷ 93 ∷ []; to = z; parts = ps ++ (ss ++ Key key ∷ []) ∷ []; leads = (inside ps ss (closing (Key key)), refl, (z, refl, refl)); end = refl }
+live_token ps ss (backslash key) =
+    let more = key ++ 34 ∷ [] in
+    let z = ready ps (ss ++ Key more ∷ []) in
+    record {
+      rest = 34 ∷ 34 ∷ 93 ∷ [];
+      to = z;
+      parts = ps ++ (ss ++ Key more ∷ []) ∷ [];
+      leads = (inside ps ss (in_quotes more), refl, (inside ps ss (closing (Key more)), refl, (z, refl, refl)));
+      end = refl;
+    }
+live_token ps ss minus =
+    let from = Some (signed_value true (48 ∷ [])) in
+    let z = ready ps (ss ++ Range from None ∷ []) in
+    record {
+      rest = 48 ∷ 58 ∷ 93 ∷ [];
+      to = z;
+      parts = ps ++ (ss ++ Range from None ∷ []) ∷ [];
+      leads = (inside ps ss (number true (48 ∷ [])), refl, (inside ps ss (colon from), refl, (z, refl, refl)));
+      end = refl;
+    }
+live_token ps ss (number negative digits) =
+    let from = Some (signed_value negative digits) in
+    let z = ready ps (ss ++ Range from None ∷ []) in
+    record { rest = 58 ∷ 93 ∷ []; to = z; parts = ps ++ (ss ++ Range from None ∷ []) ∷ []; leads = (inside ps ss (colon from), refl, (z, refl, refl)); end = refl }
+live_token ps ss (behind_number negative digits gap) =
+    let from = Some (signed_value negative digits) in
+    let z = ready ps (ss ++ Range from None ∷ []) in
+    record { rest = 58 ∷ 93 ∷ []; to = z; parts = ps ++ (ss ++ Range from None ∷ []) ∷ []; leads = (inside ps ss (colon from), refl, (z, refl, refl)); end = refl }
+live_token ps ss (colon from) =
+    let z = ready ps (ss ++ Range from None ∷ []) in record { rest = 93 ∷ []; to = z; parts = ps ++ (ss ++ Range from None ∷ []) ∷ []; leads = (z, refl, refl); end = refl }
+live_token ps ss (to_minus from) =
+    let to = Some (signed_value true (48 ∷ [])) in
+    let z = ready ps (ss ++ Range from to ∷ []) in
+    record { rest = 48 ∷ 93 ∷ []; to = z; parts = ps ++ (ss ++ Range from to ∷ []) ∷ []; leads = (inside ps ss (to_number from true (48 ∷ [])), refl, (z, refl, refl)); end = refl }
+live_token ps ss (to_number from negative digits) =
+    let to = Some (signed_value negative digits) in
+    let z = ready ps (ss ++ Range from to ∷ []) in record { rest = 93 ∷ []; to = z; parts = ps ++ (ss ++ Range from to ∷ []) ∷ []; leads = (z, refl, refl); end = refl }
+live_token ps ss (closing segment) =
+    let z = ready ps (ss ++ segment ∷ []) in record { rest = 93 ∷ []; to = z; parts = ps ++ (ss ++ segment ∷ []) ∷ []; leads = (z, refl, refl); end = refl }
 
-pub leads_begins : (t : List ℕ) (z : Place) → Leads at_start t z → Begins t
+pub live : (s : Place) → Live s
+live (before_part ps) = record { rest = 46 ∷ []; to = first_dot ps; parts = ps ++ [] ∷ []; leads = (first_dot ps, refl, refl); end = refl }
+live (first_dot ps) = record { rest = []; to = first_dot ps; parts = ps ++ [] ∷ []; leads = refl; end = refl }
+live (ready ps ss) = record { rest = []; to = ready ps ss; parts = ps ++ ss ∷ []; leads = refl; end = refl }
+live (inside ps ss token) = live_token ps ss token
+live (behind_part ps) = record { rest = []; to = behind_part ps; parts = ps; leads = refl; end = refl }
+
+pub leads_begins : (t : List ℕ) (z : Place) → Leads (before_part []) t z → Begins t
 leads_begins t z h =
     let k = live z in
-    record { rest = k.rest; segments = k.segments; spelled = end_kept k.to (t ++ k.rest) k.segments (leads_means (t ++ k.rest) k.to (leads_on at_start t k.rest z k.to h k.leads)) k.end }
+    record { rest = k.rest; parts = k.parts; spelled = end_kept k.to (t ++ k.rest) k.parts (leads_means (t ++ k.rest) k.to (leads_on (before_part []) t k.rest z k.to h k.leads)) k.end }
 
-pub begins_leads : (t : List ℕ) → Begins t → (z : Place) × Leads at_start t z
-begins_leads t h = let k = stands_on (t ++ h.rest) h.segments h.spelled.0 in let w = leads_half at_start t h.rest k.to k.leads in (w.0, w.1)
+pub begins_leads : (t : List ℕ) → Begins t → (z : Place) × Leads (before_part []) t z
+begins_leads t h = let k = spelled_on (t ++ h.rest) h.parts h.spelled in let w = leads_half (before_part []) t h.rest k.to k.leads in (w.0, w.1)

@@ -1,18 +1,18 @@
--- From place to place along a text: every spelled text leads to its segments, and every place leads to an end.
-use Rattle.std.proofs.Common.{◌≡◌, ◌≢◌, ℕ, inl, inr, List, [], ◌∷◌, ◌++◌, Some, refl, sym, ap, ◌∙◌, subst, append_assoc, append-nil, arith}
-use Rattle.std.proofs.lemmas.Bool.{ne_eqb, lt-ltb, and_parts}
+-- From place to place along a text: every spelled text leads to its parts.
+use Rattle.std.proofs.Common.{◌≡◌, ◌≢◌, ℕ, ℤ, suc, ◌+◌, ◌<◌, Bool, true, false, ◌⊎◌, inl, inr, List, [], ◌∷◌, ◌++◌, length, Option, Some, None, cond, refl, sym, ap, ◌∙◌, subst, append_assoc, append-nil, arith}
+use Rattle.std.proofs.lemmas.Bool.{eqb-true, ne_eqb, lt-ltb, and_parts}
 use Rattle.std.proofs.lemmas.Option.{same_Some}
-use Rattle.std.specs.Char.{digit_value}
+use Rattle.std.specs.Char.{is_digit, digit_value}
 use Rattle.std.specs.List.{list_all}
-use Rattle.std.specs.Prelude.{IsTrue}
+use Rattle.std.specs.Prelude.{IsTrue, ◌==◌, ◌||◌}
 use Rattle.std.specs.Str.Parse.{IsNumeral, AllDigits, digits_value}
-use Rattle.unicode_ident.specs.Ident.{is_xid_continue}
+use Rattle.unicode_ident.specs.Ident.{is_xid_start, is_xid_continue}
 use Rattle.unicode_ident.proofs.Computing.{unicode_ident}
-use Rattle.snap_select.specs.Grammar.{IsName, Quoted, Quotes, dotted, bracketed, Spells, SpellsEach}
-use Rattle.snap_select.specs.Reading.{Place, at_start, ready, behind_dot, in_name, behind_bracket, in_number, in_quotes, behind_backslash, behind_quotes, step, ended}
+use Rattle.snap_select.specs.Grammar.{is_blank, AreBlanks, begins_name, IsName, Quoted, Quotes, InQuotes, dotted, bracketed, Bracketed, signed, signed_value, SpellsBound, MayBound, unbounded, bounded, SpellsBounds, Spells, SpellsEach, MayFollowDot, Stands, SpellsPart, EachBeforeComma, IsSpelled}
+use Rattle.snap_select.specs.Parts.{Parts}
+use Rattle.snap_select.specs.Reading.{Token, dot, in_name, star, bracket, in_quotes, backslash, minus, number, behind_number, colon, to_minus, to_number, closing, Place, before_part, first_dot, ready, inside, behind_part, step, ended}
 use Rattle.snap_select.specs.declared.segment.Segment.{Segment}
 use Rattle.snap_select.specs.declared.segment.Segment.TheVariants.{DeepWildcard, Wildcard, Key, Index, Range}
-use Rattle.snap_select.proofs.Places.{Means, kept}
 
 abbrev pub Leads : Place → List ℕ → Place → Type 0
 Leads s [] z = s ≡ z
@@ -33,130 +33,332 @@ leads_once s (c ∷ cs) y z h k =
     let same : h.0 ≡ k.0 = same_Some h.0 k.0 (sym h.1 ∙ k.1) in
     let P : Place → Type 0 = λ x. Leads x cs y in leads_once k.0 cs y z (subst P same h.2) k.2
 
-pub leads_kept : (s : Place) (t a : List ℕ) (z : Place) → Means s t → Leads s a z → Means z (t ++ a)
-leads_kept s t [] z h k =
-    let P : Place → Type 0 = λ x. Means x t in let Q : List ℕ → Type 0 = λ x. Means z x in subst Q (sym (append-nil t)) (subst P k h)
-leads_kept s t (c ∷ cs) z h k =
-    let Q : List ℕ → Type 0 = λ x. Means z x in subst Q (append_assoc t (c ∷ []) cs) (leads_kept k.0 (t ++ c ∷ []) cs z (kept s t c k.0 h k.1) k.2)
+pub leads_as : (s : Place) (a b : List ℕ) (z : Place) → a ≡ b → Leads s a z → Leads s b z
+leads_as s a b z e h = let P : List ℕ → Type 0 = λ x. Leads s x z in subst P e h
 
-pub leads_means : (t : List ℕ) (z : Place) → Leads at_start t z → Means z t
-leads_means t z h = leads_kept at_start [] t z refl h
+-- one character
+pub leads_one : (s : Place) (c : ℕ) (z : Place) → step s c ≡ Some z → Leads s (c ∷ []) z
+leads_one s c z e = (z, e, refl)
 
--- a place where the segments are whole
-pub record AtEnd (s : Place) (ss : List Segment) : Type 0 where
-  pub dot : step s 46 ≡ Some (behind_dot ss)
-  pub bracket : step s 91 ≡ Some (behind_bracket ss)
-  pub end : ended s ≡ Some ss
+-- what a blank is
+blank_is : (c : ℕ) → is_blank c ≡ true → (c ≡ 32) ⊎ (c ≡ 9)
+blank_is c h = pick (c == 32) (c == 9) h (λ e. inl (eqb-true c 32 e)) (λ e. inr (eqb-true c 9 e))
+  where
+    pick : (a b : Bool) → a || b ≡ true → (a ≡ true → (c ≡ 32) ⊎ (c ≡ 9)) → (b ≡ true → (c ≡ 32) ⊎ (c ≡ 9)) → (c ≡ 32) ⊎ (c ≡ 9)
+    pick true b e f g = f refl
+    pick false b e f g = g e
 
-pub at_ready : (ss : List Segment) → AtEnd (ready ss) ss
-at_ready ss = record { dot = refl; bracket = refl; end = refl }
+at_blank : (P : ℕ → Type 0) (c : ℕ) → is_blank c ≡ true → P 32 → P 9 → P c
+at_blank P c h k m = elim (blank_is c h) [ inl e ↦ subst P (sym e) k | inr e ↦ subst P (sym e) m ]
 
-at_name : (ss : List Segment) (name : List ℕ) → AtEnd (in_name ss name) (ss ++ Key name ∷ [])
-unfolding unicode_ident is_xid_continue
-at_name ss name = record { dot = refl; bracket = refl; end = refl }
+-- along blanks, where a blank changes nothing
+pub along_blanks : (s : Place) (cs : List ℕ) → ((c : ℕ) → is_blank c ≡ true → step s c ≡ Some s) → AreBlanks cs → Leads s cs s
+along_blanks s [] h k = refl
+along_blanks s (c ∷ cs) h k = let q = and_parts (is_blank c) (list_all is_blank cs) k in (s, h c q.0, along_blanks s cs h q.1)
 
--- along a name, a numeral, and what stands in quotes
-in_name_on : (ss : List Segment) (name cs : List ℕ) → IsTrue (list_all is_xid_continue cs) → Leads (in_name ss name) cs (in_name ss (name ++ cs))
-in_name_on ss name [] h = ap (λ x. in_name ss x) (sym (append-nil name))
-in_name_on ss name (c ∷ cs) h =
+-- along a name, numerals, and what stands in quotes
+in_name_on : (ps : Parts) (ss : List Segment) (name cs : List ℕ) → IsTrue (list_all is_xid_continue cs) → Leads (inside ps ss (in_name name)) cs (inside ps ss (in_name (name ++ cs)))
+in_name_on ps ss name [] h = ap (λ x. inside ps ss (in_name x)) (sym (append-nil name))
+in_name_on ps ss name (c ∷ cs) h =
     let q = and_parts (is_xid_continue c) (list_all is_xid_continue cs) h in
-    let P : List ℕ → Type 0 = λ x. Leads (in_name ss (name ++ c ∷ [])) cs (in_name ss x) in
-    (in_name ss (name ++ c ∷ []), rw q.0 refl, subst P (append_assoc name (c ∷ []) cs) (in_name_on ss (name ++ c ∷ []) cs q.1))
+    let P : List ℕ → Type 0 = λ x. Leads (inside ps ss (in_name (name ++ c ∷ []))) cs (inside ps ss (in_name x)) in
+    (inside ps ss (in_name (name ++ c ∷ [])), rw q.0 refl, subst P (append_assoc name (c ∷ []) cs) (in_name_on ps ss (name ++ c ∷ []) cs q.1))
 
-in_number_on : (ss : List Segment) (digits cs : List ℕ) → AllDigits 10 cs → Leads (in_number ss digits) cs (in_number ss (digits ++ cs))
-in_number_on ss digits [] h = ap (λ x. in_number ss x) (sym (append-nil digits))
-in_number_on ss digits (c ∷ cs) h =
-    let P : List ℕ → Type 0 = λ x. Leads (in_number ss (digits ++ c ∷ [])) cs (in_number ss x) in
-    (in_number ss (digits ++ c ∷ []), rw (lt-ltb (digit_value c) 10 h.0) refl, subst P (append_assoc digits (c ∷ []) cs) (in_number_on ss (digits ++ c ∷ []) cs h.1))
+pub digit_is : (c : ℕ) → digit_value c < 10 → is_digit c 10 ≡ true
+digit_is c h = lt-ltb (digit_value c) 10 h
 
-pub number_on : (ss : List Segment) (digits : List ℕ) → IsNumeral 10 digits → Leads (behind_bracket ss) digits (in_number ss digits)
-number_on ss [] h = absurd (omega (arith, h.0))
-number_on ss (c ∷ cs) h = (in_number ss (c ∷ []), rw (lt-ltb (digit_value c) 10 h.1.0) refl, in_number_on ss (c ∷ []) cs h.1.1)
+-- a digit is no other character that is told apart
+digit_apart : (c d : ℕ) → digit_value c < 10 → (digit_value d < 10 → ⊥) → (c == d) ≡ false
+digit_apart c d h k = ne_eqb c d (λ e. let P : ℕ → Type 0 = λ x. digit_value x < 10 in k (subst P e h))
 
-plain_step : (ss : List Segment) (key : List ℕ) (c : ℕ) → c ≢ 34 → c ≢ 92 → step (in_quotes ss key) c ≡ Some (in_quotes ss (key ++ c ∷ []))
-plain_step ss key c n m = rw (ne_eqb c 34 n, ne_eqb c 92 m) refl
+no_blank : (c : ℕ) → digit_value c < 10 → is_blank c ≡ false
+no_blank c h = let a = digit_apart c 32 h (λ k. omega arith) in let b = digit_apart c 9 h (λ k. omega arith) in rw (a, b) refl
 
-quoted_on : (ss : List Segment) (key : List ℕ) (c : ℕ) (inside rest : List ℕ) (z : Place) → Quoted c inside rest → Leads (in_quotes ss (key ++ c ∷ [])) rest z → Leads (in_quotes ss key) inside z
-quoted_on ss key c inside rest z q h =
-    let P : List ℕ → Type 0 = λ x. Leads (in_quotes ss key) x z in
+pub no_quote : (c : ℕ) → digit_value c < 10 → (c == 34) ≡ false
+no_quote c h = digit_apart c 34 h (λ k. omega arith)
+
+pub no_minus : (c : ℕ) → digit_value c < 10 → (c == 45) ≡ false
+no_minus c h = digit_apart c 45 h (λ k. omega arith)
+
+number_on : (ps : Parts) (ss : List Segment) (negative : Bool) (digits cs : List ℕ) → AllDigits 10 cs → Leads (inside ps ss (number negative digits)) cs (inside ps ss (number negative (digits ++ cs)))
+number_on ps ss negative digits [] h = ap (λ x. inside ps ss (number negative x)) (sym (append-nil digits))
+number_on ps ss negative digits (c ∷ cs) h =
+    let P : List ℕ → Type 0 = λ x. Leads (inside ps ss (number negative (digits ++ c ∷ []))) cs (inside ps ss (number negative x)) in
+    (inside ps ss (number negative (digits ++ c ∷ [])), rw (digit_is c h.0) refl, subst P (append_assoc digits (c ∷ []) cs) (number_on ps ss negative (digits ++ c ∷ []) cs h.1))
+
+to_number_on : (ps : Parts) (ss : List Segment) (from : Option ℤ) (negative : Bool) (digits cs : List ℕ) → AllDigits 10 cs
+    → Leads (inside ps ss (to_number from negative digits)) cs (inside ps ss (to_number from negative (digits ++ cs)))
+to_number_on ps ss from negative digits [] h = ap (λ x. inside ps ss (to_number from negative x)) (sym (append-nil digits))
+to_number_on ps ss from negative digits (c ∷ cs) h =
+    let P : List ℕ → Type 0 = λ x. Leads (inside ps ss (to_number from negative (digits ++ c ∷ []))) cs (inside ps ss (to_number from negative x)) in
+    (inside ps ss (to_number from negative (digits ++ c ∷ [])), rw (digit_is c h.0) refl, subst P (append_assoc digits (c ∷ []) cs) (to_number_on ps ss from negative (digits ++ c ∷ []) cs h.1))
+
+-- the first digit, behind a bracket and behind a colon, and behind a minus
+first_number : (ps : Parts) (ss : List Segment) (c : ℕ) → digit_value c < 10 → step (inside ps ss bracket) c ≡ Some (inside ps ss (number false (c ∷ [])))
+first_number ps ss c h = let a = no_blank c h in let b = no_quote c h in let d = no_minus c h in let e = digit_is c h in rw (a, b, d, e) refl
+
+first_to : (ps : Parts) (ss : List Segment) (from : Option ℤ) (c : ℕ) → digit_value c < 10 → step (inside ps ss (colon from)) c ≡ Some (inside ps ss (to_number from false (c ∷ [])))
+first_to ps ss from c h = let a = no_blank c h in let d = no_minus c h in let e = digit_is c h in rw (a, d, e) refl
+
+pub number_leads : (ps : Parts) (ss : List Segment) (negative : Bool) (digits : List ℕ) → IsNumeral 10 digits → Leads (inside ps ss bracket) (signed negative digits) (inside ps ss (number negative digits))
+number_leads ps ss negative [] h = absurd (omega (arith, h.0))
+number_leads ps ss true (c ∷ cs) h =
+    (inside ps ss minus, refl, (inside ps ss (number true (c ∷ [])), rw (digit_is c h.1.0) refl, number_on ps ss true (c ∷ []) cs h.1.1))
+number_leads ps ss false (c ∷ cs) h = (inside ps ss (number false (c ∷ [])), first_number ps ss c h.1.0, number_on ps ss false (c ∷ []) cs h.1.1)
+
+pub to_number_leads : (ps : Parts) (ss : List Segment) (from : Option ℤ) (negative : Bool) (digits : List ℕ) → IsNumeral 10 digits
+    → Leads (inside ps ss (colon from)) (signed negative digits) (inside ps ss (to_number from negative digits))
+to_number_leads ps ss from negative [] h = absurd (omega (arith, h.0))
+to_number_leads ps ss from true (c ∷ cs) h =
+    (inside ps ss (to_minus from), refl, (inside ps ss (to_number from true (c ∷ [])), rw (digit_is c h.1.0) refl, to_number_on ps ss from true (c ∷ []) cs h.1.1))
+to_number_leads ps ss from false (c ∷ cs) h = (inside ps ss (to_number from false (c ∷ [])), first_to ps ss from c h.1.0, to_number_on ps ss from false (c ∷ []) cs h.1.1)
+
+plain_step : (ps : Parts) (ss : List Segment) (key : List ℕ) (c : ℕ) → c ≢ 34 → c ≢ 92 → step (inside ps ss (in_quotes key)) c ≡ Some (inside ps ss (in_quotes (key ++ c ∷ [])))
+plain_step ps ss key c n m = rw (ne_eqb c 34 n, ne_eqb c 92 m) refl
+
+quoted_on : (ps : Parts) (ss : List Segment) (key : List ℕ) (c : ℕ) (text rest : List ℕ) (z : Place) → Quoted c text rest → Leads (inside ps ss (in_quotes (key ++ c ∷ []))) rest z
+    → Leads (inside ps ss (in_quotes key)) text z
+quoted_on ps ss key c text rest z q h =
+    let P : List ℕ → Type 0 = λ x. Leads (inside ps ss (in_quotes key)) x z in
     elim q [
-      | inl p ↦ subst P (sym p.0) (in_quotes ss (key ++ c ∷ []), plain_step ss key c p.1 p.2, h)
-      | inr e ↦ subst P (sym e) (behind_backslash ss key, refl, (in_quotes ss (key ++ c ∷ []), refl, h))
+      | inl p ↦ subst P (sym p.0) (inside ps ss (in_quotes (key ++ c ∷ [])), plain_step ps ss key c p.1 p.2, h)
+      | inr e ↦ subst P (sym e) (inside ps ss (backslash key), refl, (inside ps ss (in_quotes (key ++ c ∷ [])), refl, h))
     ]
 
-quotes_on : (ss : List Segment) (key cs inside : List ℕ) → Quotes cs inside → Leads (in_quotes ss key) inside (in_quotes ss (key ++ cs))
-quotes_on ss key [] inside h =
-    let P : List ℕ → Type 0 = λ x. Leads (in_quotes ss key) x (in_quotes ss (key ++ [])) in subst P (sym h) (ap (λ x. in_quotes ss x) (sym (append-nil key)))
-quotes_on ss key (c ∷ cs) inside h =
-    let P : List ℕ → Type 0 = λ x. Leads (in_quotes ss (key ++ c ∷ [])) h.0 (in_quotes ss x) in
-    quoted_on ss key c inside h.0 (in_quotes ss (key ++ c ∷ cs)) h.1 (subst P (append_assoc key (c ∷ []) cs) (quotes_on ss (key ++ c ∷ []) cs h.0 h.2))
+quotes_on : (ps : Parts) (ss : List Segment) (key cs text : List ℕ) → Quotes cs text → Leads (inside ps ss (in_quotes key)) text (inside ps ss (in_quotes (key ++ cs)))
+quotes_on ps ss key [] text h =
+    let P : List ℕ → Type 0 = λ x. Leads (inside ps ss (in_quotes key)) x (inside ps ss (in_quotes (key ++ []))) in subst P (sym h) (ap (λ x. inside ps ss (in_quotes x)) (sym (append-nil key)))
+quotes_on ps ss key (c ∷ cs) text h =
+    let P : List ℕ → Type 0 = λ x. Leads (inside ps ss (in_quotes (key ++ c ∷ []))) h.0 (inside ps ss (in_quotes x)) in
+    quoted_on ps ss key c text h.0 (inside ps ss (in_quotes (key ++ c ∷ cs))) h.1 (subst P (append_assoc key (c ∷ []) cs) (quotes_on ps ss (key ++ c ∷ []) cs h.0 h.2))
+
+-- a place where the segments are whole
+pub record AtEnd (s : Place) (ps : Parts) (ss : List Segment) : Type 0 where
+  pub dotted : step s 46 ≡ Some (inside ps ss dot)
+  pub opened : step s 91 ≡ Some (inside ps ss bracket)
+  pub blank : (c : ℕ) → is_blank c ≡ true → step s c ≡ Some (behind_part (ps ++ ss ∷ []))
+  pub comma : step s 44 ≡ Some (before_part (ps ++ ss ∷ []))
+  pub end : ended s ≡ Some (ps ++ ss ∷ [])
+
+pub at_ready : (ps : Parts) (ss : List Segment) → AtEnd (ready ps ss) ps ss
+at_ready ps ss = record {
+  dotted = refl;
+  opened = refl;
+  blank = λ c h. at_blank (λ x. step (ready ps ss) x ≡ Some (behind_part (ps ++ ss ∷ []))) c h refl refl;
+  comma = refl;
+  end = refl;
+}
+
+at_name : (ps : Parts) (ss : List Segment) (name : List ℕ) → AtEnd (inside ps ss (in_name name)) ps (ss ++ Key name ∷ [])
+unfolding unicode_ident is_xid_continue
+at_name ps ss name = record {
+  dotted = refl;
+  opened = refl;
+  blank = λ c h. at_blank (λ x. step (inside ps ss (in_name name)) x ≡ Some (behind_part (ps ++ (ss ++ Key name ∷ []) ∷ []))) c h refl refl;
+  comma = refl;
+  end = refl;
+}
+
+at_star : (ps : Parts) (ss : List Segment) → AtEnd (inside ps ss star) ps (ss ++ Wildcard ∷ [])
+at_star ps ss = record {
+  dotted = refl;
+  opened = refl;
+  blank = λ c h. at_blank (λ x. step (inside ps ss star) x ≡ Some (behind_part (ps ++ (ss ++ Wildcard ∷ []) ∷ []))) c h refl refl;
+  comma = refl;
+  end = refl;
+}
 
 -- a place to which the text leads, with the segments whole
-pub record LeadsToEnd (s : Place) (text : List ℕ) (ss : List Segment) : Type 0 where
+pub record LeadsToEnd (s : Place) (text : List ℕ) (ps : Parts) (ss : List Segment) : Type 0 where
   pub to : Place
   pub leads : Leads s text to
-  pub whole : AtEnd to ss
+  pub at : AtEnd to ps ss
 
-key_dotted : (s : Place) (ss : List Segment) (key : List ℕ) → AtEnd s ss → IsName key → LeadsToEnd s (46 ∷ key) (ss ++ Key key ∷ [])
-key_dotted s ss [] h k = absurd k
-key_dotted s ss (c ∷ cs) h k = record {
-  to = in_name ss (c ∷ cs);
-  leads = (behind_dot ss, h.dot, (in_name ss (c ∷ []), rw k.0 refl, in_name_on ss (c ∷ []) cs k.1));
-  whole = at_name ss (c ∷ cs);
+star_step : (ps : Parts) (ss : List Segment) → step (inside ps ss dot) 42 ≡ Some (inside ps ss star)
+unfolding unicode_ident is_xid_start
+star_step ps ss = refl
+
+wildcard_on : (s : Place) (ps : Parts) (ss : List Segment) → AtEnd s ps ss → LeadsToEnd s (46 ∷ 42 ∷ []) ps (ss ++ Wildcard ∷ [])
+wildcard_on s ps ss h = record { to = inside ps ss star; leads = (inside ps ss dot, h.dotted, (inside ps ss star, star_step ps ss, refl)); at = at_star ps ss }
+
+deep_on : (s : Place) (ps : Parts) (ss : List Segment) → AtEnd s ps ss → LeadsToEnd s (46 ∷ 42 ∷ 42 ∷ []) ps (ss ++ DeepWildcard ∷ [])
+deep_on s ps ss h = record {
+  to = ready ps (ss ++ DeepWildcard ∷ []);
+  leads = (inside ps ss dot, h.dotted, (inside ps ss star, star_step ps ss, (ready ps (ss ++ DeepWildcard ∷ []), refl, refl)));
+  at = at_ready ps (ss ++ DeepWildcard ∷ []);
 }
 
-key_bracketed : (s : Place) (ss : List Segment) (key inside : List ℕ) → AtEnd s ss → Quotes key inside → LeadsToEnd s (91 ∷ 34 ∷ inside ++ 34 ∷ 93 ∷ []) (ss ++ Key key ∷ [])
-key_bracketed s ss key inside h k = record {
-  to = ready (ss ++ Key key ∷ []);
-  leads = (
-    behind_bracket ss,
-    h.bracket,
-    (
-      in_quotes ss [],
-      refl,
-      leads_on (in_quotes ss []) inside (34 ∷ 93 ∷ []) (in_quotes ss key) (ready (ss ++ Key key ∷ [])) (quotes_on ss [] key inside k)
-          (behind_quotes ss key, refl, (ready (ss ++ Key key ∷ []), refl, refl)),
-    ),
-  );
-  whole = at_ready (ss ++ Key key ∷ []);
+key_dotted : (s : Place) (ps : Parts) (ss : List Segment) (key : List ℕ) → AtEnd s ps ss → IsName key → LeadsToEnd s (46 ∷ key) ps (ss ++ Key key ∷ [])
+key_dotted s ps ss [] h k = absurd k
+key_dotted s ps ss (c ∷ cs) h k = record {
+  to = inside ps ss (in_name (c ∷ cs));
+  leads = (inside ps ss dot, h.dotted, (inside ps ss (in_name (c ∷ [])), rw k.0 refl, in_name_on ps ss (c ∷ []) cs k.1));
+  at = at_name ps ss (c ∷ cs);
 }
 
-index_on : (s : Place) (ss : List Segment) (digits : List ℕ) → AtEnd s ss → IsNumeral 10 digits → LeadsToEnd s (91 ∷ digits ++ 93 ∷ []) (ss ++ Index (digits_value 10 digits) ∷ [])
-index_on s ss digits h k = record {
-  to = ready (ss ++ Index (digits_value 10 digits) ∷ []);
-  leads = (
-    behind_bracket ss,
-    h.bracket,
-    leads_on (behind_bracket ss) digits (93 ∷ []) (in_number ss digits) (ready (ss ++ Index (digits_value 10 digits) ∷ []))
-        (number_on ss digits k) (ready (ss ++ Index (digits_value 10 digits) ∷ []), refl, refl),
-  );
-  whole = at_ready (ss ++ Index (digits_value 10 digits) ∷ []);
+-- through brackets
+bracket_blank : (ps : Parts) (ss : List Segment) (c : ℕ) → is_blank c ≡ true → step (inside ps ss bracket) c ≡ Some (inside ps ss bracket)
+bracket_blank ps ss c h = rw h refl
+
+colon_blank : (ps : Parts) (ss : List Segment) (from : Option ℤ) (c : ℕ) → is_blank c ≡ true → step (inside ps ss (colon from)) c ≡ Some (inside ps ss (colon from))
+colon_blank ps ss from c h = rw h refl
+
+closing_blank : (ps : Parts) (ss : List Segment) (segment : Segment) (c : ℕ) → is_blank c ≡ true → step (inside ps ss (closing segment)) c ≡ Some (inside ps ss (closing segment))
+closing_blank ps ss segment c h = rw h refl
+
+pub opens : (s : Place) (ps : Parts) (ss : List Segment) (blanks : List ℕ) → AtEnd s ps ss → AreBlanks blanks → Leads s (91 ∷ blanks) (inside ps ss bracket)
+opens s ps ss blanks h b = (inside ps ss bracket, h.opened, along_blanks (inside ps ss bracket) blanks (bracket_blank ps ss) b)
+
+closes : (ps : Parts) (ss : List Segment) (segment : Segment) (after : List ℕ) → AreBlanks after → Leads (inside ps ss (closing segment)) (after ++ 93 ∷ []) (ready ps (ss ++ segment ∷ []))
+closes ps ss segment after b =
+    leads_on (inside ps ss (closing segment)) after (93 ∷ []) (inside ps ss (closing segment)) (ready ps (ss ++ segment ∷ []))
+    (along_blanks (inside ps ss (closing segment)) after (closing_blank ps ss segment) b) (ready ps (ss ++ segment ∷ []), refl, refl)
+
+-- through brackets, from what leads from inside them to the end
+through : (s : Place) (ps : Parts) (ss : List Segment) (segment : Segment) (before held after text : List ℕ) → AtEnd s ps ss → AreBlanks before
+    → text ≡ 91 ∷ before ++ held ++ after ++ 93 ∷ [] → Leads (inside ps ss bracket) (held ++ (after ++ 93 ∷ [])) (ready ps (ss ++ segment ∷ [])) → LeadsToEnd s text ps (ss ++ segment ∷ [])
+through s ps ss segment before held after text h b is k = record {
+  to = ready ps (ss ++ segment ∷ []);
+  leads = leads_as s ((91 ∷ before) ++ (held ++ (after ++ 93 ∷ []))) text (ready ps (ss ++ segment ∷ []))
+      (sym (is ∙ append_assoc (91 ∷ before ++ held) after (93 ∷ []) ∙ append_assoc (91 ∷ before) held (after ++ 93 ∷ [])))
+      (leads_on s (91 ∷ before) (held ++ (after ++ 93 ∷ [])) (inside ps ss bracket) (ready ps (ss ++ segment ∷ [])) (opens s ps ss before h b) k);
+  at = at_ready ps (ss ++ segment ∷ []);
 }
 
-along : (s : Place) (text same : List ℕ) (ss : List Segment) → text ≡ same → LeadsToEnd s same ss → LeadsToEnd s text ss
-along s text same ss e h = let P : List ℕ → Type 0 = λ x. LeadsToEnd s x ss in subst P (sym e) h
+key_bracketed : (s : Place) (ps : Parts) (ss : List Segment) (key text : List ℕ) → AtEnd s ps ss → Bracketed (InQuotes key) text → LeadsToEnd s text ps (ss ++ Key key ∷ [])
+key_bracketed s ps ss key text h k =
+    let z = ready ps (ss ++ Key key ∷ []) in
+    let held = k.holds in
+    through s ps ss (Key key) k.before k.inside k.after text h k.blank_before k.is
+    (leads_as (inside ps ss bracket) (((34 ∷ held.inside) ++ 34 ∷ []) ++ (k.after ++ 93 ∷ [])) (k.inside ++ (k.after ++ 93 ∷ [])) z (ap (λ x. x ++ (k.after ++ 93 ∷ [])) (sym held.is))
+    (leads_on (inside ps ss bracket) ((34 ∷ held.inside) ++ 34 ∷ []) (k.after ++ 93 ∷ []) (inside ps ss (closing (Key key))) z
+    (leads_on (inside ps ss bracket) (34 ∷ held.inside) (34 ∷ []) (inside ps ss (in_quotes key)) (inside ps ss (closing (Key key)))
+    (inside ps ss (in_quotes []), refl, quotes_on ps ss [] key held.inside held.quotes) (inside ps ss (closing (Key key)), refl, refl))
+    (closes ps ss (Key key) k.after k.blank_after)))
 
-segment_on : (s : Place) (ss : List Segment) (seg : Segment) (text : List ℕ) → AtEnd s ss → Spells seg text → LeadsToEnd s text (ss ++ seg ∷ [])
-segment_on s ss (Key key) text h (dotted is name) = along s text (46 ∷ key) (ss ++ Key key ∷ []) is (key_dotted s ss key h name)
-segment_on s ss (Key key) text h (bracketed inside is quotes) =
-    along s text (91 ∷ 34 ∷ inside ++ 34 ∷ 93 ∷ []) (ss ++ Key key ∷ []) is (key_bracketed s ss key inside h quotes)
-segment_on s ss (Index index) text h k =
-    let P : ℕ → Type 0 = λ x. LeadsToEnd s text (ss ++ Index x ∷ []) in
-    subst P k.value (along s text (91 ∷ k.digits ++ 93 ∷ []) (ss ++ Index (digits_value 10 k.digits) ∷ []) k.is (index_on s ss k.digits h k.numeral))
-segment_on s ss DeepWildcard text h k = absurd k
-segment_on s ss Wildcard text h k = absurd k
-segment_on s ss (Range from to) text h k = absurd k
+-- behind a number, along blanks
+gap_on : (ps : Parts) (ss : List Segment) (negative : Bool) (digits : List ℕ) (count : ℕ) (gap : List ℕ) → AreBlanks gap → (total : ℕ) → total ≡ count + length gap
+    → Leads (inside ps ss (behind_number negative digits count)) gap (inside ps ss (behind_number negative digits total))
+gap_on ps ss negative digits count [] b total e = ap (λ x. inside ps ss (behind_number negative digits x)) (sym (e ∙ omega arith))
+gap_on ps ss negative digits count (c ∷ cs) b total e =
+    let q = and_parts (is_blank c) (list_all is_blank cs) b in
+    (inside ps ss (behind_number negative digits (suc count)), rw q.0 refl, gap_on ps ss negative digits (suc count) cs q.1 total (omega (arith, e)))
 
-pub each_on : (s : Place) (xs ss : List Segment) (text : List ℕ) → AtEnd s xs → SpellsEach ss text → LeadsToEnd s text (xs ++ ss)
-each_on s xs [] text h k =
-    let P : List Segment → Type 0 = λ x. AtEnd s x in
-    along s text [] (xs ++ []) k (record { to = s; leads = refl; whole = subst P (sym (append-nil xs)) h })
-each_on s xs (y ∷ ys) text h k =
-    let one = segment_on s xs y k.front h k.first in
-    let others = each_on one.to (xs ++ y ∷ []) ys k.back one.whole k.second in
-    let P : List Segment → Type 0 = λ x. AtEnd others.to x in
-    along s text (k.front ++ k.back) (xs ++ y ∷ ys) k.is (record {
+-- where a number has been read, with blanks behind it or without
+pub at_number : Parts → List Segment → Bool → List ℕ → List ℕ → Place
+at_number ps ss negative digits [] = inside ps ss (number negative digits)
+at_number ps ss negative digits (c ∷ cs) = inside ps ss (behind_number negative digits (length (c ∷ cs)))
+
+pub gap_leads : (ps : Parts) (ss : List Segment) (negative : Bool) (digits gap : List ℕ) → AreBlanks gap → Leads (inside ps ss (number negative digits)) gap (at_number ps ss negative digits gap)
+unfolding at_number
+gap_leads ps ss negative digits [] b = refl
+gap_leads ps ss negative digits (c ∷ cs) b =
+    let q = and_parts (is_blank c) (list_all is_blank cs) b in
+    (inside ps ss (behind_number negative digits 1), blank_digit c q.0, gap_on ps ss negative digits 1 cs q.1 (length (c ∷ cs)) (omega arith))
+  where
+    blank_digit : (c : ℕ) → is_blank c ≡ true → step (inside ps ss (number negative digits)) c ≡ Some (inside ps ss (behind_number negative digits 1))
+    blank_digit c h = at_blank (λ x. step (inside ps ss (number negative digits)) x ≡ Some (inside ps ss (behind_number negative digits 1))) c h refl refl
+
+pub colon_step : (ps : Parts) (ss : List Segment) (negative : Bool) (digits gap : List ℕ) → step (at_number ps ss negative digits gap) 58 ≡ Some (inside ps ss (colon (Some (signed_value negative digits))))
+unfolding at_number
+colon_step ps ss negative digits [] = refl
+colon_step ps ss negative digits (c ∷ cs) = refl
+
+index_step : (ps : Parts) (ss : List Segment) (digits gap : List ℕ) → step (at_number ps ss false digits gap) 93 ≡ Some (ready ps (ss ++ Index (digits_value 10 digits) ∷ []))
+unfolding at_number
+index_step ps ss digits [] = refl
+index_step ps ss digits (c ∷ cs) = refl
+
+index_on : (s : Place) (ps : Parts) (ss : List Segment) (digits before after text : List ℕ) → AtEnd s ps ss → AreBlanks before → AreBlanks after → IsNumeral 10 digits
+    → text ≡ 91 ∷ before ++ digits ++ after ++ 93 ∷ [] → LeadsToEnd s text ps (ss ++ Index (digits_value 10 digits) ∷ [])
+index_on s ps ss digits before after text h b b' k is =
+    let z = ready ps (ss ++ Index (digits_value 10 digits) ∷ []) in
+    let m = at_number ps ss false digits after in
+    through s ps ss (Index (digits_value 10 digits)) before digits after text h b is
+    (leads_on (inside ps ss bracket) digits (after ++ 93 ∷ []) (inside ps ss (number false digits)) z (number_leads ps ss false digits k)
+    (leads_on (inside ps ss (number false digits)) after (93 ∷ []) m z (gap_leads ps ss false digits after b') (z, index_step ps ss digits after, refl)))
+
+-- up to behind a colon
+pub from_leads : (ps : Parts) (ss : List Segment) (from : Option ℤ) (bound gap more : List ℕ) → MayBound from bound → AreBlanks gap → AreBlanks more
+    → Leads (inside ps ss bracket) (bound ++ gap ++ 58 ∷ more) (inside ps ss (colon from))
+from_leads ps ss None bound gap more k b b' =
+    let z = inside ps ss (colon None) in
+    leads_as (inside ps ss bracket) ([] ++ gap ++ 58 ∷ more) (bound ++ gap ++ 58 ∷ more) z (ap (λ x. x ++ gap ++ 58 ∷ more) (sym k))
+    (leads_on (inside ps ss bracket) gap (58 ∷ more) (inside ps ss bracket) z (along_blanks (inside ps ss bracket) gap (bracket_blank ps ss) b)
+    (z, refl, along_blanks z more (colon_blank ps ss None) b'))
+from_leads ps ss (Some v) bound gap more k b b' =
+    let P : ℤ → Type 0 = λ x. Leads (inside ps ss bracket) (bound ++ gap ++ 58 ∷ more) (inside ps ss (colon (Some x))) in
+    let z = inside ps ss (colon (Some (signed_value k.negative k.digits))) in
+    let m = at_number ps ss k.negative k.digits gap in
+    subst P k.value
+    (leads_as (inside ps ss bracket) (signed k.negative k.digits ++ gap ++ 58 ∷ more) (bound ++ gap ++ 58 ∷ more) z (ap (λ x. x ++ gap ++ 58 ∷ more) (sym k.is))
+    (leads_on (inside ps ss bracket) (signed k.negative k.digits ++ gap) (58 ∷ more) m z
+    (leads_on (inside ps ss bracket) (signed k.negative k.digits) gap (inside ps ss (number k.negative k.digits)) m (number_leads ps ss k.negative k.digits k.numeral) (gap_leads ps ss k.negative k.digits gap b))
+    (z, colon_step ps ss k.negative k.digits gap, along_blanks z more (colon_blank ps ss (Some (signed_value k.negative k.digits))) b')))
+
+-- the second bound, and the end
+to_end : (ps : Parts) (ss : List Segment) (from to : Option ℤ) (second after : List ℕ) → MayBound to second → AreBlanks after
+    → Leads (inside ps ss (colon from)) (second ++ (after ++ 93 ∷ [])) (ready ps (ss ++ Range from to ∷ []))
+to_end ps ss from None second after k b =
+    let z = ready ps (ss ++ Range from None ∷ []) in
+    leads_as (inside ps ss (colon from)) ([] ++ (after ++ 93 ∷ [])) (second ++ (after ++ 93 ∷ [])) z (ap (λ x. x ++ (after ++ 93 ∷ [])) (sym k))
+    (leads_on (inside ps ss (colon from)) after (93 ∷ []) (inside ps ss (colon from)) z (along_blanks (inside ps ss (colon from)) after (colon_blank ps ss from) b) (z, refl, refl))
+to_end ps ss from (Some v) second after k b =
+    let P : ℤ → Type 0 = λ x. Leads (inside ps ss (colon from)) (second ++ (after ++ 93 ∷ [])) (ready ps (ss ++ Range from (Some x) ∷ [])) in
+    let z = ready ps (ss ++ Range from (Some (signed_value k.negative k.digits)) ∷ []) in
+    subst P k.value
+    (leads_as (inside ps ss (colon from)) (signed k.negative k.digits ++ (after ++ 93 ∷ [])) (second ++ (after ++ 93 ∷ [])) z (ap (λ x. x ++ (after ++ 93 ∷ [])) (sym k.is))
+    (leads_on (inside ps ss (colon from)) (signed k.negative k.digits) (after ++ 93 ∷ []) (inside ps ss (to_number from k.negative k.digits)) z (to_number_leads ps ss from k.negative k.digits k.numeral) (shut after b)))
+  where
+    shut : (after : List ℕ) → AreBlanks after
+        → Leads (inside ps ss (to_number from k.negative k.digits)) (after ++ 93 ∷ []) (ready ps (ss ++ Range from (Some (signed_value k.negative k.digits)) ∷ []))
+    shut [] b = (ready ps (ss ++ Range from (Some (signed_value k.negative k.digits)) ∷ []), refl, refl)
+    shut (c ∷ cs) b =
+        let q = and_parts (is_blank c) (list_all is_blank cs) b in
+        let segment = Range from (Some (signed_value k.negative k.digits)) in
+        (inside ps ss (closing segment),
+        at_blank (λ x. step (inside ps ss (to_number from k.negative k.digits)) x ≡ Some (inside ps ss (closing (Range from (Some (signed_value k.negative k.digits)))))) c q.0 refl refl,
+        closes ps ss segment cs q.1)
+
+range_on : (s : Place) (ps : Parts) (ss : List Segment) (from to : Option ℤ) (before held after text : List ℕ) → AtEnd s ps ss → AreBlanks before → AreBlanks after
+    → text ≡ 91 ∷ before ++ held ++ after ++ 93 ∷ [] → SpellsBounds from to held → LeadsToEnd s text ps (ss ++ Range from to ∷ [])
+range_on s ps ss from to before held after text h b b' is (unbounded none e f) =
+    let z = ready ps (ss ++ Range None None ∷ []) in
+    let P : Option ℤ → Type 0 = λ x. LeadsToEnd s text ps (ss ++ Range x to ∷ []) in
+    let Q : Option ℤ → Type 0 = λ x. LeadsToEnd s text ps (ss ++ Range None x ∷ []) in
+    subst P (sym e) (subst Q (sym f) (through s ps ss (Range None None) before held after text h b is
+    (leads_as (inside ps ss bracket) ([] ++ (after ++ 93 ∷ [])) (held ++ (after ++ 93 ∷ [])) z (ap (λ x. x ++ (after ++ 93 ∷ [])) (sym none))
+    (leads_on (inside ps ss bracket) after (93 ∷ []) (inside ps ss bracket) z (along_blanks (inside ps ss bracket) after (bracket_blank ps ss) b') (z, refl, refl)))))
+range_on s ps ss from to before held after text h b b' is (bounded first gap more second e k g g' m) =
+    let z = ready ps (ss ++ Range from to ∷ []) in
+    through s ps ss (Range from to) before held after text h b is
+    (leads_as (inside ps ss bracket) ((first ++ gap ++ 58 ∷ more) ++ (second ++ (after ++ 93 ∷ []))) (held ++ (after ++ 93 ∷ [])) z
+    (sym (ap (λ x. x ++ (after ++ 93 ∷ [])) e ∙ append_assoc (first ++ gap ++ 58 ∷ more) second (after ++ 93 ∷ [])))
+    (leads_on (inside ps ss bracket) (first ++ gap ++ 58 ∷ more) (second ++ (after ++ 93 ∷ [])) (inside ps ss (colon from)) z (from_leads ps ss from first gap more k g g') (to_end ps ss from to second after m b')))
+
+along : (s : Place) (text same : List ℕ) (ps : Parts) (ss : List Segment) → text ≡ same → LeadsToEnd s same ps ss → LeadsToEnd s text ps ss
+along s text same ps ss e h = let P : List ℕ → Type 0 = λ x. LeadsToEnd s x ps ss in subst P (sym e) h
+
+segment_on : (s : Place) (ps : Parts) (ss : List Segment) (seg : Segment) (text : List ℕ) → AtEnd s ps ss → Spells seg text → LeadsToEnd s text ps (ss ++ seg ∷ [])
+segment_on s ps ss (Key key) text h (dotted is name) = along s text (46 ∷ key) ps (ss ++ Key key ∷ []) is (key_dotted s ps ss key h name)
+segment_on s ps ss (Key key) text h (bracketed k) = key_bracketed s ps ss key text h k
+segment_on s ps ss (Index index) text h k =
+    let P : ℕ → Type 0 = λ x. LeadsToEnd s text ps (ss ++ Index x ∷ []) in
+    subst P k.holds.1 (index_on s ps ss k.inside k.before k.after text h k.blank_before k.blank_after k.holds.0 k.is)
+segment_on s ps ss DeepWildcard text h k = along s text (46 ∷ 42 ∷ 42 ∷ []) ps (ss ++ DeepWildcard ∷ []) k (deep_on s ps ss h)
+segment_on s ps ss Wildcard text h k = along s text (46 ∷ 42 ∷ []) ps (ss ++ Wildcard ∷ []) k (wildcard_on s ps ss h)
+segment_on s ps ss (Range from to) text h k = range_on s ps ss from to k.before k.inside k.after text h k.blank_before k.blank_after k.is k.holds
+
+pub each_on : (s : Place) (ps : Parts) (xs ss : List Segment) (text : List ℕ) → AtEnd s ps xs → SpellsEach ss text → LeadsToEnd s text ps (xs ++ ss)
+each_on s ps xs [] text h k =
+    let P : List Segment → Type 0 = λ x. AtEnd s ps x in
+    along s text [] ps (xs ++ []) k (record { to = s; leads = refl; at = subst P (sym (append-nil xs)) h })
+each_on s ps xs (y ∷ ys) text h k =
+    let one = segment_on s ps xs y k.front h k.first in
+    let others = each_on one.to ps (xs ++ y ∷ []) ys k.back one.at k.second in
+    let P : List Segment → Type 0 = λ x. AtEnd others.to ps x in
+    along s text (k.front ++ k.back) ps (xs ++ y ∷ ys) k.is (record {
       to = others.to;
       leads = leads_on s k.front k.back one.to others.to one.leads others.leads;
-      whole = subst P (append_assoc xs (y ∷ []) ys) others.whole;
+      at = subst P (append_assoc xs (y ∷ []) ys) others.at;
     })

@@ -1,4 +1,5 @@
 pub mod Refusal
+pub mod Deep
 pub mod Grammar
 pub mod Faults
 pub mod Reading

@@ -1,10 +1,13 @@
--- Which paths a selector's segments match.
+-- Which paths a selector matches.
 use Rattle.std.specs.Prelude.{◌-◌, ◌==◌, ◌&&◌, ℕ, suc, ℤ, pos, negsuc, Bool, true, false, List, [], ◌∷◌, length, take, drop, min, Option, nat_lt, nat_le, position}
+use Rattle.std.specs.List.{list_any}
 use Rattle.std.specs.Option.{option_map_or}
 use Rattle.std.specs.Str.{bytes_eq}
 use Rattle.snap_content.specs.Access.{resolved, text_in, whole_number_in, fitting_u64}
 use Rattle.snap_content.specs.Tree.{Tree}
 use Rattle.snap_content.specs.View.{tree}
+use Rattle.snap_select.specs.Deep.{is_deep}
+use Rattle.snap_select.specs.Parts.{Parts}
 use Rattle.snap_select.specs.declared.path_item.PathItem.{PathItem}
 use Rattle.snap_select.specs.declared.path_item.PathItem.TheVariants as i
 use Rattle.snap_select.specs.declared.segment.Segment.{Segment}
@@ -39,17 +42,17 @@ bound_at (pos n) length = n
 bound_at (negsuc n) length = length - suc n
 
 -- an item from the one bound up to the other
-abbrev pub is_between : Option ℤ → Option ℤ → Step → Bool
-is_between from to (to_item index length) =
+abbrev pub range_check : Option ℤ → Option ℤ → Step → Bool
+range_check from to (to_item index length) =
     option_map_or (λ bound. nat_le (bound_at bound length) index) from true && option_map_or (λ bound. nat_lt index (bound_at bound length)) to true
-is_between from to (under_key key) = false
-is_between from to (into_field field) = false
+range_check from to (under_key key) = false
+range_check from to (into_field field) = false
 
 -- the segment fits the step
 abbrev pub fits_step : Segment → Step → Bool
 fits_step (Key name) step = is_named name step
 fits_step (Index number) step = is_numbered number step
-fits_step (Range from to) step = is_between from to step
+fits_step (Range from to) step = range_check from to step
 fits_step Wildcard step = true
 fits_step DeepWildcard step = true
 
@@ -74,13 +77,10 @@ matches_ends before after path =
     nat_lt (length before) (length path) && fit_each before path && (
     let count = min (length after) (length path) in fit_each (last_of count after) (last_of count path))
 
-abbrev pub is_deep : Segment → Bool
-is_deep DeepWildcard = true
-is_deep Wildcard = false
-is_deep (Key name) = false
-is_deep (Index number) = false
-is_deep (Range from to) = false
-
 -- the segments match the path
-abbrev pub path_match : List Segment → List Step → Bool
-path_match ss path = option_map_or (λ at. matches_ends (take at ss) (drop (suc at) ss) path) (position is_deep ss) (matches_whole ss path)
+abbrev pub segments_match : List Segment → List Step → Bool
+segments_match ss path = option_map_or (λ at. matches_ends (take at ss) (drop (suc at) ss) path) (position is_deep ss) (matches_whole ss path)
+
+-- one of the parts matches the path
+abbrev pub path_match : Parts → List Step → Bool
+path_match parts path = list_any (λ ss. segments_match ss path) parts

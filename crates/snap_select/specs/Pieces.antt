@@ -1,9 +1,10 @@
 -- How a text falls into a piece at its front and the rest.
-use Rattle.std.specs.Prelude.{◌≡◌, ◌==◌, ◌||◌, ◌&&◌, not, ⊤, ℕ, Bool, false, List, [], ◌∷◌, ◌++◌, if◌then◌else◌}
+use Rattle.std.specs.Prelude.{◌≡◌, ◌==◌, ◌||◌, ◌&&◌, not, ⊤, ℕ, ℤ, Bool, false, List, [], ◌∷◌, ◌++◌, if◌then◌else◌}
 use Rattle.std.specs.Char.{is_digit}
+use Rattle.std.specs.Str.Parse.{IsNumeral}
 use Rattle.unicode_ident.specs.Ident.{is_xid_continue}
 use Rattle.snap_content.specs.Front.{begins}
-use Rattle.snap_select.specs.Grammar.{IsName}
+use Rattle.snap_select.specs.Grammar.{IsName, begins_name, signed_value}
 
 -- what is left behind the characters that pass
 abbrev pub past : (ℕ → Bool) → List ℕ → List ℕ
@@ -33,7 +34,30 @@ pub record IsNameThen (text name rest : List ℕ) : Type 0 where
   pub named : IsName name
   pub ends : Fails is_xid_continue rest
 
--- the text without a dot in front of a bracket
-abbrev pub undotted : List ℕ → List ℕ
-undotted [] = []
-undotted (c ∷ cs) = if c == 46 && begins 91 cs then cs else c ∷ cs
+-- a name or a star is at the front
+abbrev pub goes_on_dot : List ℕ → Bool
+goes_on_dot [] = false
+goes_on_dot (c ∷ cs) = begins_name c || c == 42
+
+-- a dot or a bracket is at the front
+abbrev pub begins_segment : List ℕ → Bool
+begins_segment [] = false
+begins_segment (c ∷ cs) = c == 46 || c == 91
+
+-- without a minus at the front
+abbrev pub unsigned : List ℕ → List ℕ
+unsigned [] = []
+unsigned (c ∷ cs) = if c == 45 then cs else c ∷ cs
+
+-- a minus and digits, or digits alone
+abbrev pub IsNumber : List ℕ → Type 0
+IsNumber text = IsNumeral 10 (unsigned text)
+
+abbrev pub number_value : List ℕ → ℤ
+number_value text = signed_value (begins 45 text) (unsigned text)
+
+-- a number, as long as it can be, and the rest
+pub record IsNumberThen (text number rest : List ℕ) : Type 0 where
+  pub is : text ≡ number ++ rest
+  pub numeral : IsNumber number
+  pub ends : Fails is_decimal rest

@@ -1,8 +1,7 @@
 -- What a selector is seen as.
-use Rattle.std.specs.Prelude.{List}
-use Rattle.snap_select.specs.declared.segment.Segment.{Segment}
+use Rattle.snap_select.specs.Parts.{Parts}
 use Rattle.snap_select.specs.declared.selector.Selector.{Selector}
 
--- its segments
-abbrev pub segments_of : Selector → List Segment
-segments_of selector = selector.segments.items
+-- its parts
+abbrev pub parts_of : Selector → Parts
+parts_of selector = selector.parts.items

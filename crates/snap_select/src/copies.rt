@@ -2,6 +2,7 @@
 ghost use Rattle.std.specs.Prelude.{◌≡◌, IfOk};
 ghost use Rattle.std.specs.Str.{chars};
 
+use crate::part::Part;
 use crate::segment::Segment;
 use crate::selector::Selector;
 use snap_content::{Lent, OutOfMemory, Text};
@@ -37,23 +38,41 @@ fn owned_segments(
     Ok(copies)
 }
 
+/// The part with keys of its own.
+fn owned_part(alloc: Global, part: &Part<'_>) -> Result<Part<'static>, OutOfMemory>
+    ensures { IfOk result (λ copy. copy ≡ part.now) }
+{
+    Ok(Part::of(owned_segments(alloc, part.segments())?))
+}
+
+/// The parts with keys of their own.
+fn owned_parts(alloc: Global, parts: &[Part<'_>]) -> Result<Vec<Part<'static>>, OutOfMemory>
+    ensures { IfOk result (λ copies. copies.items ≡ parts.now) }
+{
+    let mut copies = Vec::new(alloc);
+    for part in parts {
+        copies.push(owned_part(alloc, part)?)?;
+    }
+    Ok(copies)
+}
+
 /// The one error of these calls is want of memory.
 impl<'a> Selector<'a> {
-    ghost use Rattle.snap_select.specs.Selectors.{segments_of};
+    ghost use Rattle.snap_select.specs.Selectors.{parts_of};
 
-    /// A selector of the same segments, which holds its keys itself.
+    /// A selector of the same parts, which holds its keys itself.
     pub fn make_static(self, alloc: Global) -> Result<Selector<'static>, OutOfMemory>
-        ensures { IfOk result (λ made. segments_of made ≡ segments_of self.entry) }
+        ensures { IfOk result (λ made. parts_of made ≡ parts_of self.entry) }
     {
-        let segments = owned_segments(alloc, self.segments.as_slice())?;
-        Ok(Selector { segments })
+        let parts = owned_parts(alloc, self.parts.as_slice())?;
+        Ok(Selector { parts })
     }
 
-    /// A selector of the same segments.
+    /// A selector of the same parts.
     pub fn try_clone(&self, alloc: Global) -> Result<Selector<'a>, OutOfMemory>
-        ensures { IfOk result (λ copy. segments_of copy ≡ segments_of self.now) }
+        ensures { IfOk result (λ copy. parts_of copy ≡ parts_of self.now) }
     {
-        let copies = owned_segments(alloc, self.segments.as_slice())?;
-        Ok(Selector { segments: copies })
+        let copies = owned_parts(alloc, self.parts.as_slice())?;
+        Ok(Selector { parts: copies })
     }
 }

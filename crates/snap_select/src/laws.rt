@@ -5,26 +5,25 @@ ghost use Rattle.snap_content.specs.Tree.{Tree};
 ghost use Rattle.snap_select.specs.Examples.{AreSelected, AreRefused};
 ghost use Rattle.snap_select.specs.Grammar.{IsSelector};
 ghost use Rattle.snap_select.specs.Parts.{Parts};
-ghost use Rattle.snap_select.specs.Reading.{outcome, at_start, selects};
+ghost use Rattle.snap_select.specs.Reading.{outcome, before_part, selects};
 ghost use Rattle.snap_select.specs.Redacted.{redacted};
 ghost use Rattle.snap_select.specs.Redacts.{IsHit, Redacts};
 ghost use Rattle.snap_select.specs.SortedTree.{sorted_tree};
-ghost use Rattle.snap_select.specs.declared.segment.Segment.{Segment};
 
-/// A text is a selector of one list of segments at most.
-pub const fn segments_are_unique()
-    ensures { (text : List ℕ) (a b : List Segment) → IsSelector text a → IsSelector text b → a ≡ b }
+/// A text is a selector of one list of parts at most.
+pub const fn parts_are_unique()
+    ensures { (text : List ℕ) (a b : Parts) → IsSelector text a → IsSelector text b → a ≡ b }
 {}
 
-/// Read character by character, a text gives exactly the segments of which it is a selector.
+/// Read character by character, a text gives exactly the parts of which it is a selector.
 pub const fn reading_is_the_grammar()
-    ensures selects { (text : List ℕ) (segments : List Segment) → IsSelector text segments
-        → outcome at_start text ≡ selects segments }
-    ensures selected { (text : List ℕ) (segments : List Segment)
-        → outcome at_start text ≡ selects segments → IsSelector text segments }
+    ensures selects { (text : List ℕ) (parts : Parts) → IsSelector text parts
+        → outcome (before_part []) text ≡ selects parts }
+    ensures selected { (text : List ℕ) (parts : Parts)
+        → outcome (before_part []) text ≡ selects parts → IsSelector text parts }
 {}
 
-/// Texts and their segments, and texts and their faults, that were worked out by hand.
+/// Texts and their parts, and texts and their faults, that were worked out by hand.
 pub const fn worked_examples()
     ensures selected { AreSelected }
     ensures refused { AreRefused }

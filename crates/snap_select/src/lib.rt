@@ -8,10 +8,13 @@
 #![tactic(auto)]
 
 pub mod copies;
+pub mod deep;
 pub mod fault;
 pub mod in_order;
 pub mod laws;
 pub mod matching;
+pub mod part;
+pub mod parts;
 pub mod path_item;
 pub mod pieces;
 pub mod quotes;

@@ -1,7 +1,9 @@
 //! Which paths a selector matches.
 ghost use Rattle.std.specs.Prelude.{◌≡◌, ◌≤◌, length, map, position};
-ghost use Rattle.snap_select.specs.Matching.{step_of, fits_step, fit_each, last_of, matches_whole, matches_ends, is_deep, path_match};
+ghost use Rattle.snap_select.specs.Matching.{step_of, fits_step, fit_each, last_of, matches_whole, matches_ends, segments_match, path_match};
+ghost use Rattle.snap_select.specs.Deep.{is_deep};
 
+use crate::deep::is_deep;
 use crate::path_item::PathItem;
 use crate::segment::Segment;
 use crate::selector::Selector;
@@ -15,7 +17,7 @@ fn fits_step(segment: &Segment<'_>, step: &PathItem) -> bool
         Segment::Wildcard => true,
         Segment::Key(name) => step.is_named(name.as_str()),
         Segment::Index(number) => step.is_numbered(*number),
-        Segment::Range(from, to) => step.is_between(*from, *to),
+        Segment::Range(from, to) => step.range_check(*from, *to),
     }
 }
 
@@ -67,13 +69,6 @@ fn matches_ends(before: &[Segment<'_>], after: &[Segment<'_>], path: &[PathItem]
         && fit_ends(after, path, after.len().min(path.len()))
 }
 
-/// Whether the segment is the wildcard for any number of steps.
-fn is_deep(segment: &Segment<'_>) -> bool
-    ensures { result ≡ is_deep segment.now }
-{
-    matches!(segment, Segment::DeepWildcard)
-}
-
 /// The place of the first wildcard for any number of steps.
 fn deep_at(segments: &[Segment<'_>]) -> Option<usize>
     ensures { result ≡ position is_deep segments.now }
@@ -81,18 +76,27 @@ fn deep_at(segments: &[Segment<'_>]) -> Option<usize>
     segments.iter().position(|segment| is_deep(segment))
 }
 
-impl Selector<'_> {
-    ghost use Rattle.snap_select.specs.Selectors.{segments_of};
+/// Whether the segments match the path.
+fn segments_match(segments: &[Segment<'_>], path: &[PathItem]) -> bool
+    ensures { result ≡ segments_match segments.now (map step_of path.now) }
+{
+    match deep_at(segments) {
+        None => matches_whole(segments, path),
+        Some(deep) => matches_ends(&segments[..deep], &segments[deep + 1..], path),
+    }
+}
 
-    /// Whether the selector matches the path: as many segments as steps, of which each fits its own.
-    /// A key fits a text key and a field of that name, an index the item at that position and a key that is that number.
+impl Selector<'_> {
+    ghost use Rattle.snap_select.specs.Selectors.{parts_of};
+
+    /// Whether the selector matches the path: where one of its parts does. Without a deep wildcard a part has as many segments
+    /// as the path has steps, of which each fits its own; with one, the segments before it fit the first steps, of which there
+    /// are fewer than the path has, and those behind it the last ones, as far as there are any.
+    /// A key fits a text key and a field of that name, an index the item at that position and a key that is that number, a
+    /// range the items between its bounds, and a wildcard every step.
     pub fn is_match(&self, path: &[PathItem]) -> bool
-        ensures { result ≡ path_match (segments_of self.now) (map step_of path.now) }
+        ensures { result ≡ path_match (parts_of self.now) (map step_of path.now) }
     {
-        let segments = self.segments.as_slice();
-        match deep_at(segments) {
-            None => matches_whole(segments, path),
-            Some(deep) => matches_ends(&segments[..deep], &segments[deep + 1..], path),
-        }
+        self.parts.iter().any(|part| segments_match(part.segments(), path))
     }
 }

@@ -1,7 +1,7 @@
 //! One step of a path through a tree.
 ghost use Rattle.std.specs.Prelude.{◌≡◌, option_map};
 ghost use Rattle.std.specs.Str.{chars, bytes_eq};
-ghost use Rattle.snap_select.specs.Matching.{step_of, is_named, is_numbered, is_between, bound_at};
+ghost use Rattle.snap_select.specs.Matching.{step_of, is_named, is_numbered, range_check, bound_at};
 
 use snap_content::{Content, Text};
 
@@ -63,9 +63,10 @@ impl PathItem {
         }
     }
 
-    /// Whether this is an item of a list, from the first bound up to the second. A bound below zero counts from the end.
-    pub(crate) fn is_between(&self, from: Option<i64>, to: Option<i64>) -> bool
-        ensures { result ≡ is_between from to (step_of self.now) }
+    /// Whether this is an item of a list, from the first bound up to the second, which isn't counted. A bound below zero counts
+    /// from the end, and never to before the first item. No key and no field is between bounds.
+    pub fn range_check(&self, from: Option<i64>, to: Option<i64>) -> bool
+        ensures { result ≡ range_check from to (step_of self.now) }
     {
         let PathItem::Index(index, length) = self else {
             return false;

@@ -2,7 +2,9 @@
 ghost use Rattle.std.specs.Prelude.{◌≡◌, ◌<◌, ◌≤◌, ◌≢◌, ◌∷◌, [], ◌++◌, ◌⊎◌, ℕ, List, length, IfOk, IfSome, MatchOption};
 ghost use Rattle.std.specs.Str.{chars};
 ghost use Rattle.snap_select.specs.Pieces.{past, front, is_plain, Fails};
-ghost use Rattle.snap_select.specs.Reading.{outcome, in_quotes, behind_quotes, refuses};
+ghost use Rattle.snap_select.specs.Reading.{outcome, inside, in_quotes, closing, refuses};
+ghost use Rattle.snap_select.specs.Parts.{Parts};
+ghost use Rattle.snap_select.specs.declared.segment.Segment.TheVariants.{Key};
 ghost use Rattle.snap_select.specs.declared.fault.SelectFault.TheVariants.{BadToken};
 ghost use Rattle.snap_select.specs.declared.segment.Segment.{Segment};
 
@@ -38,11 +40,11 @@ fn split_plain(text: &str) -> Option<(&str, &str)>
 /// The character that is kept, and what follows: the one behind a backslash, or the character itself.
 fn kept_character<'a>(character: char, text: &'a str) -> Option<(char, &'a str)>
     requires { character ≢ 34 }
-    ensures kept { (ss : List Segment) (key : List ℕ)
-        → MatchOption result (outcome (in_quotes ss key) (character ∷ chars text.now)
+    ensures kept { (ps : Parts) (ss : List Segment) (key : List ℕ)
+        → MatchOption result (outcome (inside ps ss (in_quotes key)) (character ∷ chars text.now)
         ≡ refuses BadToken 0)
-        (λ p. outcome (in_quotes ss key) (character ∷ chars text.now)
-        ≡ outcome (in_quotes ss (key ++ p.0 ∷ [])) (chars p.1.now)) }
+        (λ p. outcome (inside ps ss (in_quotes key)) (character ∷ chars text.now)
+        ≡ outcome (inside ps ss (in_quotes (key ++ p.0 ∷ []))) (chars p.1.now)) }
     ensures shorter { IfSome result (λ p. length (chars p.1.now) ≤ length (chars text.now)) }
 {
     if character == '\\' {
@@ -53,10 +55,10 @@ fn kept_character<'a>(character: char, text: &'a str) -> Option<(char, &'a str)>
 
 /// The key up to the first quote without a backslash, and what follows; none where no such quote is there.
 fn read_escaped(alloc: Global, text: &str) -> Result<Option<(Text, &str)>, OutOfMemory>
-    ensures key { IfOk result (λ found. (ss : List Segment)
-        → MatchOption found (outcome (in_quotes ss []) (chars text.now) ≡ refuses BadToken 0)
-        (λ p. outcome (in_quotes ss []) (chars text.now)
-        ≡ outcome (behind_quotes ss p.0) (chars p.1.now))) }
+    ensures key { IfOk result (λ found. (ps : Parts) (ss : List Segment)
+        → MatchOption found (outcome (inside ps ss (in_quotes [])) (chars text.now) ≡ refuses BadToken 0)
+        (λ p. outcome (inside ps ss (in_quotes [])) (chars text.now)
+        ≡ outcome (inside ps ss (closing (Key p.0))) (chars p.1.now))) }
     ensures shorter { IfOk result (λ found. IfSome found
         (λ p. length (chars p.1.now) < length (chars text.now))) }
 {
@@ -80,10 +82,10 @@ pub(crate) fn read_quoted<'a>(
     alloc: Global,
     text: &'a str,
 ) -> Result<Option<(Lent<'a>, &'a str)>, OutOfMemory>
-    ensures key { IfOk result (λ found. (ss : List Segment)
-        → MatchOption found (outcome (in_quotes ss []) (chars text.now) ≡ refuses BadToken 0)
-        (λ p. outcome (in_quotes ss []) (chars text.now)
-        ≡ outcome (behind_quotes ss p.0) (chars p.1.now))) }
+    ensures key { IfOk result (λ found. (ps : Parts) (ss : List Segment)
+        → MatchOption found (outcome (inside ps ss (in_quotes [])) (chars text.now) ≡ refuses BadToken 0)
+        (λ p. outcome (inside ps ss (in_quotes [])) (chars text.now)
+        ≡ outcome (inside ps ss (closing (Key p.0))) (chars p.1.now))) }
     ensures shorter { IfOk result (λ found. IfSome found
         (λ p. length (chars p.1.now) < length (chars text.now))) }
 {

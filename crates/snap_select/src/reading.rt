@@ -1,53 +1,119 @@
 //! Segments, read from the front of a text.
-ghost use Rattle.std.specs.Prelude.{◌≡◌, ◌<◌, ◌∷◌, [], ℕ, List, length, IfOk, IfErr};
+ghost use Rattle.std.specs.Prelude.{◌≡◌, ◌<◌, ◌≤◌, ◌∷◌, [], ℕ, true, List, length, Option, None, Some, IfOk, IfErr};
 ghost use Rattle.std.specs.Str.{chars};
-ghost use Rattle.snap_select.specs.Reading.{outcome, selects, refuses, ready, behind_dot, behind_bracket, in_quotes};
-ghost use Rattle.snap_select.specs.Stops.{IsStop, GoesOn, StopsAt};
-ghost use Rattle.snap_select.specs.declared.fault.SelectFault.TheVariants.{BadToken};
+ghost use Rattle.snap_select.specs.Reading.{dot, bracket, in_quotes, colon};
+ghost use Rattle.snap_select.specs.Stops.{GoesOn, StopsAt, ReadsWildcard, ReadsDotted, ReadsSegment, StopsReady, Closes, ClosesNot, IsNumberBehind};
+ghost use Rattle.snap_select.specs.Pieces.{begins_segment, Fails};
+ghost use Rattle.snap_select.specs.Grammar.{is_blank};
 
 use crate::fault::SelectFault;
-use crate::pieces::{number_of, split_digits, split_name};
+use crate::pieces::{bound_of, index_of, past_blanks, split_name, split_number, unsigned};
 use crate::quotes::read_quoted;
 use crate::segment::Segment;
 use crate::stop::Stop;
 use snap_content::Lent;
-use snap_content::characters::{after_character, split_first};
+use snap_content::characters::{after_character, begins_with};
 use std::alloc::Global;
 
-/// The segment, where a closing bracket follows, and the text behind that.
+/// The segment, where a closing bracket follows behind blanks, and the text behind that.
 fn closed<'a>(segment: Segment<'a>, text: &'a str) -> Result<(Segment<'a>, &'a str), Stop<'a>>
-    ensures ok { IfOk result (λ p. (p.0 ≡ segment.entry) × (chars text.now ≡ 93 ∷ chars p.1.now)) }
-    ensures stop { IfErr result (λ s. IsStop (refuses BadToken (length (chars text.now))) s
-        × ((cs : List ℕ) → chars text.now ≡ 93 ∷ cs → ⊥)) }
+    ensures ok { IfOk result (λ p. (p.0 ≡ segment.entry) × Closes (chars text.now) (chars p.1.now)) }
+    ensures stop { IfErr result (λ s. ClosesNot (chars text.now) s) }
 {
+    let text = past_blanks(text);
     match after_character(text, ']') {
         Some(rest) => Ok((segment, rest)),
         None => Err(Stop::Fault(SelectFault::BadToken, text)),
     }
 }
 
-/// The index behind an opening bracket, where no quote follows that, and the text behind the closing one.
-fn read_index<'a>(text: &'a str) -> Result<(Segment<'a>, &'a str), Stop<'a>>
-    requires { (cs : List ℕ) → chars text.now ≡ 34 ∷ cs → ⊥ }
-    ensures ok { IfOk result (λ p. GoesOn behind_bracket (chars text.now) p.0 (chars p.1.now)) }
-    ensures stop { IfErr result (λ s. StopsAt behind_bracket (chars text.now) s) }
+/// The range from that bound, behind its colon, and the text behind the closing bracket.
+fn read_to<'a>(from: Option<i64>, text: &'a str) -> Result<(Segment<'a>, &'a str), Stop<'a>>
+    ensures ok { IfOk result (λ p. GoesOn (colon from) (chars text.now) p.0 (chars p.1.now)) }
+    ensures stop { IfErr result (λ s. StopsAt (colon from) (chars text.now) s) }
     ensures shorter { IfOk result (λ p. length (chars p.1.now) < length (chars text.now)) }
 {
-    let (digits, rest) = split_digits(text);
-    if split_first(digits).is_none() {
-        return Err(Stop::Fault(SelectFault::BadToken, text));
+    let text = past_blanks(text);
+    if let Some(rest) = after_character(text, ']') {
+        return Ok((Segment::Range(from, None), rest));
     }
-    match number_of(digits) {
+    match split_number(text) {
+        None => Err(Stop::Fault(SelectFault::BadToken, unsigned(text))),
+        Some((number, rest)) => match bound_of(number) {
+            None => Err(Stop::Fault(SelectFault::TooLarge, text)),
+            Some(bound) => closed(Segment::Range(from, Some(bound)), rest),
+        },
+    }
+}
+
+/// The index of that number, which no colon follows, and the text behind the closing bracket.
+fn read_index<'a>(
+    text: &'a str,
+    number: &'a str,
+    rest: &'a str,
+) -> Result<(Segment<'a>, &'a str), Stop<'a>>
+    requires number { IsNumberBehind (chars text.now) (chars number.now) (chars rest.now) }
+    requires no_colon { (cs : List ℕ) → chars rest.now ≡ 58 ∷ cs → ⊥ }
+    ensures ok { IfOk result (λ p. GoesOn bracket (chars text.now) p.0 (chars p.1.now)) }
+    ensures stop { IfErr result (λ s. StopsAt bracket (chars text.now) s) }
+    ensures shorter { IfOk result (λ p. length (chars p.1.now) < length (chars text.now)) }
+{
+    if begins_with(number, '-') {
+        return match bound_of(number) {
+            None => Err(Stop::Fault(SelectFault::TooLarge, text)),
+            Some(_) => Err(Stop::Fault(SelectFault::BadToken, rest)),
+        };
+    }
+    match index_of(number) {
         None => Err(Stop::Fault(SelectFault::TooLarge, text)),
         Some(index) => closed(Segment::Index(index), rest),
     }
 }
 
+/// The index, or the range, that begins with a number, and the text behind the closing bracket.
+fn read_number<'a>(text: &'a str) -> Result<(Segment<'a>, &'a str), Stop<'a>>
+    requires no_blank { Fails is_blank (chars text.now) }
+    requires no_quote { (cs : List ℕ) → chars text.now ≡ 34 ∷ cs → ⊥ }
+    requires no_bracket { (cs : List ℕ) → chars text.now ≡ 93 ∷ cs → ⊥ }
+    requires no_colon { (cs : List ℕ) → chars text.now ≡ 58 ∷ cs → ⊥ }
+    ensures ok { IfOk result (λ p. GoesOn bracket (chars text.now) p.0 (chars p.1.now)) }
+    ensures stop { IfErr result (λ s. StopsAt bracket (chars text.now) s) }
+    ensures shorter { IfOk result (λ p. length (chars p.1.now) < length (chars text.now)) }
+{
+    let Some((number, rest)) = split_number(text) else {
+        return Err(Stop::Fault(SelectFault::BadToken, unsigned(text)));
+    };
+    let rest = past_blanks(rest);
+    match after_character(rest, ':') {
+        None => read_index(text, number, rest),
+        Some(later) => match bound_of(number) {
+            None => Err(Stop::Fault(SelectFault::TooLarge, text)),
+            Some(bound) => read_to(Some(bound), later),
+        },
+    }
+}
+
+/// The index, or the range, behind an opening bracket and blanks, and the text behind the closing bracket.
+fn read_numbers<'a>(text: &'a str) -> Result<(Segment<'a>, &'a str), Stop<'a>>
+    requires no_blank { Fails is_blank (chars text.now) }
+    requires no_quote { (cs : List ℕ) → chars text.now ≡ 34 ∷ cs → ⊥ }
+    ensures ok { IfOk result (λ p. GoesOn bracket (chars text.now) p.0 (chars p.1.now)) }
+    ensures stop { IfErr result (λ s. StopsAt bracket (chars text.now) s) }
+    ensures shorter { IfOk result (λ p. length (chars p.1.now) < length (chars text.now)) }
+{
+    if let Some(rest) = after_character(text, ']') {
+        return Ok((Segment::Range(None, None), rest));
+    }
+    match after_character(text, ':') {
+        Some(later) => read_to(None, later),
+        None => read_number(text),
+    }
+}
+
 /// The key behind an opening quote, and the text behind the closing bracket.
 fn read_key<'a>(alloc: Global, text: &'a str) -> Result<(Segment<'a>, &'a str), Stop<'a>>
-    ensures ok { IfOk result (λ p. GoesOn
-        (λ ss. in_quotes ss []) (chars text.now) p.0 (chars p.1.now)) }
-    ensures stop { IfErr result (λ s. StopsAt (λ ss. in_quotes ss []) (chars text.now) s) }
+    ensures ok { IfOk result (λ p. GoesOn (in_quotes []) (chars text.now) p.0 (chars p.1.now)) }
+    ensures stop { IfErr result (λ s. StopsAt (in_quotes []) (chars text.now) s) }
     ensures shorter { IfOk result (λ p. length (chars p.1.now) < length (chars text.now)) }
 {
     match read_quoted(alloc, text) {
@@ -60,41 +126,49 @@ fn read_key<'a>(alloc: Global, text: &'a str) -> Result<(Segment<'a>, &'a str), 
 }
 
 /// The segment behind an opening bracket, and the text behind the closing one.
-fn read_subscript<'a>(alloc: Global, text: &'a str) -> Result<(Segment<'a>, &'a str), Stop<'a>>
-    ensures ok { IfOk result (λ p. GoesOn behind_bracket (chars text.now) p.0 (chars p.1.now)) }
-    ensures stop { IfErr result (λ s. StopsAt behind_bracket (chars text.now) s) }
+fn read_bracketed<'a>(alloc: Global, text: &'a str) -> Result<(Segment<'a>, &'a str), Stop<'a>>
+    ensures ok { IfOk result (λ p. GoesOn bracket (chars text.now) p.0 (chars p.1.now)) }
+    ensures stop { IfErr result (λ s. StopsAt bracket (chars text.now) s) }
     ensures shorter { IfOk result (λ p. length (chars p.1.now) < length (chars text.now)) }
 {
+    let text = past_blanks(text);
     match after_character(text, '"') {
-        None => read_index(text),
+        None => read_numbers(text),
         Some(inside) => read_key(alloc, inside),
     }
 }
 
-/// The name behind a dot, as a segment, and the text behind it.
-fn read_name<'a>(text: &'a str) -> Result<(Segment<'a>, &'a str), Stop<'a>>
-    ensures ok { IfOk result (λ p. GoesOn behind_dot (chars text.now) p.0 (chars p.1.now)) }
-    ensures stop { IfErr result (λ s. StopsAt behind_dot (chars text.now) s) }
+/// The wildcard behind a dot and a star, and the text behind it.
+fn read_wildcard<'a>(text: &'a str) -> (Segment<'a>, &'a str)
+    ensures read { ReadsWildcard (chars text.now) result.0 (chars result.1.now) }
+    ensures within { length (chars result.1.now) ≤ length (chars text.now) }
+{
+    match after_character(text, '*') {
+        None => (Segment::Wildcard, text),
+        Some(rest) => (Segment::DeepWildcard, rest),
+    }
+}
+
+/// The segment behind a dot, and the text behind it.
+fn read_dotted<'a>(text: &'a str) -> Result<(Segment<'a>, &'a str), Stop<'a>>
+    ensures ok { IfOk result (λ p. ReadsDotted (chars text.now) p.0 (chars p.1.now)) }
+    ensures stop { IfErr result (λ s. StopsAt dot (chars text.now) s) }
     ensures shorter { IfOk result (λ p. length (chars p.1.now) < length (chars text.now)) }
 {
+    if let Some(rest) = after_character(text, '*') {
+        return Ok(read_wildcard(rest));
+    }
     match split_name(text) {
         None => Err(Stop::Fault(SelectFault::BadToken, text)),
         Some((name, rest)) => Ok((Segment::Key(Lent::borrowed(name)), rest)),
     }
 }
 
-/// The segment of a text that doesn't begin with a bracket, and the text behind it.
-fn read_dotted<'a>(text: &'a str) -> Result<(Segment<'a>, &'a str), Stop<'a>>
-    requires left { 0 < length (chars text.now) }
-    requires no_bracket { (cs : List ℕ) → chars text.now ≡ 91 ∷ cs → ⊥ }
-    ensures ok { IfOk result (λ p. GoesOn ready (chars text.now) p.0 (chars p.1.now)) }
-    ensures stop { IfErr result (λ s. StopsAt ready (chars text.now) s) }
-    ensures shorter { IfOk result (λ p. length (chars p.1.now) < length (chars text.now)) }
+/// Whether a dot or a bracket is at the front, with which a segment begins.
+pub(crate) fn begins_segment(text: &str) -> bool
+    ensures { result ≡ begins_segment (chars text.now) }
 {
-    match after_character(text, '.') {
-        None => Err(Stop::Fault(SelectFault::BadToken, text)),
-        Some(name) => read_name(name),
-    }
+    begins_with(text, '.') || begins_with(text, '[')
 }
 
 /// The first segment of what is left, and the text behind it.
@@ -102,13 +176,16 @@ pub(crate) fn read_segment<'a>(
     alloc: Global,
     text: &'a str,
 ) -> Result<(Segment<'a>, &'a str), Stop<'a>>
-    requires { 0 < length (chars text.now) }
-    ensures ok { IfOk result (λ p. GoesOn ready (chars text.now) p.0 (chars p.1.now)) }
-    ensures stop { IfErr result (λ s. StopsAt ready (chars text.now) s) }
+    requires { begins_segment (chars text.now) ≡ true }
+    ensures ok { IfOk result (λ p. ReadsSegment (chars text.now) p.0 (chars p.1.now)) }
+    ensures stop { IfErr result (λ s. StopsReady (chars text.now) s) }
     ensures shorter { IfOk result (λ p. length (chars p.1.now) < length (chars text.now)) }
 {
-    match after_character(text, '[') {
-        None => read_dotted(text),
-        Some(inside) => read_subscript(alloc, inside),
+    match after_character(text, '.') {
+        Some(rest) => read_dotted(rest),
+        None => match after_character(text, '[') {
+            Some(inside) => read_bracketed(alloc, inside),
+            None => Err(Stop::Fault(SelectFault::BadToken, text)),
+        },
     }
 }

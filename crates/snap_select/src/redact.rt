@@ -5,7 +5,7 @@ ghost use Rattle.snap_select.specs.Matching.{step_of};
 ghost use Rattle.snap_select.specs.Positions.{count_of};
 ghost use Rattle.snap_select.specs.Put.{put_of};
 ghost use Rattle.snap_select.specs.Redacted.{redacted, inside, redacted_items, redacted_pairs, redacted_fields};
-ghost use Rattle.snap_select.specs.Selectors.{segments_of};
+ghost use Rattle.snap_select.specs.Selectors.{parts_of};
 
 use crate::path_item::PathItem;
 use crate::redaction::Redaction;
@@ -23,7 +23,7 @@ fn redact_at(
     path: &mut Vec<PathItem>,
 ) -> Result<Content, OutOfMemory>
     ensures ok { IfOk result (λ out. tree out
-        ≡ redacted (segments_of selector.now) (put_of redaction.now) (map step_of path.old.items)
+        ≡ redacted (parts_of selector.now) (put_of redaction.now) (map step_of path.old.items)
         (tree value.now)) }
     ensures path { OnOk result (path.new.items ≡ path.old.items) }
 {
@@ -44,7 +44,7 @@ fn redact_behind(
     step: PathItem,
 ) -> Result<Content, OutOfMemory>
     ensures ok { IfOk result (λ out. tree out
-        ≡ redacted (segments_of selector.now) (put_of redaction.now)
+        ≡ redacted (parts_of selector.now) (put_of redaction.now)
         (map step_of path.old.items ++ step_of step ∷ []) (tree value.now)) }
     ensures path { OnOk result (path.new.items ≡ path.old.items) }
 {
@@ -64,7 +64,7 @@ fn redact_box(
     path: &mut Vec<PathItem>,
 ) -> Result<Box<Content>, OutOfMemory>
     ensures ok { IfOk result (λ out. tree out.value
-        ≡ redacted (segments_of selector.now) (put_of redaction.now) (map step_of path.old.items)
+        ≡ redacted (parts_of selector.now) (put_of redaction.now) (map step_of path.old.items)
         (tree value.now.value)) }
     ensures path { OnOk result (path.new.items ≡ path.old.items) }
 {
@@ -82,7 +82,7 @@ fn redact_inside(
     path: &mut Vec<PathItem>,
 ) -> Result<Content, OutOfMemory>
     ensures ok { IfOk result (λ out. tree out
-        ≡ inside (segments_of selector.now) (put_of redaction.now) (map step_of path.old.items)
+        ≡ inside (parts_of selector.now) (put_of redaction.now) (map step_of path.old.items)
         (tree value.now)) }
     ensures path { OnOk result (path.new.items ≡ path.old.items) }
 {
@@ -151,7 +151,7 @@ fn redact_items(
     path: &mut Vec<PathItem>,
 ) -> Result<Items, OutOfMemory>
     ensures ok { IfOk result (λ out. item_trees (item_list out)
-        ≡ redacted_items (segments_of selector.now) (put_of redaction.now) (map step_of path.old.items)
+        ≡ redacted_items (parts_of selector.now) (put_of redaction.now) (map step_of path.old.items)
         (count_of (item_trees (item_list items.now))) 0 (item_trees (item_list items.now))) }
     ensures path { OnOk result (path.new.items ≡ path.old.items) }
 {
@@ -174,7 +174,7 @@ fn redact_pairs(
     path: &mut Vec<PathItem>,
 ) -> Result<Pairs, OutOfMemory>
     ensures ok { IfOk result (λ out. pair_trees (pair_list out)
-        ≡ redacted_pairs (segments_of selector.now) (put_of redaction.now) (map step_of path.old.items)
+        ≡ redacted_pairs (parts_of selector.now) (put_of redaction.now) (map step_of path.old.items)
         (pair_trees (pair_list pairs.now))) }
     ensures path { OnOk result (path.new.items ≡ path.old.items) }
 {
@@ -199,7 +199,7 @@ fn redact_fields(
     path: &mut Vec<PathItem>,
 ) -> Result<Fields, OutOfMemory>
     ensures ok { IfOk result (λ out. field_trees (field_list out)
-        ≡ redacted_fields (segments_of selector.now) (put_of redaction.now) (map step_of path.old.items)
+        ≡ redacted_fields (parts_of selector.now) (put_of redaction.now) (map step_of path.old.items)
         (field_trees (field_list fields.now))) }
     ensures path { OnOk result (path.new.items ≡ path.old.items) }
 {
@@ -220,7 +220,7 @@ fn redact_tree(
     alloc: Global,
 ) -> Result<Content, OutOfMemory>
     ensures { IfOk result (λ out. tree out
-        ≡ redacted (segments_of selector.now) (put_of redaction.now) [] (tree value.now)) }
+        ≡ redacted (parts_of selector.now) (put_of redaction.now) [] (tree value.now)) }
 {
     let mut path = Vec::new(alloc);
     redact_at(value, selector, redaction, alloc, &mut path)
@@ -240,12 +240,12 @@ impl Selector<'_> {
         redaction: &Redaction,
     ) -> Result<Content, OutOfMemory>
         ensures redacted { IfOk result (λ out.
-            Redacts (segments_of self.now) (put_of redaction.now) (tree value) (tree out)) }
+            Redacts (parts_of self.now) (put_of redaction.now) (tree value) (tree out)) }
         ensures untouched { IfOk result (λ out. ((position : List ℕ)
-            → ¬ IsHit (segments_of self.now) [] (tree value) position) → tree out ≡ tree value) }
+            → ¬ IsHit (parts_of self.now) [] (tree value) position) → tree out ≡ tree value) }
         // Part by part, for who has to name the tree. That both say the same is a law.
         ensures parts { IfOk result (λ out. tree out
-            ≡ redacted (segments_of self.now) (put_of redaction.now) [] (tree value)) }
+            ≡ redacted (parts_of self.now) (put_of redaction.now) [] (tree value)) }
     {
         redact_tree(&value, self, redaction, alloc)
     }

@@ -1,69 +1,66 @@
 //! Selectors.
-ghost use Rattle.std.specs.Prelude.{◌≡◌, ◌≢◌, ◌≤◌, ◌<◌, ◌+◌, ◌^◌, ◌∷◌, [], length, IfOk, IfErr};
+ghost use Rattle.std.specs.Prelude.{◌≡◌, ◌≤◌, ◌<◌, ◌+◌, ◌^◌, ◌∷◌, [], length, IfOk, IfErr, IfSome, MatchOption};
 ghost use Rattle.std.specs.Str.{chars};
 ghost use Rattle.snap_select.specs.Grammar.{IsSelector};
-ghost use Rattle.snap_select.specs.Pieces.{undotted};
-ghost use Rattle.snap_select.specs.Reading.{outcome, at_start, ready, selects};
+ghost use Rattle.snap_select.specs.Reading.{outcome, before_part, behind_part, selects};
 ghost use Rattle.snap_select.specs.Refusal.{IsRefused};
-ghost use Rattle.snap_select.specs.Stops.{IsStop};
+ghost use Rattle.snap_select.specs.Stops.{IsStop, StopsPart};
+ghost use Rattle.snap_select.specs.Parts.{Parts};
 
 use crate::fault::{SelectError, SelectFault, SelectorParseError};
-use crate::reading::read_segment;
-use crate::segment::Segment;
+use crate::part::Part;
+use crate::parts::read_part;
+use crate::pieces::past_blanks;
 use crate::stop::Stop;
 use snap_content::OutOfMemory;
-use snap_content::characters::{after_character, begins_with, is_same, split_first};
+use snap_content::characters::{after_character, split_first};
 use std::alloc::Global;
 
 /// A way from a tree to parts of it: which paths it selects.
 #[derive(Debug, Drop)]
 pub struct Selector<'a> {
-    pub(crate) segments: Vec<Segment<'a>>,
+    pub(crate) parts: Vec<Part<'a>>,
 }
 
-/// The text without a dot in front of a bracket.
-fn undotted(text: &str) -> &str
-    ensures { chars result.now ≡ undotted (chars text.now) }
+/// What follows the comma behind a part; none where the text ends.
+fn behind_comma<'a>(text: &'a str) -> Result<Option<&'a str>, Stop<'a>>
+    ensures ok { IfOk result (λ found. (ps : Parts)
+        → MatchOption found (outcome (behind_part ps) (chars text.now) ≡ selects ps)
+        (λ rest. outcome (behind_part ps) (chars text.now)
+        ≡ outcome (before_part ps) (chars rest.now))) }
+    ensures stop { IfErr result (λ s. StopsPart behind_part (chars text.now) s) }
+    ensures shorter { IfOk result (λ found. IfSome found
+        (λ rest. length (chars rest.now) < length (chars text.now))) }
 {
-    match after_character(text, '.') {
-        None => text,
-        Some(body) => { if begins_with(body, '[') { body } else { text } }
+    let rest = past_blanks(text);
+    match after_character(rest, ',') {
+        Some(later) => Ok(Some(later)),
+        None if split_first(rest).is_none() => Ok(None),
+        None => Err(Stop::Fault(SelectFault::BadToken, rest)),
     }
 }
 
-/// The segments of a text that begins with one.
-fn read_segments<'a>(alloc: Global, text: &'a str) -> Result<Vec<Segment<'a>>, Stop<'a>>
-    ensures ok { IfOk result (λ segments. outcome (ready []) (chars text.now)
-        ≡ selects segments.items) }
-    ensures stop { IfErr result (λ s. IsStop (outcome (ready []) (chars text.now)) s) }
+/// The parts of a selector's text.
+fn read_parts<'a>(alloc: Global, text: &'a str) -> Result<Vec<Part<'a>>, Stop<'a>>
+    ensures ok { IfOk result (λ parts. outcome (before_part []) (chars text.now)
+        ≡ selects parts.items) }
+    ensures stop { IfErr result (λ s. IsStop (outcome (before_part []) (chars text.now)) s) }
 {
-    let mut segments = Vec::new(alloc);
+    let mut parts = Vec::new(alloc);
     let mut rest = text;
-    while split_first(rest).is_some() {
-        match read_segment(alloc, rest) {
+    'parts: loop {
+        match read_part(alloc, rest) {
             Err(stop) => return Err(stop),
-            Ok((segment, more)) => {
-                segments.push(segment)?;
-                rest = more;
+            Ok((part, more)) => {
+                parts.push(part)?;
+                match behind_comma(more) {
+                    Err(stop) => return Err(stop),
+                    Ok(None) => return Ok(parts),
+                    Ok(Some(later)) => rest = later,
+                }
             }
         }
     }
-    Ok(segments)
-}
-
-/// The segments of a selector's text.
-fn read_text<'a>(alloc: Global, text: &'a str) -> Result<Vec<Segment<'a>>, Stop<'a>>
-    ensures ok { IfOk result (λ segments. outcome at_start (chars text.now)
-        ≡ selects segments.items) }
-    ensures stop { IfErr result (λ s. IsStop (outcome at_start (chars text.now)) s) }
-{
-    if is_same(text, "") {
-        return Err(Stop::Fault(SelectFault::BadToken, text));
-    }
-    if is_same(text, ".") {
-        return Ok(Vec::new(alloc));
-    }
-    read_segments(alloc, undotted(text))
 }
 
 /// How many characters the text has.
@@ -84,7 +81,7 @@ fn column(text: &str, rest: &str) -> usize
 
 /// Why the text is refused.
 fn refusal(text: &str, stop: Stop<'_>) -> SelectError
-    requires { IsStop (outcome at_start (chars text.now)) stop }
+    requires { IsStop (outcome (before_part []) (chars text.now)) stop }
     ensures { IsRefused (chars text.now) result }
 {
     match stop {
@@ -96,19 +93,22 @@ fn refusal(text: &str, stop: Stop<'_>) -> SelectError
 }
 
 impl<'a> Selector<'a> {
-    ghost use Rattle.snap_select.specs.Selectors.{segments_of};
+    ghost use Rattle.snap_select.specs.Selectors.{parts_of};
 
-    /// The selector that the text spells: `.` for the root, else a `.key`, `["key"]` or `[index]` for each step.
+    /// The selector that the text spells: parts with commas between them, and blanks or tabs round them. A part is `.` for
+    /// the root, or a segment for each step: `.key` or `["key"]`, `[index]`, `.*`, `[from:to]` with both bounds or without,
+    /// `[]` for every item, and at most once `.**`. Blanks may stand inside brackets.
     /// A key behind a dot begins with `_`, `$` or a character that begins an identifier, and goes on as an identifier does.
     /// In quotes a backslash is dropped, and the character behind it kept. A dot may stand before a first bracket.
-    /// Any other text is refused at its first fault: `TooLarge` at a number above 2^64 - 1, `BadToken` at the character
-    /// with which no selector goes on.
+    /// Any other text is refused at its first fault: `TooLarge` at a number that doesn't fit, 64 bits for an index and 64 bits
+    /// with a sign for a bound, `DeepTwice` at the second `.**` of a part, `BadToken` at the character with which no selector
+    /// goes on.
     pub fn parse(alloc: Global, selector: &'a str) -> Result<Selector<'a>, SelectError>
-        ensures ok { IfOk result (λ made. IsSelector (chars selector.now) (segments_of made)) }
+        ensures ok { IfOk result (λ made. IsSelector (chars selector.now) (parts_of made)) }
         ensures refused { IfErr result (λ e. IsRefused (chars selector.now) e) }
     {
-        match read_text(alloc, selector) {
-            Ok(segments) => Ok(Selector { segments }),
+        match read_parts(alloc, selector) {
+            Ok(parts) => Ok(Selector { parts }),
             Err(stop) => Err(refusal(selector, stop)),
         }
     }

@@ -41,7 +41,7 @@ fn assert_steps(
 fn texts_of_selectors(rt: HostRuntime) -> Result<(), Fail> {
     let alloc = rt.alloc();
     let a = Step::Key("a");
-    let rows: [(&str, &[Step]); 14] = [
+    let rows: [(&str, &[Step]); 18] = [
         (".", &[]),
         (".[0]", &[Step::Index(0)]),
         ("[0]", &[Step::Index(0)]),
@@ -59,6 +59,10 @@ fn texts_of_selectors(rt: HostRuntime) -> Result<(), Fail> {
         ("[\"\\a]\"]", &[Step::Key("a]")]),
         ("[\".a[\"]", &[Step::Key(".a[")]),
         (".a.a.a", &[a, a, a]),
+        (" .a\t", &[a]),
+        ("[ 1 ]", &[Step::Index(1)]),
+        ("[\t\"a\" ]", &[a]),
+        ("[9223372036854775808]", &[Step::Index(9223372036854775808)]),
     ];
     for (text, steps) in rows {
         let selector = Selector::parse(alloc, text)?;
@@ -69,42 +73,111 @@ fn texts_of_selectors(rt: HostRuntime) -> Result<(), Fail> {
     Ok(())
 }
 
-#[test]
-fn refused_texts(rt: HostRuntime) -> Result<(), Fail> {
-    let bad = SelectFault::BadToken;
-    let large = SelectFault::TooLarge;
-    for (text, kind, column) in [
-        ("", bad, 1),
-        (".a[", bad, 4),
-        (".a.", bad, 4),
-        (".*", bad, 2),
-        (".a b", bad, 3),
-        (".a[1:2]", bad, 5),
-        (".a.[0]", bad, 4),
-        ("..", bad, 2),
-        ("a", bad, 1),
-        (" .a", bad, 1),
-        (".a,.b", bad, 3),
-        (".é.1", bad, 4),
-        ("[]", bad, 2),
-        ("[1", bad, 3),
-        ("[1 ]", bad, 3),
-        ("[-1]", bad, 2),
-        ("[\"a", bad, 4),
-        ("[\"a\\\"", bad, 6),
-        ("[\"a\"x", bad, 5),
-        ("[18446744073709551616]", large, 2),
-        ("[18446744073709551616", large, 2),
-        (".é[99999999999999999999x", large, 4),
-        ("[1][18446744073709551616][18446744073709551616]", large, 5),
-    ] {
-        match Selector::parse(rt.alloc(), text) {
-            Err(SelectError::Parse(fault)) => {
-                assert_eq!(rt; fault.kind(), kind, "{text}");
-                assert_eq!(rt; fault.column(), column, "{text}");
-            }
-            _ => return Err(Fail::from("not refused")),
+/// That the text is refused so.
+fn assert_refused(
+    rt: &impl Abort,
+    alloc: Global,
+    text: &str,
+    kind: SelectFault,
+    column: usize,
+) -> Result<(), Fail> {
+    match Selector::parse(alloc, text) {
+        Err(SelectError::Parse(fault)) => {
+            assert_eq!(rt; fault.kind(), kind, "{text}");
+            assert_eq!(rt; fault.column(), column, "{text}");
+            Ok(())
         }
+        _ => Err(Fail::from("not refused")),
+    }
+}
+
+#[test]
+fn characters_with_which_no_selector_goes_on(rt: HostRuntime) -> Result<(), Fail> {
+    for (text, column) in [
+        ("", 1),
+        (".a[", 4),
+        (".a.", 4),
+        (".a b", 4),
+        (".a.[0]", 4),
+        ("..", 2),
+        ("a", 1),
+        (".é.1", 4),
+        ("[1", 3),
+        ("[1 ", 4),
+        ("[1 1]", 4),
+        ("[\"a", 4),
+        ("[\"a\\\"", 6),
+        ("[\"a\"x", 5),
+        ("[\"a\\", 5),
+        (",", 1),
+        (" ", 2),
+        (".a,", 4),
+        (".a .b", 4),
+        (". a", 3),
+        (".***", 4),
+        (".a$", 3),
+    ] {
+        assert_refused(&rt, rt.alloc(), text, SelectFault::BadToken, column)?;
+    }
+    Ok(())
+}
+
+#[test]
+fn ranges_with_which_no_selector_goes_on(rt: HostRuntime) -> Result<(), Fail> {
+    for (text, column) in [
+        ("[-1]", 4),
+        ("[-1 ]", 5),
+        ("[- 1:]", 3),
+        ("[1:2", 5),
+        ("[1:2:3]", 5),
+        ("[:-]", 4),
+        ("[1:x]", 4),
+        ("[9223372036854775808", 21),
+        ("[9223372036854775808x", 21),
+        ("[-9223372036854775808", 22),
+        (".a,,.b", 4),
+        (",.a", 1),
+        (".a[\"b\":]", 7),
+        ("[+1]", 2),
+        (".a\n", 3),
+    ] {
+        assert_refused(&rt, rt.alloc(), text, SelectFault::BadToken, column)?;
+    }
+    Ok(())
+}
+
+#[test]
+fn numbers_that_do_not_fit(rt: HostRuntime) -> Result<(), Fail> {
+    for (text, column) in [
+        ("[18446744073709551616]", 2),
+        ("[18446744073709551616", 2),
+        (".é[99999999999999999999x", 4),
+        ("[1][18446744073709551616][18446744073709551616]", 5),
+        ("[9223372036854775808:]", 2),
+        ("[ 9223372036854775808 :", 3),
+        ("[-9223372036854775809:]", 2),
+        ("[-9223372036854775809]", 2),
+        ("[-9223372036854775809", 2),
+        ("[1:9223372036854775808]", 4),
+        ("[1:9223372036854775808", 4),
+        ("[: -9223372036854775809]", 4),
+        (".a, [18446744073709551616]", 6),
+    ] {
+        assert_refused(&rt, rt.alloc(), text, SelectFault::TooLarge, column)?;
+    }
+    Ok(())
+}
+
+#[test]
+fn second_deep_wildcards(rt: HostRuntime) -> Result<(), Fail> {
+    for (text, column) in [
+        (".**.**.**", 4),
+        (".**.**", 4),
+        (".a.**[0].**.b x", 9),
+        (".**, .**.**", 9),
+        (".**.***", 4),
+    ] {
+        assert_refused(&rt, rt.alloc(), text, SelectFault::DeepTwice, column)?;
     }
     Ok(())
 }

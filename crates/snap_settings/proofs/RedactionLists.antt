@@ -5,7 +5,7 @@ use Rattle.snap_content.specs.Tree.{Tree}
 use Rattle.snap_select.specs.Redacted.{redacted}
 use Rattle.snap_select.specs.Put.{put_of}
 use Rattle.snap_select.specs.Refusal.{IsRefused}
-use Rattle.snap_select.specs.Selectors.{segments_of}
+use Rattle.snap_select.specs.Selectors.{parts_of}
 use Rattle.snap_select.specs.declared.fault.SelectError.{SelectError}
 use Rattle.snap_select.specs.declared.redaction.Redaction.{Redaction}
 use Rattle.snap_select.specs.declared.selector.Selector.{Selector}
@@ -21,7 +21,7 @@ map-push (x ∷ ps) p = ap (λ rs. redaction_of x ∷ rs) (map-push ps p)
 
 -- one redaction more
 pub one_more : (ps : List (Selector × Redaction)) (i : ℕ) (p : Selector × Redaction) (t : Tree) → i < length ps → p ≡ get_or ps i p
-    → redacted_by (map redaction_of (take (i + 1) ps)) t ≡ redacted (segments_of p.0) (put_of p.1) [] (redacted_by (map redaction_of (take i ps)) t)
+    → redacted_by (map redaction_of (take (i + 1) ps)) t ≡ redacted (parts_of p.0) (put_of p.1) [] (redacted_by (map redaction_of (take i ps)) t)
 one_more ps i p t h is =
     ap (λ qs. redacted_by (map redaction_of qs) t) (take_more ps i p h ∙ ap (λ x. take i ps ++ x ∷ []) (sym is))
     ∙ ap (λ rs. redacted_by rs t) (map-push (take i ps) p)

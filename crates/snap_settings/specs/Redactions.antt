@@ -6,7 +6,7 @@ use Rattle.snap_select.specs.Redacted.{redacted}
 use Rattle.snap_select.specs.Parts.{Parts}
 use Rattle.snap_select.specs.Put.{put_of}
 use Rattle.snap_select.specs.Refusal.{IsRefused}
-use Rattle.snap_select.specs.Selectors.{segments_of}
+use Rattle.snap_select.specs.Selectors.{parts_of}
 use Rattle.snap_select.specs.declared.fault.SelectError.{SelectError}
 use Rattle.snap_select.specs.declared.fault.SelectError.TheVariants.{OutOfMemory}
 use Rattle.snap_select.specs.declared.redaction.Redaction.{Redaction}
@@ -19,7 +19,7 @@ pub record RedactionView : Type 0 where
   pub put : Tree → Tree
 
 abbrev pub redaction_of : Selector × Redaction → RedactionView
-redaction_of pair = record { parts = segments_of pair.0; put = put_of pair.1 }
+redaction_of pair = record { parts = parts_of pair.0; put = put_of pair.1 }
 
 abbrev pub redactions_of : Redactions → List RedactionView
 redactions_of redactions = map redaction_of redactions.items.items

@@ -5,14 +5,14 @@ use Rattle.snap_content.specs.View.{tree}
 use Rattle.snap_select.specs.Put.{put_of}
 use Rattle.snap_select.specs.Redacted.{redacted}
 use Rattle.snap_select.specs.Redacts.{Redacts}
-use Rattle.snap_select.specs.Selectors.{segments_of}
+use Rattle.snap_select.specs.Selectors.{parts_of}
 use Rattle.snap_select.proofs.QuietTrees.{quiet_tree}
 use Rattle.snap_select.proofs.RedactedParts.{redacted_redacts}
 use Rattle.snap_select.proofs.selector.Selector.redact.Goals as goal
 
 pub returns-clause-redacted : goal.returns-clause-redacted
 returns-clause-redacted c =
-    let ss = segments_of c.args.self.now in
+    let ss = parts_of c.args.self.now in
     let put = put_of c.args.redaction.now in
     let value = tree c.args.value in
     IfOk-weaker c.redact_tree.result _ _ (λ out e.
@@ -22,7 +22,7 @@ returns-clause-redacted c =
 
 pub returns-clause-untouched : goal.returns-clause-untouched
 returns-clause-untouched c =
-    let ss = segments_of c.args.self.now in
+    let ss = parts_of c.args.self.now in
     let put = put_of c.args.redaction.now in
     let value = tree c.args.value in
     IfOk-weaker c.redact_tree.result _ _ (λ out e quiet. e ∙ quiet_tree ss put value [] quiet) c.redact_tree.ensures

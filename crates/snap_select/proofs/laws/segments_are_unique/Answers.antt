@@ -1,7 +1,0 @@
-use Rattle.std.proofs.Common.{◌≡◌, sym, ◌∙◌}
-use Rattle.snap_select.specs.Reading.{selects}
-use Rattle.snap_select.proofs.Outcomes.{selector_selects}
-use Rattle.snap_select.proofs.laws.segments_are_unique.Goals as goal
-
-pub returns : goal.returns
-returns c text a b h k = let e : selects a ≡ selects b = sym (selector_selects text a h) ∙ selector_selects text b k in cc
