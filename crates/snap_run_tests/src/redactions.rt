@@ -8,7 +8,7 @@ use std::test::Fail;
 const FRONT: &str = "---\nmodule: m\nfile: src/a.rs\nline: 7\nname: one\nexpr: x\n";
 
 /// What follows in a request, the exit status, and the body of the file; an empty one where no file is written.
-const CASES: [(&str, u8, &str); 14] = [
+const CASES: [(&str, u8, &str); 15] = [
     (
         "redactions:\n  - at: \".id\"\n    put: \"[id]\"\nvalue:\n  id: 42\n  user: joe\n",
         0,
@@ -21,7 +21,12 @@ const CASES: [(&str, u8, &str); 14] = [
     ),
     ("value:\n  a: 1\nredactions: []\n", 0, "a: 1\n"),
     (
-        "redactions:\n  - at: \".*\"\n    put: 1\nvalue:\n  a: 1\n",
+        "redactions:\n  - at: \".**.id, .users[1:].a\"\n    put: \"[x]\"\nvalue:\n  id: 1\n  users:\n    - a: 1\n      b:\n        id: 2\n    - a: 3\n",
+        0,
+        "id: \"[x]\"\nusers:\n  - a: 1\n    b:\n      id: \"[x]\"\n  - a: \"[x]\"\n",
+    ),
+    (
+        "redactions:\n  - at: \".a.\"\n    put: 1\nvalue:\n  a: 1\n",
         3,
         "",
     ),
