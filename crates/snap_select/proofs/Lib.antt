@@ -8,3 +8,6 @@ pub mod Tokens
 pub mod Walks
 pub mod Places
 pub mod Starts
+pub mod Fitting
+pub mod Outcomes
+pub mod LeastFaults
