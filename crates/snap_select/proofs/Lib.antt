@@ -11,3 +11,4 @@ pub mod Starts
 pub mod Fitting
 pub mod Outcomes
 pub mod LeastFaults
+pub mod WorkedExamples
