@@ -11,3 +11,7 @@ pub mod Tokens
 pub mod Walks
 pub mod Places
 pub mod Starts
+pub mod Fitting
+pub mod Outcomes
+pub mod LeastFaults
+pub mod WorkedExamples

@@ -6,7 +6,8 @@ use Rattle.std.specs.List.{list_all}
 use Rattle.std.specs.Prelude.{◌==◌}
 use Rattle.unicode_ident.specs.Ident.{is_xid_start, is_xid_continue}
 use Rattle.unicode_ident.proofs.Computing.{unicode_ident}
-use Rattle.snap_select.specs.Faults.{Begins}
+use Rattle.snap_select.specs.Deep.{has_deep}
+use Rattle.snap_select.specs.Faults.{Begins, Opens}
 use Rattle.snap_select.specs.Grammar.{is_blank, AreBlanks, begins_name, IsName, dotted, bracketed, Behind, Bracketed, signed_value, Spells, SpellsEach, MayFollowDot, Stands, SpellsPart, BeforeComma, EachBeforeComma, IsSpelled}
 use Rattle.snap_select.specs.Parts.{Parts}
 use Rattle.snap_select.specs.Reading.{Token, dot, in_name, star, bracket, in_quotes, backslash, minus, number, behind_number, colon, to_minus, to_number, closing, Place, before_part, first_dot, ready, inside, behind_part, step, ended}
@@ -261,3 +262,55 @@ leads_begins t z h =
 
 pub begins_leads : (t : List ℕ) → Begins t → (z : Place) × Leads (before_part []) t z
 begins_leads t h = let k = spelled_on (t ++ h.rest) h.parts h.spelled in let w = leads_half (before_part []) t h.rest k.to k.leads in (w.0, w.1)
+
+-- a place where a bracket may open, and where a dot may stand behind a deep wildcard
+pub record MayOpen (s : Place) (text : List ℕ) (ps : Parts) (ss : List Segment) : Type 0 where
+  pub to : Place
+  pub leads : Leads s text to
+  pub opened : step to 91 ≡ Some (inside ps ss bracket)
+  pub dotted : has_deep ss ≡ true → step to 46 ≡ Some (inside ps ss dot)
+
+at_end_opens : (s : Place) (text : List ℕ) (ps : Parts) (ss : List Segment) (to : Place) → Leads s text to → AtEnd to ps ss → MayOpen s text ps ss
+at_end_opens s text ps ss to h k = record { to = to; leads = h; opened = k.opened; dotted = λ e. k.dotted }
+
+plain_opens : (ps : Parts) (ss : List Segment) (body : List ℕ) → SpellsEach ss body → MayOpen (before_part ps) body ps ss
+plain_opens ps [] body h = record { to = before_part ps; leads = leads_as (before_part ps) [] body (before_part ps) (sym h) refl; opened = refl; dotted = λ e. absurd (cc) }
+plain_opens ps (y ∷ ys) body h =
+    let k = each_on (ready ps []) ps [] (y ∷ ys) body (at_ready ps []) h in
+    at_end_opens (before_part ps) body ps (y ∷ ys) k.to (by_first ps body k.to (each_shape y ys body h) k.leads) k.at
+
+no_shape : Shape [] → ⊥
+no_shape (by_bracket r is) = cc
+no_shape (by_name c r is begins) = cc
+no_shape (by_star r is) = cc
+
+dot_opens : (ps : Parts) → MayOpen (before_part ps) (46 ∷ []) ps []
+unfolding unicode_ident is_xid_start
+dot_opens ps = record { to = first_dot ps; leads = (first_dot ps, refl, refl); opened = refl; dotted = λ e. absurd (cc) }
+
+led_opens : (ps : Parts) (ss : List Segment) (body : List ℕ) → SpellsEach ss body → MayFollowDot body → MayOpen (before_part ps) (46 ∷ body) ps ss
+led_opens ps [] [] h k = dot_opens ps
+led_opens ps (y ∷ ys) [] h k = absurd (no_shape (each_shape y ys [] h))
+led_opens ps ss (c ∷ cs) h k =
+    let e = each_on (ready ps []) ps [] ss (c ∷ cs) (at_ready ps []) h in
+    let same : c ∷ cs ≡ 91 ∷ cs = ap (λ x. x ∷ cs) k in
+    at_end_opens (before_part ps) (46 ∷ c ∷ cs) ps ss e.to
+    (leads_as (before_part ps) (46 ∷ 91 ∷ cs) (46 ∷ c ∷ cs) e.to (ap (λ x. 46 ∷ x) (sym same)) (led_first ps cs e.to (leads_as (ready ps []) (c ∷ cs) (91 ∷ cs) e.to same e.leads))) e.at
+
+stands_opens : (ps : Parts) (ss : List Segment) (text : List ℕ) → Stands ss text → MayOpen (before_part ps) text ps ss
+stands_opens ps ss text h =
+    let P : List ℕ → Type 0 = λ x. MayOpen (before_part ps) x ps ss in
+    elim h.led [ inl e ↦ subst P (sym e) (plain_opens ps ss h.body h.each) | inr p ↦ subst P (sym p.0) (led_opens ps ss h.body h.each p.1) ]
+
+pub opens_leads : (ss : List Segment) (text : List ℕ) (h : Opens ss text) → MayOpen (before_part []) text h.earlier ss
+opens_leads ss text h =
+    let k = stands_opens h.earlier ss h.body h.stands in
+    let z = before_part h.earlier in
+    record {
+      to = k.to;
+      leads = leads_as (before_part []) ((h.front ++ h.blanks) ++ h.body) text k.to (sym h.is)
+          (leads_on (before_part []) (h.front ++ h.blanks) h.body z k.to
+          (leads_on (before_part []) h.front h.blanks z z (commas_on [] h.earlier h.front h.commas) (along_blanks z h.blanks (start_blank h.earlier) h.blank)) k.leads);
+      opened = k.opened;
+      dotted = k.dotted;
+    }

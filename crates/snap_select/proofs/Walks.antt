@@ -48,7 +48,7 @@ blank_is c h = pick (c == 32) (c == 9) h (λ e. inl (eqb-true c 32 e)) (λ e. in
     pick true b e f g = f refl
     pick false b e f g = g e
 
-at_blank : (P : ℕ → Type 0) (c : ℕ) → is_blank c ≡ true → P 32 → P 9 → P c
+pub at_blank : (P : ℕ → Type 0) (c : ℕ) → is_blank c ≡ true → P 32 → P 9 → P c
 at_blank P c h k m = elim (blank_is c h) [ inl e ↦ subst P (sym e) k | inr e ↦ subst P (sym e) m ]
 
 -- along blanks, where a blank changes nothing
@@ -197,7 +197,7 @@ key_dotted s ps ss (c ∷ cs) h k = record {
 }
 
 -- through brackets
-bracket_blank : (ps : Parts) (ss : List Segment) (c : ℕ) → is_blank c ≡ true → step (inside ps ss bracket) c ≡ Some (inside ps ss bracket)
+pub bracket_blank : (ps : Parts) (ss : List Segment) (c : ℕ) → is_blank c ≡ true → step (inside ps ss bracket) c ≡ Some (inside ps ss bracket)
 bracket_blank ps ss c h = rw h refl
 
 colon_blank : (ps : Parts) (ss : List Segment) (from : Option ℤ) (c : ℕ) → is_blank c ≡ true → step (inside ps ss (colon from)) c ≡ Some (inside ps ss (colon from))
@@ -245,7 +245,7 @@ gap_on ps ss negative digits count (c ∷ cs) b total e =
     (inside ps ss (behind_number negative digits (suc count)), rw q.0 refl, gap_on ps ss negative digits (suc count) cs q.1 total (omega (arith, e)))
 
 -- where a number has been read, with blanks behind it or without
-pub at_number : Parts → List Segment → Bool → List ℕ → List ℕ → Place
+unfoldable pub at_number : Parts → List Segment → Bool → List ℕ → List ℕ → Place
 at_number ps ss negative digits [] = inside ps ss (number negative digits)
 at_number ps ss negative digits (c ∷ cs) = inside ps ss (behind_number negative digits (length (c ∷ cs)))
 

@@ -1,7 +1,7 @@
-use Rattle.snap_select.proofs.Tokens.{token_on}
-use Rattle.snap_select.proofs.Walks.{each_on}
-use Rattle.snap_select.proofs.Starts.{begins_leads}
+use Rattle.std.proofs.Common.{◌≡◌, sym, ◌∙◌}
+use Rattle.snap_select.specs.Reading.{selects}
+use Rattle.snap_select.proofs.Outcomes.{selector_selects}
 use Rattle.snap_select.proofs.laws.parts_are_unique.Goals as goal
 
 pub returns : goal.returns
-returns c text a b h k = ?
+returns c text a b h k = let e : selects a ≡ selects b = sym (selector_selects text a h) ∙ selector_selects text b k in cc

@@ -1,0 +1,13 @@
+use Rattle.std.proofs.Common.{◌≡◌, length}
+use denote.Text.{Utf8}
+use denote.Shadow.{shadow}
+use Rattle.std.specs.Str.{chars}
+use Rattle.snap_select.specs.Pieces.{past}
+use Rattle.snap_select.specs.Grammar.{is_blank}
+use Rattle.snap_select.proofs.pieces.past_blanks.Given as goal
+
+abbrev pub invariant-loop-c : goal.invariant-loop-c
+invariant-loop-c l = record { utf8 : shadow (Utf8 l.rest); same : past is_blank (chars l.rest) ≡ past is_blank (chars l.initial.text) }
+
+abbrev pub decreases-loop-c : goal.decreases-loop-c
+decreases-loop-c l = length (chars l.rest)
