@@ -1,17 +1,17 @@
--- The segments of a text that a reader was given.
-use Rattle.std.proofs.Common.{◌≡◌, ℕ, List, None, Some, ap, refl}
+-- The parts of a text that a reader was given.
+use Rattle.std.proofs.Common.{◌≡◌, ℕ, List, [], None, Some, ap, refl}
 use Rattle.snap_select.specs.Grammar.{IsSelector}
-use Rattle.snap_select.specs.Reading.{Outcome, selects, refuses, outcome, at_start}
-use Rattle.snap_select.specs.Selected.{segments_in, selected}
-use Rattle.snap_select.specs.declared.segment.Segment.{Segment}
+use Rattle.snap_select.specs.Parts.{Parts}
+use Rattle.snap_select.specs.Reading.{Outcome, selects, refuses, outcome, before_part}
+use Rattle.snap_select.specs.Selected.{parts_in, selected}
 use Rattle.snap_select.proofs.Outcomes.{selector_selects, selects_selector}
 
-pub selected-is : (text : List ℕ) (segments : List Segment) → IsSelector text segments → selected text ≡ Some segments
-selected-is text segments h = ap segments_in (selector_selects text segments h)
+pub selected-is : (text : List ℕ) (parts : Parts) → IsSelector text parts → selected text ≡ Some parts
+selected-is text parts h = ap parts_in (selector_selects text parts h)
 
-pub selected-none : (text : List ℕ) → ((segments : List Segment) → IsSelector text segments → ⊥) → selected text ≡ None
-selected-none text refused = by (outcome at_start text) refl
+pub selected-none : (text : List ℕ) → ((parts : Parts) → IsSelector text parts → ⊥) → selected text ≡ None
+selected-none text refused = by (outcome (before_part []) text) refl
   where
-    by : (o : Outcome) → outcome at_start text ≡ o → segments_in (outcome at_start text) ≡ None
-    by (selects segments) is = absurd (refused segments (selects_selector text segments is))
-    by (refuses fault left) is = ap segments_in is
+    by : (o : Outcome) → outcome (before_part []) text ≡ o → parts_in (outcome (before_part []) text) ≡ None
+    by (selects parts) is = absurd (refused parts (selects_selector text parts is))
+    by (refuses fault left) is = ap parts_in is

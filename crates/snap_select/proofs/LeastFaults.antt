@@ -355,6 +355,7 @@ large_flawed text place h = by_case h.large
   where
     m : MayOpen (before_part []) h.before h.opens.earlier h.segments
     m = opens_leads h.segments h.before h.opens
+
     by_case : IsTooLarge h.opening h.negative h.digits h.after → Flawed text TooLarge place
     by_case (neither blanks e b i u) =
         over_flawed text (h.before ++ 91 ∷ blanks) h.negative h.digits h.after h.opens.earlier h.segments place (same_lead text h.before h.opening (91 ∷ blanks) h.negative h.digits h.after h.is e)
@@ -547,6 +548,7 @@ no_flaw text left kind place h k =
         let Q : List ℕ → Type 0 = λ x. Stuck z x in
         let S : Place → Type 0 = λ x. step x d ≡ Some w.2.0 in
         none_some Place (step z d) w.2.0 (subst Q f stuck).0 (subst S same w.2.1)
+
     flaw_behind : (other rest front m : List ℕ) (d : ℕ) (back : List ℕ) (c : ℕ) (z near : Place) → Fitting (before_part []) front z → Leads (before_part []) other near → flaw near c ≡ Some kind → front ≡ other ++ d ∷ m → c ∷ rest ≡ d ∷ m ++ back → ⊥
     flaw_behind other rest front m d back c z near h k flawed e f =
         let P : List ℕ → Type 0 = λ x. Fitting (before_part []) x z in
@@ -567,6 +569,7 @@ stuck_first text left column h count other place k = elim (any_flawed text other
   where
     leads : Leads (before_part []) h.front h.to
     leads = fitting_leads (before_part []) h.front h.to h.fitting
+
     least : BadTokenAt text place → column ≤ place
     least b = elim (cuts h.front h.back b.front b.back (sym h.is ∙ b.is)) [
       | ahead m e f ↦ omega (arith, h.count, ap length h.is, length-append h.front h.back, ap length e, length-append h.front m, b.place, count)
@@ -605,6 +608,7 @@ flaw_order text kind other left column place h at k =
         let same = leads_once (before_part []) h.front w.0 h.near w.1 (fitting_leads (before_part []) h.front h.near h.fitting) in
         let s = since_along w.0 m k.near w.2 in
         omega (arith, at, k.at, ap length e, length-append h.front m, s, ap since same)
+
     earlier : (c : ℕ) (m : List ℕ) → h.front ≡ k.front ++ c ∷ m → k.c ∷ k.back ≡ c ∷ m ++ h.c ∷ h.back → ⊥
     earlier c m e f =
         let P : List ℕ → Type 0 = λ x. Fitting (before_part []) x h.near in

@@ -140,8 +140,22 @@ fn ranges_of_long_lists(rt: HostRuntime) -> Result<(), Fail> {
     assert_item(&rt, alloc, "[-1:]", most - 1, most, true)?;
     assert_item(&rt, alloc, "[-1:]", most - 2, most, false)?;
     assert_item(&rt, alloc, "[:9223372036854775807]", most - 1, most, false)?;
-    assert_item(&rt, alloc, "[-9223372036854775808:]", 9223372036854775807, most, true)?;
-    assert_item(&rt, alloc, "[-9223372036854775808:]", 9223372036854775806, most, false)
+    assert_item(
+        &rt,
+        alloc,
+        "[-9223372036854775808:]",
+        9223372036854775807,
+        most,
+        true,
+    )?;
+    assert_item(
+        &rt,
+        alloc,
+        "[-9223372036854775808:]",
+        9223372036854775806,
+        most,
+        false,
+    )
 }
 
 #[test]
