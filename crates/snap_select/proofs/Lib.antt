@@ -12,3 +12,5 @@ pub mod Fitting
 pub mod Outcomes
 pub mod LeastFaults
 pub mod WorkedExamples
+pub mod Oversize
+pub mod Readers
