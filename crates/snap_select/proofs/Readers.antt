@@ -13,7 +13,7 @@ use Rattle.snap_select.specs.Grammar.{is_blank, AreBlanks, begins_name, IsName, 
 use Rattle.snap_select.specs.Parts.{Parts}
 use Rattle.snap_select.specs.Pieces.{past, front, is_decimal, Fails, IsNameThen, goes_on_dot, unsigned, IsNumber, number_value, IsNumberThen}
 use Rattle.snap_select.specs.Reading.{Token, dot, in_name, star, bracket, in_quotes, minus, number, behind_number, colon, to_minus, to_number, closing, behind, Place, before_part, first_dot, ready, inside, behind_part, step, ended, flaw, since, is_far, is_over, Outcome, selects, refuses, outcome}
-use Rattle.snap_select.specs.Stops.{IsStop, GoesOn, StopsAt, Closes, ClosesNot, IsNumberBehind, once_deep}
+use Rattle.snap_select.specs.Stops.{IsStop, GoesOn, StopsAt, Closes, ClosesNot, IsNumberBehind, once_deep, ReadsWildcard, ReadsDotted, ReadsSegment}
 use Rattle.snap_select.specs.declared.fault.SelectFault.{SelectFault}
 use Rattle.snap_select.specs.declared.fault.SelectFault.TheVariants.{BadToken, DeepTwice, TooLarge}
 use Rattle.snap_select.specs.declared.segment.Segment.{Segment}
@@ -414,3 +414,104 @@ past_shorter p text = omega (arith, ap length (cut_at p text), length-append (fr
 
 pub closing_shorter : (text rest more : List ℕ) → length rest ≤ length text → Closes rest more → length more < length text
 closing_shorter text rest more h k = omega (arith, h, past_shorter is_blank rest, ap length k)
+
+-- names and wildcards
+name_fitting : (ps : Parts) (ss : List Segment) (name cs : List ℕ) → IsTrue (list_all is_xid_continue cs) → Fitting (inside ps ss (in_name name)) cs (inside ps ss (in_name (name ++ cs)))
+name_fitting ps ss name [] h = ap (λ x. inside ps ss (in_name x)) (sym (append-nil name))
+name_fitting ps ss name (c ∷ cs) h =
+    let q = and_parts (is_xid_continue c) (list_all is_xid_continue cs) h in
+    let P : List ℕ → Type 0 = λ x. Fitting (inside ps ss (in_name (name ++ c ∷ []))) cs (inside ps ss (in_name x)) in
+    (inside ps ss (in_name (name ++ c ∷ [])), rw q.0 refl, refl, subst P (append_assoc name (c ∷ []) cs) (name_fitting ps ss (name ++ c ∷ []) cs q.1))
+
+named_fitting : (ps : Parts) (ss : List Segment) (name : List ℕ) → IsName name → Fitting (inside ps ss dot) name (inside ps ss (in_name name))
+named_fitting ps ss [] h = absurd h
+named_fitting ps ss (c ∷ cs) h = (inside ps ss (in_name (c ∷ [])), rw h.0 refl, refl, name_fitting ps ss (c ∷ []) cs h.1)
+
+ready_ended : (ps : Parts) (ss : List Segment) (token : Token) (segment : Segment) (c : ℕ) (cs : List ℕ) → step (inside ps ss token) c ≡ step (ready ps (ss ++ segment ∷ [])) c → flaw (inside ps ss token) c ≡ None
+    → outcome (inside ps ss token) (c ∷ cs) ≡ outcome (ready ps (ss ++ segment ∷ [])) (c ∷ cs)
+ready_ended ps ss token segment c cs e f = rw (f, e) refl
+
+name_ends : (ps : Parts) (ss : List Segment) (name rest : List ℕ) → Fails is_xid_continue rest → outcome (inside ps ss (in_name name)) rest ≡ outcome (ready ps (ss ++ Key name ∷ [])) rest
+name_ends ps ss name [] h = refl
+name_ends ps ss name (c ∷ cs) h = ready_ended ps ss (in_name name) (Key name) c cs (rw h refl) refl
+
+pub name_read : (text name key rest : List ℕ) → IsNameThen text name rest → key ≡ name → (ps : Parts) (ss : List Segment) → outcome (inside ps ss dot) text ≡ outcome (ready ps (ss ++ Key key ∷ [])) rest
+name_read text name key rest h e ps ss =
+    ap (λ x. outcome (inside ps ss dot) x) h.is ∙ along (inside ps ss dot) name (inside ps ss (in_name name)) rest (named_fitting ps ss name h.named)
+    ∙ name_ends ps ss name rest h.ends ∙ ap (λ x. outcome (ready ps (ss ++ Key x ∷ [])) rest) (sym e)
+
+name_long : (name : List ℕ) → IsName name → 0 < length name
+name_long [] h = absurd h
+name_long (c ∷ cs) h = omega arith
+
+pub name_shorter : (text name rest : List ℕ) → IsNameThen text name rest → length rest < length text
+name_shorter text name rest h = omega (arith, ap length h.is, length-append name rest, name_long name h.named)
+
+pub no_name : (text : List ℕ) → Fails begins_name text → ((cs : List ℕ) → text ≡ 42 ∷ cs → ⊥) → (ps : Parts) (ss : List Segment) → outcome (inside ps ss dot) text ≡ refuses BadToken (length text)
+no_name [] h k ps ss = refl
+no_name (c ∷ cs) h k ps ss = let a = apart c 42 cs k in rw (h, a) refl
+
+pub one_star : (text : List ℕ) → ((cs : List ℕ) → text ≡ 42 ∷ cs → ⊥) → (ps : Parts) (ss : List Segment) → outcome (inside ps ss star) text ≡ outcome (ready ps (ss ++ Wildcard ∷ [])) text
+one_star [] h ps ss = refl
+one_star (c ∷ cs) h ps ss = let a = apart c 42 cs h in ready_ended ps ss star Wildcard c cs (rw a refl) (rw a refl)
+
+two_stars_so : (ps : Parts) (ss : List Segment) (rest : List ℕ) (b : Bool) → has_deep ss ≡ b → outcome (inside ps ss star) (42 ∷ rest) ≡ cond b (refuses DeepTwice (suc (length rest) + 2)) (outcome (ready ps (ss ++ DeepWildcard ∷ [])) rest)
+two_stars_so ps ss rest true e = rw e (ap (λ x. refuses DeepTwice x) (omega arith))
+two_stars_so ps ss rest false e = rw e refl
+
+pub two_stars : (text rest : List ℕ) → text ≡ 42 ∷ rest → (ps : Parts) (ss : List Segment) → outcome (inside ps ss star) text ≡ once_deep ps ss DeepWildcard (length text + 2) rest
+two_stars text rest e ps ss = ap (λ x. outcome (inside ps ss star) x) e ∙ two_stars_so ps ss rest (has_deep ss) refl ∙ ap (λ x. once_deep ps ss DeepWildcard (length x + 2) rest) (sym e)
+
+star_dotted : (ps : Parts) (ss : List Segment) (rest : List ℕ) → outcome (inside ps ss dot) (42 ∷ rest) ≡ outcome (inside ps ss star) rest
+unfolding unicode_ident is_xid_start
+star_dotted ps ss rest = refl
+
+pub wildcard_read : (text rest : List ℕ) (segment : Segment) (more : List ℕ) → text ≡ 42 ∷ rest → ReadsWildcard rest segment more → ReadsDotted text segment more
+wildcard_read text rest segment more e h ps ss =
+    ap (λ x. outcome (inside ps ss dot) x) e ∙ star_dotted ps ss rest ∙ h ps ss ∙ ap (λ x. once_deep ps ss segment x more) (omega (arith, ap length e))
+
+-- a segment that is no deep wildcard
+pub plain_reads : (ps : Parts) (ss : List Segment) (segment : Segment) (left : ℕ) (rest : List ℕ) → is_deep segment ≡ false → outcome (ready ps (ss ++ segment ∷ [])) rest ≡ once_deep ps ss segment left rest
+plain_reads ps ss segment left rest h = rw h refl
+
+pub dotted_read : (text rest : List ℕ) (segment : Segment) (more : List ℕ) → text ≡ 46 ∷ rest → ReadsDotted rest segment more → ReadsSegment text segment more
+dotted_read text rest segment more e h ps ss =
+    ap (λ x. outcome (ready ps ss) x) e ∙ h ps ss ∙ ap (λ x. once_deep ps ss segment x more) (omega (arith, ap length e))
+
+-- behind blanks
+pub past_stays : (p : ℕ → Bool) (text : List ℕ) → Fails p text → past p text ≡ text
+past_stays p [] h = refl
+past_stays p (c ∷ cs) h = rw h refl
+
+pub past_ends : (p : ℕ → Bool) (text rest : List ℕ) → rest ≡ past p text → Fails p rest
+past_ends p text rest e = let P : List ℕ → Type 0 = λ x. Fails p x in subst P (sym e) (past_fails p text)
+
+pub colon_skipped : (from : Option ℤ) (text t : List ℕ) (s : Segment) (rest : List ℕ) → t ≡ past is_blank text → GoesOn (colon from) t s rest → GoesOn (colon from) text s rest
+colon_skipped from text t s rest e h ps ss = skip_colon ps ss from text ∙ ap (λ x. outcome (inside ps ss (colon from)) x) (sym e) ∙ h ps ss
+
+pub colon_stopped : (from : Option ℤ) (text t : List ℕ) (s : Stop) → t ≡ past is_blank text → StopsAt (colon from) t s → StopsAt (colon from) text s
+colon_stopped from text t s e h ps ss =
+    let P : Outcome → Type 0 = λ x. IsStop x s in subst P (sym (skip_colon ps ss from text ∙ ap (λ x. outcome (inside ps ss (colon from)) x) (sym e))) (h ps ss)
+
+pub bracket_skipped : (text t : List ℕ) (s : Segment) (rest : List ℕ) → t ≡ past is_blank text → GoesOn bracket t s rest → GoesOn bracket text s rest
+bracket_skipped text t s rest e h ps ss = skip_bracket ps ss text ∙ ap (λ x. outcome (inside ps ss bracket) x) (sym e) ∙ h ps ss
+
+pub bracket_stopped : (text t : List ℕ) (s : Stop) → t ≡ past is_blank text → StopsAt bracket t s → StopsAt bracket text s
+bracket_stopped text t s e h ps ss =
+    let P : Outcome → Type 0 = λ x. IsStop x s in subst P (sym (skip_bracket ps ss text ∙ ap (λ x. outcome (inside ps ss bracket) x) (sym e))) (h ps ss)
+
+-- behind one character that leads on
+pub led_goes : (token before : Token) (text t : List ℕ) (s : Segment) (rest : List ℕ) → ((ps : Parts) (ss : List Segment) → outcome (inside ps ss before) text ≡ outcome (inside ps ss token) t) → GoesOn token t s rest → GoesOn before text s rest
+led_goes token before text t s rest e h ps ss = e ps ss ∙ h ps ss
+
+pub led_stops : (token before : Token) (text t : List ℕ) (s : Stop) → ((ps : Parts) (ss : List Segment) → outcome (inside ps ss before) text ≡ outcome (inside ps ss token) t) → StopsAt token t s → StopsAt before text s
+led_stops token before text t s e h ps ss = let P : Outcome → Type 0 = λ x. IsStop x s in subst P (sym (e ps ss)) (h ps ss)
+
+pub quote_opens : (text inside' : List ℕ) → text ≡ 34 ∷ inside' → (ps : Parts) (ss : List Segment) → outcome (inside ps ss bracket) text ≡ outcome (inside ps ss (in_quotes [])) inside'
+quote_opens text inside' e ps ss = ap (λ x. outcome (inside ps ss bracket) x) e
+
+pub number_longer : (text num rest : List ℕ) → text ≡ num ++ rest → length rest ≤ length text
+number_longer text num rest e = omega (arith, ap length e, length-append num rest)
+
+pub behind_longer : (text num rest : List ℕ) → IsNumberBehind text num rest → length rest ≤ length text
+behind_longer text num rest h = omega (arith, past_shorter is_blank h.after, ap length h.left, ap length h.is, length-append num h.after)
