@@ -14,3 +14,4 @@ pub mod LeastFaults
 pub mod WorkedExamples
 pub mod Oversize
 pub mod Readers
+pub mod Bounds

@@ -1,9 +1,10 @@
 -- Fronts of texts, and the numbers of digits.
 use mir.Syntax.{w64}
-use mir.Val.{SFits as FitsSigned}
+use mir.Val.{SFits as FitsSigned, to_z, of_z}
 use Rattle.std.proofs.Common.{◌≡◌, ◌≢◌, ℕ, zero, suc, ℤ, pos, negsuc, append_assoc, ◌^◌, ◌<◌, ◌≤◌, Bool, true, false, List, [], ◌∷◌, ◌++◌, cond, refl, sym, ap, ◌∙◌, subst, arith, Result, Ok, Err, MatchOption, lit<, inl, inr}
 use Rattle.std.proofs.lemmas.Bool.{and_from, eqb-true, ne_eqb, ltb-true, cases_lt}
 use Rattle.std.proofs.lemmas.Bool.Decides.{nat_tests}
+use Rattle.std.proofs.lemmas.Int.{to_z-of_z}
 use Rattle.std.specs.Char.{digit_value}
 use Rattle.std.specs.List.{list_all}
 use Rattle.std.specs.Prelude.{IsTrue, ◌==◌}
@@ -176,3 +177,7 @@ bound_parsed bs r u h k =
     let s = signless (chars bs) k in
     let Q : List ℕ → Type 0 = λ x. IsNumeral 10 x in
     parsed_bound (without_leading_sign (chars bs)) (signed_digits_value 10 (chars bs)) (number_value (chars bs)) r (subst Q (sym s.0) k) s.1 (subst P same h)
+
+-- as a machine's number and back
+pub kept_bound : (z : ℤ) → FitsBound z → to_z w64 (of_z w64 z) ≡ z
+kept_bound z h = to_z-of_z w64 z (bound_fits z h)

@@ -1,9 +1,10 @@
 -- What each reader reads, as outcomes.
-use Rattle.std.proofs.Common.{◌≡◌, ◌≢◌, ℕ, suc, ℤ, pos, neg_ℤ, ◌+◌, ◌^◌, ◌<◌, ◌≤◌, Bool, true, false, ◌⊎◌, inl, inr, List, [], ◌∷◌, ◌++◌, length, Option, Some, None, cond, refl, sym, ap, ◌∙◌, subst, append_assoc, append-nil, arith, length-append, MatchOption}
+use Rattle.std.proofs.Common.{◌≡◌, ◌≢◌, ℕ, suc, ℤ, pos, neg_ℤ, ◌+◌, ◌^◌, ◌<◌, ◌≤◌, Bool, true, false, ◌⊎◌, inl, inr, List, [], ◌∷◌, ◌++◌, length, Option, Some, None, cond, refl, sym, ap, ◌∙◌, subst, append_assoc, append-nil, arith, length-append, MatchOption, Bor, is_some}
 use Rattle.std.proofs.lemmas.Bool.{eqb-true, ne_eqb, lt-ltb, and_parts, le-leb, lt-leb}
 use Rattle.std.specs.Char.{is_digit, digit_value}
 use Rattle.std.specs.List.{list_all}
 use Rattle.std.specs.Prelude.{IsTrue, ◌==◌, ◌&&◌, ◌||◌, not}
+use Rattle.std.specs.Str.{chars}
 use Rattle.std.specs.Str.Parse.{IsNumeral, AllDigits, digits_value}
 use Rattle.snap_content.specs.Front.{begins}
 use Rattle.unicode_ident.specs.Ident.{is_xid_start, is_xid_continue}
@@ -11,7 +12,7 @@ use Rattle.unicode_ident.proofs.Computing.{unicode_ident}
 use Rattle.snap_select.specs.Deep.{is_deep, has_deep}
 use Rattle.snap_select.specs.Grammar.{is_blank, AreBlanks, begins_name, IsName, signed, signed_value, FitsBound}
 use Rattle.snap_select.specs.Parts.{Parts}
-use Rattle.snap_select.specs.Pieces.{past, front, is_decimal, Fails, IsNameThen, goes_on_dot, unsigned, IsNumber, number_value, IsNumberThen}
+use Rattle.snap_select.specs.Pieces.{past, front, is_decimal, Fails, IsNameThen, goes_on_dot, begins_segment, unsigned, IsNumber, number_value, IsNumberThen}
 use Rattle.snap_select.specs.Reading.{Token, dot, in_name, star, bracket, in_quotes, minus, number, behind_number, colon, to_minus, to_number, closing, behind, Place, before_part, first_dot, ready, inside, behind_part, step, ended, flaw, since, is_far, is_over, Outcome, selects, refuses, outcome}
 use Rattle.snap_select.specs.Stops.{IsStop, GoesOn, StopsAt, Closes, ClosesNot, IsNumberBehind, once_deep, ReadsWildcard, ReadsDotted, ReadsSegment}
 use Rattle.snap_select.specs.declared.fault.SelectFault.{SelectFault}
@@ -401,8 +402,9 @@ index_goes text num rest index h b v small k ps ss =
 
 -- from what comes to a closing bracket
 pub closing_goes : (token : Token) (text : List ℕ) (segment : Segment) (rest : List ℕ) → ((ps : Parts) (ss : List Segment) → outcome (inside ps ss token) text ≡ outcome (inside ps ss (closing segment)) rest)
-    → (same : Segment) (more : List ℕ) → same ≡ segment → Closes rest more → GoesOn token text same more
-closing_goes token text segment rest h same more e k ps ss = h ps ss ∙ closes_on ps ss segment rest more k ∙ ap (λ x. outcome (ready ps (ss ++ x ∷ [])) more) (sym e)
+    → is_deep segment ≡ false → (same : Segment) (more : List ℕ) → same ≡ segment → Closes rest more → GoesOn token text same more
+closing_goes token text segment rest h d same more e k =
+    (ap is_deep e ∙ d, λ ps ss. h ps ss ∙ closes_on ps ss segment rest more k ∙ ap (λ x. outcome (ready ps (ss ++ x ∷ [])) more) (sym e))
 
 pub closing_stops : (token : Token) (text : List ℕ) (segment : Segment) (rest : List ℕ) → ((ps : Parts) (ss : List Segment) → outcome (inside ps ss token) text ≡ outcome (inside ps ss (closing segment)) rest)
     → (s : Stop) → ClosesNot rest s → StopsAt token text s
@@ -487,14 +489,14 @@ pub past_ends : (p : ℕ → Bool) (text rest : List ℕ) → rest ≡ past p te
 past_ends p text rest e = let P : List ℕ → Type 0 = λ x. Fails p x in subst P (sym e) (past_fails p text)
 
 pub colon_skipped : (from : Option ℤ) (text t : List ℕ) (s : Segment) (rest : List ℕ) → t ≡ past is_blank text → GoesOn (colon from) t s rest → GoesOn (colon from) text s rest
-colon_skipped from text t s rest e h ps ss = skip_colon ps ss from text ∙ ap (λ x. outcome (inside ps ss (colon from)) x) (sym e) ∙ h ps ss
+colon_skipped from text t s rest e h = (h.0, λ ps ss. skip_colon ps ss from text ∙ ap (λ x. outcome (inside ps ss (colon from)) x) (sym e) ∙ h.1 ps ss)
 
 pub colon_stopped : (from : Option ℤ) (text t : List ℕ) (s : Stop) → t ≡ past is_blank text → StopsAt (colon from) t s → StopsAt (colon from) text s
 colon_stopped from text t s e h ps ss =
     let P : Outcome → Type 0 = λ x. IsStop x s in subst P (sym (skip_colon ps ss from text ∙ ap (λ x. outcome (inside ps ss (colon from)) x) (sym e))) (h ps ss)
 
 pub bracket_skipped : (text t : List ℕ) (s : Segment) (rest : List ℕ) → t ≡ past is_blank text → GoesOn bracket t s rest → GoesOn bracket text s rest
-bracket_skipped text t s rest e h ps ss = skip_bracket ps ss text ∙ ap (λ x. outcome (inside ps ss bracket) x) (sym e) ∙ h ps ss
+bracket_skipped text t s rest e h = (h.0, λ ps ss. skip_bracket ps ss text ∙ ap (λ x. outcome (inside ps ss bracket) x) (sym e) ∙ h.1 ps ss)
 
 pub bracket_stopped : (text t : List ℕ) (s : Stop) → t ≡ past is_blank text → StopsAt bracket t s → StopsAt bracket text s
 bracket_stopped text t s e h ps ss =
@@ -502,7 +504,7 @@ bracket_stopped text t s e h ps ss =
 
 -- behind one character that leads on
 pub led_goes : (token before : Token) (text t : List ℕ) (s : Segment) (rest : List ℕ) → ((ps : Parts) (ss : List Segment) → outcome (inside ps ss before) text ≡ outcome (inside ps ss token) t) → GoesOn token t s rest → GoesOn before text s rest
-led_goes token before text t s rest e h ps ss = e ps ss ∙ h ps ss
+led_goes token before text t s rest e h = (h.0, λ ps ss. e ps ss ∙ h.1 ps ss)
 
 pub led_stops : (token before : Token) (text t : List ℕ) (s : Stop) → ((ps : Parts) (ss : List Segment) → outcome (inside ps ss before) text ≡ outcome (inside ps ss token) t) → StopsAt token t s → StopsAt before text s
 led_stops token before text t s e h ps ss = let P : Outcome → Type 0 = λ x. IsStop x s in subst P (sym (e ps ss)) (h ps ss)
@@ -515,3 +517,115 @@ number_longer text num rest e = omega (arith, ap length e, length-append num res
 
 pub behind_longer : (text num rest : List ℕ) → IsNumberBehind text num rest → length rest ≤ length text
 behind_longer text num rest h = omega (arith, past_shorter is_blank h.after, ap length h.left, ap length h.is, length-append num h.after)
+
+pub same_near : (n v : ℤ) → n ≡ v → FitsBound n → FitsBound v
+same_near n v e h = let P : ℤ → Type 0 = λ x. FitsBound x in subst P e h
+
+-- a segment in brackets
+pub bracketed_read : (text t : List ℕ) (s : Segment) (rest : List ℕ) → text ≡ 91 ∷ t → GoesOn bracket t s rest → ReadsSegment text s rest
+bracketed_read text t s rest e h ps ss = ap (λ x. outcome (ready ps ss) x) e ∙ h.1 ps ss ∙ plain_reads ps ss s (length text) rest h.0
+
+-- behind the last segment of a part
+separated : (ps : Parts) (ss : List Segment) (c : ℕ) (cs : List ℕ) → (c == 46) || (c == 91) ≡ false → outcome (ready ps ss) (c ∷ cs) ≡ outcome (behind_part (ps ++ ss ∷ [])) (c ∷ cs)
+separated ps ss c cs h = let q = neither (c == 46) (c == 91) h in rw (q.0, q.1) refl
+  where
+    neither : (a b : Bool) → a || b ≡ false → (a ≡ false) × (b ≡ false)
+    neither true b h = absurd (cc)
+    neither false b h = (refl, h)
+
+pub ready_ends : (ps : Parts) (ss : List Segment) (text : List ℕ) → begins_segment text ≡ false → outcome (ready ps ss) text ≡ outcome (behind_part (ps ++ ss ∷ [])) text
+ready_ends ps ss [] h = refl
+ready_ends ps ss (c ∷ cs) h = separated ps ss c cs h
+
+-- one segment more
+deep_choice : (d f : Bool) (o : Outcome) (left : ℕ) → d && f ≡ false → cond (d && f) (refuses DeepTwice left) o ≡ o
+deep_choice d f o left h = rw h refl
+
+pub segment_more : (text : List ℕ) (s : Segment) (rest : List ℕ) → ReadsSegment text s rest → (ps : Parts) (ss : List Segment) → is_deep s && has_deep ss ≡ false → outcome (ready ps ss) text ≡ outcome (ready ps (ss ++ s ∷ [])) rest
+segment_more text s rest h ps ss e = h ps ss ∙ deep_choice (is_deep s) (has_deep ss) (outcome (ready ps (ss ++ s ∷ [])) rest) (length text) e
+
+pub deep_refused : (text : List ℕ) (s : Segment) (rest : List ℕ) → ReadsSegment text s rest → (ps : Parts) (ss : List Segment) → is_deep s && has_deep ss ≡ true → outcome (ready ps ss) text ≡ refuses DeepTwice (length text)
+deep_refused text s rest h ps ss e = h ps ss ∙ rw e refl
+
+-- where a part begins
+star_here : (ps : Parts) (cs : List ℕ) → outcome (first_dot ps) (42 ∷ cs) ≡ outcome (inside ps [] dot) (42 ∷ cs)
+unfolding unicode_ident is_xid_start
+star_here ps cs = refl
+
+bracket_here : (ps : Parts) (cs : List ℕ) → outcome (first_dot ps) (91 ∷ cs) ≡ outcome (ready ps []) (91 ∷ cs)
+unfolding unicode_ident is_xid_start
+bracket_here ps cs = refl
+
+first_dotted : (ps : Parts) (text : List ℕ) → goes_on_dot text ≡ true → outcome (first_dot ps) text ≡ outcome (inside ps [] dot) text
+first_dotted ps [] h = absurd (cc)
+first_dotted ps (c ∷ cs) h = by_name (begins_name c) refl h
+  where
+    star_same : (c : ℕ) → c ≡ 42 → outcome (first_dot ps) (c ∷ cs) ≡ outcome (inside ps [] dot) (c ∷ cs)
+    star_same c e = ap (λ x. outcome (first_dot ps) (x ∷ cs)) e ∙ star_here ps cs ∙ ap (λ x. outcome (inside ps [] dot) (x ∷ cs)) (sym e)
+    by_name : (b : Bool) → begins_name c ≡ b → b || (c == 42) ≡ true → outcome (first_dot ps) (c ∷ cs) ≡ outcome (inside ps [] dot) (c ∷ cs)
+    by_name true e h = rw e refl
+    by_name false e h = star_same c (eqb-true c 42 h)
+
+pub dotted_part : (ps : Parts) (text body : List ℕ) → text ≡ 46 ∷ body → goes_on_dot body ≡ true → outcome (before_part ps) text ≡ outcome (ready ps []) text
+dotted_part ps text body e h = ap (λ x. outcome (before_part ps) x) e ∙ first_dotted ps body h ∙ ap (λ x. outcome (ready ps []) x) (sym e)
+
+-- behind a first dot that no name and no star follows
+pub led_part : (ps : Parts) (text : List ℕ) → goes_on_dot text ≡ false → begins 91 text ≡ true → outcome (first_dot ps) text ≡ outcome (ready ps []) text
+led_part ps [] h k = absurd (cc)
+led_part ps (c ∷ cs) h k = bracket_same c (eqb-true c 91 k)
+  where
+    bracket_same : (c : ℕ) → c ≡ 91 → outcome (first_dot ps) (c ∷ cs) ≡ outcome (ready ps []) (c ∷ cs)
+    bracket_same c e = ap (λ x. outcome (first_dot ps) (x ∷ cs)) e ∙ bracket_here ps cs ∙ ap (λ x. outcome (ready ps []) (x ∷ cs)) (sym e)
+
+pub lone_part : (ps : Parts) (text : List ℕ) → goes_on_dot text ≡ false → begins 91 text ≡ false → outcome (first_dot ps) text ≡ outcome (behind_part (ps ++ [] ∷ [])) text
+lone_part ps [] h k = refl
+lone_part ps (c ∷ cs) h k = let q = neither (begins_name c) (c == 42) h in rw (q.0, q.1, k) refl
+  where
+    neither : (a b : Bool) → a || b ≡ false → (a ≡ false) × (b ≡ false)
+    neither true b h = absurd (cc)
+    neither false b h = (refl, h)
+
+-- a part that begins with a segment
+pub unled_part : (ps : Parts) (text : List ℕ) → begins_segment text ≡ true → ((cs : List ℕ) → text ≡ 46 ∷ cs → goes_on_dot cs ≡ true) → outcome (before_part ps) text ≡ outcome (ready ps []) text
+unled_part ps [] h k = absurd (cc)
+unled_part ps (c ∷ cs) h k = by_dot (c == 46) refl h
+  where
+    opened : (c : ℕ) → c ≡ 91 → outcome (before_part ps) (c ∷ cs) ≡ outcome (ready ps []) (c ∷ cs)
+    opened c e = ap (λ x. outcome (before_part ps) (x ∷ cs)) e ∙ ap (λ x. outcome (ready ps []) (x ∷ cs)) (sym e)
+    by_dot : (b : Bool) → (c == 46) ≡ b → b || (c == 91) ≡ true → outcome (before_part ps) (c ∷ cs) ≡ outcome (ready ps []) (c ∷ cs)
+    by_dot true e h = let is = ap (λ x. x ∷ cs) (eqb-true c 46 e) in dotted_part ps (c ∷ cs) cs is (k cs is)
+    by_dot false e h = opened c (eqb-true c 91 h)
+
+pub no_part : (ps : Parts) (text : List ℕ) → Fails is_blank text → begins_segment text ≡ false → outcome (before_part ps) text ≡ refuses BadToken (length text)
+no_part ps [] h k = refl
+no_part ps (c ∷ cs) h k = let q = neither (c == 46) (c == 91) k in rw (h, q.0, q.1) refl
+  where
+    neither : (a b : Bool) → a || b ≡ false → (a ≡ false) × (b ≡ false)
+    neither true b h = absurd (cc)
+    neither false b h = (refl, h)
+
+-- behind a part
+pub comma_on : (ps : Parts) (text t later : List ℕ) → t ≡ past is_blank text → t ≡ 44 ∷ later → outcome (behind_part ps) text ≡ outcome (before_part ps) later
+comma_on ps text t later e h = skip_behind ps text ∙ ap (λ x. outcome (behind_part ps) x) (sym e ∙ h)
+
+pub part_end : (ps : Parts) (text t : List ℕ) → t ≡ past is_blank text → t ≡ [] → outcome (behind_part ps) text ≡ selects ps
+part_end ps text t e h = skip_behind ps text ∙ ap (λ x. outcome (behind_part ps) x) (sym e ∙ h)
+
+no_comma_here : (ps : Parts) (t : List ℕ) → Fails is_blank t → ((cs : List ℕ) → t ≡ 44 ∷ cs → ⊥) → 0 < length t → outcome (behind_part ps) t ≡ refuses BadToken (length t)
+no_comma_here ps [] h k n = absurd (omega arith)
+no_comma_here ps (c ∷ cs) h k n = let a = apart c 44 cs k in rw (h, a) refl
+
+pub no_comma : (ps : Parts) (text t : List ℕ) → t ≡ past is_blank text → ((cs : List ℕ) → t ≡ 44 ∷ cs → ⊥) → 0 < length t → outcome (behind_part ps) text ≡ refuses BadToken (length t)
+no_comma ps text t e k n = skip_behind ps text ∙ ap (λ x. outcome (behind_part ps) x) (sym e) ∙ no_comma_here ps t (past_ends is_blank text t e) k n
+
+-- from a test that nothing is left
+is_left : (a b c : Bool) → a ≡ not b → b ≡ c → a ≡ not c
+is_left a b c h k = h ∙ ap not k
+
+pub none_left : {A : Type 0} (o : Option A) (cs : List ℕ) (Q : A → Type 0) (b : Bool) → MatchOption o (cs ≡ []) Q → is_some o ≡ not b → b ≡ true → cs ≡ []
+none_left None cs Q b h e k = h
+none_left (Some x) cs Q b h e k = absurd (let f = is_left true b true e k in cc)
+
+pub some_left : (o : Option (ℕ × Bor (List ℕ))) (cs : List ℕ) (b : Bool) → MatchOption o (cs ≡ []) (λ p. cs ≡ p.0 ∷ chars p.1.now) → is_some o ≡ not b → b ≡ false → 0 < length cs
+some_left None cs b h e k = absurd (let f = is_left false b false e k in cc)
+some_left (Some p) cs b h e k = omega (arith, ap length h)

@@ -1,9 +1,10 @@
-use Rattle.std.proofs.Common.{sym, ◌∙◌}
+use Rattle.std.proofs.Common.{refl, sym, ◌∙◌}
 use Rattle.std.proofs.lemmas.Result.{IfOk-weaker, IfErr-weaker}
 use Rattle.std.specs.Str.{chars}
 use Rattle.snap_select.specs.Reading.{bracket}
 use Rattle.snap_select.specs.declared.segment.Segment.TheVariants.{Index}
-use Rattle.snap_select.proofs.Readers.{minus_far, minus_near, index_large, index_goes, plain_numeral, closing_goes, closing_stops, closing_shorter, behind_longer}
+use Rattle.snap_select.proofs.Readers.{minus_far, minus_near, index_large, index_goes, plain_numeral, closing_goes, closing_stops, closing_shorter, behind_longer, same_near}
+use Rattle.snap_select.specs.Pieces.{number_value}
 use Rattle.snap_select.proofs.reading.read_index.Goals as goal
 
 pub returns-in-None-clause-stop : goal.returns-in-None-clause-stop
@@ -12,7 +13,11 @@ returns-in-None-clause-stop c =
     minus_far (chars c.args.text.now) (chars c.args.number.now) (chars c.args.rest.now) h (sym c.begins_with.ensures ∙ c.if-begins_with.true) (c.in-None.ensures h.numeral)
 
 pub returns-in-Some-clause-stop : goal.returns-in-Some-clause-stop
-returns-in-Some-clause-stop c = ?
+returns-in-Some-clause-stop c =
+    let h = c.requires.number in
+    let num = chars c.args.number.now in
+    let bound = c.in-Some.ensures h.numeral in
+    minus_near (chars c.args.text.now) num (chars c.args.rest.now) h (sym c.begins_with.ensures ∙ c.if-begins_with.true) (same_near c.in-Some.field-0 (number_value num) bound.0 bound.1) c.requires.no_colon
 
 pub returns-in-None-index_of-clause-stop : goal.returns-in-None-index_of-clause-stop
 returns-in-None-index_of-clause-stop c =
@@ -29,7 +34,7 @@ returns-in-Some-index_of-clause-ok c =
     let text = chars c.args.text.now in
     let rest = chars c.args.rest.now in
     let goes = index_goes text num rest c.in-Some-index_of.index h plain (c.in-Some-index_of.ensures.number (plain_numeral num h.numeral plain)) c.in-Some-index_of.ensures.small c.requires.no_colon in
-    IfOk-weaker c.closed.result _ _ (λ p k. closing_goes bracket text (Index c.in-Some-index_of.index) rest goes p.0 (chars p.1.now) k.0 k.1) c.closed.ensures.ok
+    IfOk-weaker c.closed.result _ _ (λ p k. closing_goes bracket text (Index c.in-Some-index_of.index) rest goes refl p.0 (chars p.1.now) k.0 k.1) c.closed.ensures.ok
 
 pub returns-in-Some-index_of-clause-stop : goal.returns-in-Some-index_of-clause-stop
 returns-in-Some-index_of-clause-stop c =

@@ -1,4 +1,4 @@
-use Rattle.std.proofs.Common.{◌≡◌, ◌<◌, [], length, ap, ◌∙◌, List, sym, arith}
+use Rattle.std.proofs.Common.{◌≡◌, ◌<◌, [], length, refl, ap, ◌∙◌, List, sym, arith}
 use Rattle.std.proofs.lemmas.Result.{IfOk-weaker, IfErr-weaker}
 use Rattle.std.proofs.lemmas.Str.{chars-nil}
 use Rattle.std.specs.Str.{chars}
@@ -19,7 +19,7 @@ returns-in-Some-clause-ok c =
     let key = c.in-Some.key in
     let rest = chars c.in-Some.rest.now in
     let h : (ps : Parts) (ss : List Segment) → outcome (inside ps ss (in_quotes [])) text ≡ outcome (inside ps ss (closing (Key key))) rest = λ ps ss. rw c.in-Some.is at (c.in-Ok.ensures.key ps ss) in
-    IfOk-weaker c.closed.result _ _ (λ p k. closing_goes (in_quotes []) text (Key key) rest h p.0 (chars p.1.now) k.0 k.1) c.closed.ensures.ok
+    IfOk-weaker c.closed.result _ _ (λ p k. closing_goes (in_quotes []) text (Key key) rest h refl p.0 (chars p.1.now) k.0 k.1) c.closed.ensures.ok
 
 pub returns-in-Some-clause-stop : goal.returns-in-Some-clause-stop
 returns-in-Some-clause-stop c =

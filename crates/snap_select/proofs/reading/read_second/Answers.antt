@@ -1,12 +1,13 @@
-use Rattle.std.proofs.Common.{ℤ, Some, length, subst, ap, sym, ◌∙◌, arith}
+use Rattle.std.proofs.Common.{Some, length, refl, ap, sym, ◌∙◌}
 use Rattle.std.proofs.lemmas.Result.{IfOk-weaker, IfErr-weaker}
 use Rattle.std.specs.Str.{chars}
-use Rattle.snap_select.specs.Grammar.{is_blank, FitsBound}
+use Rattle.snap_select.specs.Grammar.{is_blank}
 use Rattle.snap_select.specs.Pieces.{number_value}
 use Rattle.snap_select.specs.Reading.{colon, refuses}
 use Rattle.snap_select.specs.declared.fault.SelectFault.TheVariants.{BadToken}
 use Rattle.snap_select.specs.declared.segment.Segment.TheVariants.{Range}
-use Rattle.snap_select.proofs.Readers.{to_no_number, to_far, to_near, past_stays, closing_goes, closing_stops, closing_shorter, number_longer}
+use Rattle.snap_select.proofs.Readers.{to_no_number, to_far, to_near, past_stays, closing_goes, closing_stops, closing_shorter, number_longer, same_near}
+use Rattle.snap_select.proofs.PieceFacts.{kept_bound}
 use Rattle.snap_select.proofs.reading.read_second.Goals as goal
 
 pub returns-in-None-clause-stop : goal.returns-in-None-clause-stop
@@ -28,9 +29,8 @@ returns-in-Some-bound_of-clause-ok c =
     let rest = chars c.in-Some.rest.now in
     let h = c.in-Some.ensures in
     let bound = c.in-Some-bound_of.ensures h.numeral in
-    let near = λ (w : ℤ). FitsBound w in
-    let goes = to_near c.args.from text text num rest (sym (past_stays is_blank text c.requires.no_blank)) h (subst near bound.0 bound.1) in
-    IfOk-weaker c.closed.result _ _ (λ p k. closing_goes (colon c.args.from) text (Range c.args.from (Some (number_value num))) rest goes p.0 (chars p.1.now) (k.0 ∙ ap (λ x. Range c.args.from (Some x)) bound.0) k.1) c.closed.ensures.ok
+    let goes = to_near c.args.from text text num rest (sym (past_stays is_blank text c.requires.no_blank)) h (same_near c.in-Some-bound_of.bound (number_value num) bound.0 bound.1) in
+    IfOk-weaker c.closed.result _ _ (λ p k. closing_goes (colon c.args.from) text (Range c.args.from (Some (number_value num))) rest goes refl p.0 (chars p.1.now) (k.0 ∙ ap (λ x. Range c.args.from (Some x)) (kept_bound c.in-Some-bound_of.bound bound.1 ∙ bound.0)) k.1) c.closed.ensures.ok
 
 pub returns-in-Some-bound_of-clause-stop : goal.returns-in-Some-bound_of-clause-stop
 returns-in-Some-bound_of-clause-stop c =
@@ -39,8 +39,7 @@ returns-in-Some-bound_of-clause-stop c =
     let rest = chars c.in-Some.rest.now in
     let h = c.in-Some.ensures in
     let bound = c.in-Some-bound_of.ensures h.numeral in
-    let near = λ (w : ℤ). FitsBound w in
-    let goes = to_near c.args.from text text num rest (sym (past_stays is_blank text c.requires.no_blank)) h (subst near bound.0 bound.1) in
+    let goes = to_near c.args.from text text num rest (sym (past_stays is_blank text c.requires.no_blank)) h (same_near c.in-Some-bound_of.bound (number_value num) bound.0 bound.1) in
     IfErr-weaker c.closed.result _ _ (λ s k. closing_stops (colon c.args.from) text (Range c.args.from (Some (number_value num))) rest goes s k) c.closed.ensures.stop
 
 pub returns-in-Some-bound_of-clause-shorter : goal.returns-in-Some-bound_of-clause-shorter

@@ -1,4 +1,4 @@
-use Rattle.std.proofs.Common.{length, ap, sym, ◌∙◌, arith}
+use Rattle.std.proofs.Common.{length, refl, ap, sym, ◌∙◌, arith}
 use Rattle.std.proofs.lemmas.Result.{IfOk-weaker, IfErr-weaker}
 use Rattle.std.specs.Str.{chars}
 use Rattle.snap_select.specs.Grammar.{is_blank}
@@ -6,7 +6,7 @@ use Rattle.snap_select.proofs.Readers.{to_closed, past_shorter, past_ends, colon
 use Rattle.snap_select.proofs.reading.read_to.Goals as goal
 
 pub returns-in-Some-clause-ok : goal.returns-in-Some-clause-ok
-returns-in-Some-clause-ok c = to_closed c.args.from (chars c.args.text.now) (chars c.in-Some.rest.now) (sym c.past_blanks-text.ensures ∙ c.in-Some.ensures)
+returns-in-Some-clause-ok c = (refl, to_closed c.args.from (chars c.args.text.now) (chars c.in-Some.rest.now) (sym c.past_blanks-text.ensures ∙ c.in-Some.ensures))
 
 pub returns-in-Some-clause-shorter : goal.returns-in-Some-clause-shorter
 returns-in-Some-clause-shorter c = omega (arith, past_shorter is_blank (chars c.args.text.now), ap length (sym c.past_blanks-text.ensures ∙ c.in-Some.ensures))
