@@ -14,7 +14,7 @@ use Rattle.snap_select.specs.Grammar.{is_blank, AreBlanks, begins_name, IsName, 
 use Rattle.snap_select.specs.Parts.{Parts}
 use Rattle.snap_select.specs.Pieces.{past, front, is_decimal, Fails, IsNameThen, goes_on_dot, begins_segment, unsigned, IsNumber, number_value, IsNumberThen}
 use Rattle.snap_select.specs.Reading.{Token, dot, in_name, star, bracket, in_quotes, minus, number, behind_number, colon, to_minus, to_number, closing, behind, Place, before_part, first_dot, ready, inside, behind_part, step, ended, flaw, since, is_far, is_over, Outcome, selects, refuses, outcome}
-use Rattle.snap_select.specs.Stops.{IsStop, GoesOn, StopsAt, Closes, ClosesNot, IsNumberBehind, once_deep, ReadsWildcard, ReadsDotted, ReadsSegment}
+use Rattle.snap_select.specs.Stops.{IsStop, GoesOn, StopsAt, Closes, ClosesNot, IsNumberBehind, once_deep, ReadsWildcard, ReadsDotted, ReadsSegment, ReadsPart, StopsPart}
 use Rattle.snap_select.specs.declared.fault.SelectFault.{SelectFault}
 use Rattle.snap_select.specs.declared.fault.SelectFault.TheVariants.{BadToken, DeepTwice, TooLarge}
 use Rattle.snap_select.specs.declared.segment.Segment.{Segment}
@@ -629,3 +629,19 @@ none_left (Some x) cs Q b h e k = absurd (let f = is_left true b true e k in cc)
 pub some_left : (o : Option (ℕ × Bor (List ℕ))) (cs : List ℕ) (b : Bool) → MatchOption o (cs ≡ []) (λ p. cs ≡ p.0 ∷ chars p.1.now) → is_some o ≡ not b → b ≡ false → 0 < length cs
 some_left None cs b h e k = absurd (let f = is_left false b false e k in cc)
 some_left (Some p) cs b h e k = omega (arith, ap length h)
+
+-- from one place to another
+pub stop_along : (o p : Outcome) (s : Stop) → o ≡ p → IsStop p s → IsStop o s
+stop_along o p s e h = let P : Outcome → Type 0 = λ x. IsStop x s in subst P (sym e) h
+
+pub part_along : (place near : Parts → Place) (text t : List ℕ) (part : List Segment) (rest : List ℕ) → ((ps : Parts) → outcome (place ps) text ≡ outcome (near ps) t) → ReadsPart near t part rest → ReadsPart place text part rest
+part_along place near text t part rest e h ps = e ps ∙ h ps
+
+pub part_stop_along : (place near : Parts → Place) (text t : List ℕ) (s : Stop) → ((ps : Parts) → outcome (place ps) text ≡ outcome (near ps) t) → StopsPart near t s → StopsPart place text s
+part_stop_along place near text t s e h ps = stop_along (outcome (place ps) text) (outcome (near ps) t) s (e ps) (h ps)
+
+pub dot_first : (text t body : List ℕ) → t ≡ past is_blank text → t ≡ 46 ∷ body → (ps : Parts) → outcome (before_part ps) text ≡ outcome (first_dot ps) body
+dot_first text t body e h ps = skip_start ps text ∙ ap (λ x. outcome (before_part ps) x) (sym e ∙ h)
+
+pub start_skipped : (text t : List ℕ) → t ≡ past is_blank text → (ps : Parts) → outcome (before_part ps) text ≡ outcome (before_part ps) t
+start_skipped text t e ps = skip_start ps text ∙ ap (λ x. outcome (before_part ps) x) (sym e)
