@@ -17,6 +17,7 @@ use Rattle.snap_select.specs.declared.fault.SelectFault.TheVariants.{BadToken, D
 use Rattle.snap_select.specs.declared.segment.Segment.{Segment}
 use Rattle.snap_select.specs.declared.segment.Segment.TheVariants.{Key, Index, Range, Wildcard, DeepWildcard}
 use Rattle.snap_select.proofs.Fitting.{Fitting, fitting_leads, near_fits, fits_near, one_near, near_over}
+use Rattle.snap_select.proofs.Oversize.{far_unfit, unfit_far, over_unfit, over_far, unfit_over, first_digit}
 use Rattle.snap_select.proofs.Outcomes.{Stuck, StuckAt, FlawAt, Why, by_end, by_stuck, by_flaw, why, selector_selects}
 use Rattle.snap_select.proofs.Places.{Means, Opened}
 use Rattle.snap_select.proofs.Starts.{leads_means, spelled_on, leads_begins, begins_leads, MayOpen, opens_leads}
@@ -188,62 +189,6 @@ record Flawed (text : List ℕ) (kind : SelectFault) (place : ℕ) : Type 0 wher
   leads : Leads (before_part []) front near
   flawed : flaw near c ≡ Some kind
   at : place + since near ≡ length front + 1
-
--- bounds and indices that don't fit
-far_unfit : (bound : ℤ) → is_far bound ≡ true → ¬ FitsBound bound
-far_unfit bound h = λ k. let f = fits_near bound k in absurd (cc)
-
-unfit_far : (bound : ℤ) → ¬ FitsBound bound → is_far bound ≡ true
-unfit_far bound h = true_or (is_far bound) refl
-  where
-    true_or : (b : Bool) → is_far bound ≡ b → is_far bound ≡ true
-    true_or true e = e
-    true_or false e = absurd (h (near_fits bound e))
-
-over_unfit : (negative : Bool) (ds : List ℕ) → is_over negative ds ≡ true → ¬ FitsIndex negative ds
-over_unfit true ds h = λ k. absurd (let e = k.0 in cc)
-over_unfit false ds h = λ k. absurd (let f = lt-leb (2 ^ 64) (digits_value 10 ds) k.1 in cc)
-
-over_far : (negative : Bool) (ds : List ℕ) → is_over negative ds ≡ true → is_far (signed_value negative ds) ≡ true
-over_far negative ds h = true_or (is_far (signed_value negative ds)) refl
-  where
-    true_or : (b : Bool) → is_far (signed_value negative ds) ≡ b → is_far (signed_value negative ds) ≡ true
-    true_or true e = e
-    true_or false e = absurd (let f = near_over negative ds e in cc)
-
-unfit_over : (negative : Bool) (ds : List ℕ) → ¬ FitsIndex negative ds → ¬ FitsBound (signed_value negative ds) → is_over negative ds ≡ true
-unfit_over true ds h k = unfit_far (signed_value true ds) k
-unfit_over false ds h k = true_or (is_over false ds) refl
-  where
-    true_or : (b : Bool) → is_over false ds ≡ b → is_over false ds ≡ true
-    true_or true e = e
-    true_or false e = absurd (h (refl, leb-false (2 ^ 64) (digits_value 10 ds) e))
-
--- the digit at which a test of the digits so far first passes
-record FirstDigit (test : List ℕ → Bool) (a b : List ℕ) : Type 0 where
-  x : List ℕ
-  c : ℕ
-  y : List ℕ
-  is : b ≡ x ++ c ∷ y
-  passes : test ((a ++ x) ++ c ∷ []) ≡ true
-  digits : AllDigits 10 x
-  digit : digit_value c < 10
-
-first_digit : (test : List ℕ → Bool) (a b : List ℕ) → AllDigits 10 b → test a ≡ false → test (a ++ b) ≡ true → FirstDigit test a b
-first_digit test a [] h n k = absurd (let e = ap test (append-nil a) in cc)
-first_digit test a (c ∷ cs) h n k = here (test (a ++ c ∷ [])) refl (λ e. first_digit test (a ++ c ∷ []) cs h.1 e (ap test (append_assoc a (c ∷ []) cs) ∙ k))
-  where
-    here : (b : Bool) → test (a ++ c ∷ []) ≡ b → (test (a ++ c ∷ []) ≡ false → FirstDigit test (a ++ c ∷ []) cs) → FirstDigit test a (c ∷ cs)
-    here true e m = record { x = []; c = c; y = cs; is = refl; passes = ap (λ z. test (z ++ c ∷ [])) (append-nil a) ∙ e; digits = tt; digit = h.0 }
-    here false e m = let w = m e in record {
-      x = c ∷ w.x;
-      c = w.c;
-      y = w.y;
-      is = ap (λ z. c ∷ z) w.is;
-      passes = ap (λ z. test (z ++ w.c ∷ [])) (sym (append_assoc a (c ∷ []) w.x)) ∙ w.passes;
-      digits = (h.0, w.digits);
-      digit = w.digit;
-    }
 
 -- groups of texts
 regroup : (p s t a : List ℕ) → (p ++ (s ++ t)) ++ a ≡ (p ++ s) ++ (t ++ a)

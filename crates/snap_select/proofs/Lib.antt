@@ -15,3 +15,6 @@ pub mod Fitting
 pub mod Outcomes
 pub mod LeastFaults
 pub mod WorkedExamples
+pub mod Oversize
+pub mod Readers
+pub mod Bounds

@@ -1,17 +1,20 @@
 -- Fronts of texts, and the numbers of digits.
-use Rattle.std.proofs.Common.{◌≡◌, ◌≢◌, ℕ, zero, suc, ◌^◌, ◌<◌, ◌≤◌, Bool, true, false, List, [], ◌∷◌, ◌++◌, cond, refl, sym, ap, ◌∙◌, subst, arith, Result, Ok, Err, MatchOption, lit<, inl, inr}
-use Rattle.std.proofs.lemmas.Bool.{and_from, ne_eqb, ltb-true, cases_lt}
+use mir.Syntax.{w64}
+use mir.Val.{SFits as FitsSigned, to_z, of_z}
+use Rattle.std.proofs.Common.{◌≡◌, ◌≢◌, ℕ, zero, suc, ℤ, pos, negsuc, append_assoc, ◌^◌, ◌<◌, ◌≤◌, Bool, true, false, List, [], ◌∷◌, ◌++◌, cond, refl, sym, ap, ◌∙◌, subst, arith, Result, Ok, Err, MatchOption, lit<, inl, inr}
+use Rattle.std.proofs.lemmas.Bool.{and_from, eqb-true, ne_eqb, ltb-true, cases_lt}
 use Rattle.std.proofs.lemmas.Bool.Decides.{nat_tests}
+use Rattle.std.proofs.lemmas.Int.{to_z-of_z}
 use Rattle.std.specs.Char.{digit_value}
 use Rattle.std.specs.List.{list_all}
-use Rattle.std.specs.Prelude.{IsTrue}
+use Rattle.std.specs.Prelude.{IsTrue, ◌==◌}
 use Rattle.std.specs.Result.{result_ok, OkIff}
 use Rattle.std.specs.Str.{chars, IsUtf8, IsAscii}
-use Rattle.std.specs.Str.Parse.{IsNumeral, AllDigits, digits_value, ParsesUnsigned, without_leading_plus}
+use Rattle.std.specs.Str.Parse.{IsNumeral, AllDigits, digits_value, ParsesUnsigned, ParsesSigned, without_leading_plus, without_leading_sign, signed_digits_value}
 use Rattle.unicode_ident.specs.Ident.{is_xid_continue}
 use Rattle.snap_content.proofs.Ends.{bytes_are}
-use Rattle.snap_select.specs.Grammar.{begins_name}
-use Rattle.snap_select.specs.Pieces.{past, front, is_decimal, Fails, IsNameThen}
+use Rattle.snap_select.specs.Grammar.{begins_name, FitsBound}
+use Rattle.snap_select.specs.Pieces.{past, front, is_decimal, Fails, IsNameThen, unsigned, IsNumber, number_value, IsNumberThen}
 
 cut_step : (b : Bool) (c : ℕ) (cs f r : List ℕ) → cs ≡ f ++ r → c ∷ cs ≡ cond b (c ∷ f) [] ++ cond b r (c ∷ cs)
 cut_step true c cs f r h = ap (λ x. c ∷ x) h
@@ -87,3 +90,96 @@ pub number_parsed : {E : Type 0} (bs : List ℕ) (r : Result ℕ E) → IsUtf8 b
 number_parsed bs r u h k =
     let same : bs ≡ chars bs = bytes_are bs (chars bs) u (digits_ascii (chars bs) k.1) refl in
     parsed (chars bs) (without_leading_plus bs) r k (ap without_leading_plus same ∙ unsigned_same (chars bs) k) h
+
+-- numbers, with a minus or without
+pub minus_front : List ℕ → List ℕ
+minus_front [] = []
+minus_front (c ∷ cs) = cond (c == 45) (c ∷ []) []
+
+minus_cut : (text : List ℕ) → text ≡ minus_front text ++ unsigned text
+unfolding minus_front
+minus_cut [] = refl
+minus_cut (c ∷ cs) = by_minus (c == 45)
+  where
+    by_minus : (b : Bool) → c ∷ cs ≡ cond b (c ∷ []) [] ++ cond b cs (c ∷ cs)
+    by_minus true = refl
+    by_minus false = refl
+
+pub number_cut : (text more rest : List ℕ) (c : ℕ) → unsigned text ≡ c ∷ more → rest ≡ past is_decimal more → text ≡ (minus_front text ++ c ∷ front is_decimal more) ++ rest
+number_cut text more rest c h k =
+    minus_cut text ∙ ap (λ x. minus_front text ++ x) (h ∙ ap (λ x. c ∷ x) (cut_at is_decimal more ∙ ap (λ x. front is_decimal more ++ x) (sym k)))
+    ∙ sym (append_assoc (minus_front text) (c ∷ front is_decimal more) rest)
+
+digit_no_minus : (c : ℕ) → digit_value c < 10 → (c == 45) ≡ false
+digit_no_minus c h = ne_eqb c 45 (λ e. let P : ℕ → Type 0 = λ x. digit_value x < 10 in absurd (omega (arith, subst P e h)))
+
+unsigned_front : (text digits : List ℕ) → IsNumeral 10 digits → unsigned (minus_front text ++ digits) ≡ digits
+unfolding minus_front
+unsigned_front [] [] h = absurd (omega (arith, h.0))
+unsigned_front [] (d ∷ ds) h = rw (digit_no_minus d h.1.0) refl
+unsigned_front (c ∷ cs) [] h = absurd (omega (arith, h.0))
+unsigned_front (c ∷ cs) (d ∷ ds) h = by_minus (c == 45) refl
+  where
+    by_minus : (b : Bool) → (c == 45) ≡ b → unsigned (cond b (c ∷ []) [] ++ d ∷ ds) ≡ d ∷ ds
+    by_minus true e = rw e refl
+    by_minus false e = rw (digit_no_minus d h.1.0) refl
+
+pub number_then : (text more rest number : List ℕ) (c : ℕ) → unsigned text ≡ c ∷ more → rest ≡ past is_decimal more → is_decimal c ≡ true → number ≡ minus_front text ++ c ∷ front is_decimal more → IsNumberThen text number rest
+number_then text more rest number c h k d e =
+    let P : List ℕ → Type 0 = λ x. IsNumberThen text x rest in
+    let Q : List ℕ → Type 0 = λ x. Fails is_decimal x in
+    let R : List ℕ → Type 0 = λ x. IsNumeral 10 x in
+    let numeral : IsNumeral 10 (c ∷ front is_decimal more) = (omega arith, (ltb-true (digit_value c) 10 d, front_digits more)) in
+    subst P (sym e) (record {
+      is = number_cut text more rest c h k;
+      numeral = subst R (sym (unsigned_front text (c ∷ front is_decimal more) numeral)) numeral;
+      ends = subst Q (sym k) (past_fails is_decimal more);
+    })
+
+-- the bound of a number
+fits_bound : (z : ℤ) → FitsSigned w64 z → FitsBound z
+fits_bound (pos n) h = h.sfits
+fits_bound (negsuc n) h = h.sfits
+
+bound_fits : (z : ℤ) → FitsBound z → FitsSigned w64 z
+bound_fits (pos n) h = record { sfits = h }
+bound_fits (negsuc n) h = record { sfits = h }
+
+signless : (number : List ℕ) → IsNumber number → (without_leading_sign number ≡ unsigned number) × (signed_digits_value 10 number ≡ number_value number)
+signless [] h = absurd (omega (arith, h.0))
+signless (c ∷ cs) h = by_minus (c == 45) refl h
+  where
+    plain : (c : ℕ) → IsNumeral 10 (c ∷ cs) → (c == 45) ≡ false → (without_leading_sign (c ∷ cs) ≡ c ∷ cs) × (signed_digits_value 10 (c ∷ cs) ≡ pos (digits_value 10 (c ∷ cs)))
+    plain c h e = let f = ne_eqb c 43 (no_plus c h.1.0) in (rw (e, f) refl, rw (e, f) refl)
+
+    by_minus : (b : Bool) → (c == 45) ≡ b → IsNumeral 10 (cond b cs (c ∷ cs)) → (without_leading_sign (c ∷ cs) ≡ unsigned (c ∷ cs)) × (signed_digits_value 10 (c ∷ cs) ≡ number_value (c ∷ cs))
+    by_minus true e h = (rw e refl, rw e refl)
+    by_minus false e h = let p = plain c h e in (p.0 ∙ rw e refl, p.1 ∙ rw e refl)
+
+number_ascii : (number : List ℕ) → IsNumber number → IsAscii number
+number_ascii [] h = digits_ascii [] tt
+number_ascii (c ∷ cs) h = by_minus (c == 45) refl h
+  where
+    behind_minus : (c : ℕ) → c ≡ 45 → IsAscii cs → IsAscii (c ∷ cs)
+    behind_minus c e h zero = omega (arith, e)
+    behind_minus c e h (suc k) = h k
+
+    by_minus : (b : Bool) → (c == 45) ≡ b → IsNumeral 10 (cond b cs (c ∷ cs)) → IsAscii (c ∷ cs)
+    by_minus true e h = behind_minus c (eqb-true c 45 e) (digits_ascii cs h.1)
+    by_minus false e h = digits_ascii (c ∷ cs) h.1
+
+parsed_bound : {E : Type 0} (ds : List ℕ) (v w : ℤ) (r : Result ℤ E) → IsNumeral 10 ds → v ≡ w → OkIff r (IsNumeral 10 ds × FitsSigned w64 v) v → MatchOption (result_ok r) (¬ FitsBound w) (λ n. (n ≡ w) × FitsBound n)
+parsed_bound ds v w (Ok n) h e k = let P : ℤ → Type 0 = λ x. FitsBound x in (k.1 ∙ e, subst P (sym k.1) (fits_bound v k.0.1))
+parsed_bound ds v w (Err f) h e k = λ u. let P : ℤ → Type 0 = λ x. FitsBound x in k (h, bound_fits v (subst P (sym e) u))
+
+pub bound_parsed : {E : Type 0} (bs : List ℕ) (r : Result ℤ E) → IsUtf8 bs → ParsesSigned w64 10 bs r → IsNumber (chars bs) → MatchOption (result_ok r) (¬ FitsBound (number_value (chars bs))) (λ n. (n ≡ number_value (chars bs)) × FitsBound n)
+bound_parsed bs r u h k =
+    let same : bs ≡ chars bs = bytes_are bs (chars bs) u (number_ascii (chars bs) k) refl in
+    let P : List ℕ → Type 0 = λ x. ParsesSigned w64 10 x r in
+    let s = signless (chars bs) k in
+    let Q : List ℕ → Type 0 = λ x. IsNumeral 10 x in
+    parsed_bound (without_leading_sign (chars bs)) (signed_digits_value 10 (chars bs)) (number_value (chars bs)) r (subst Q (sym s.0) k) s.1 (subst P same h)
+
+-- as a machine's number and back
+pub kept_bound : (z : ℤ) → FitsBound z → to_z w64 (of_z w64 z) ≡ z
+kept_bound z h = to_z-of_z w64 z (bound_fits z h)

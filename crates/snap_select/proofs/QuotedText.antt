@@ -2,8 +2,10 @@
 use Rattle.std.proofs.Common.{◌≡◌, ℕ, ◌<◌, Bool, true, false, List, [], ◌∷◌, ◌++◌, length, cond, refl, sym, ap, ◌∙◌, append_assoc, append-nil, arith, length-append}
 use Rattle.std.specs.Prelude.{◌==◌, ◌||◌, not}
 use Rattle.snap_select.specs.Pieces.{past, front, is_plain}
-use Rattle.snap_select.specs.Reading.{outcome, in_quotes, behind_quotes}
+use Rattle.snap_select.specs.Parts.{Parts}
+use Rattle.snap_select.specs.Reading.{outcome, inside, in_quotes, closing}
 use Rattle.snap_select.specs.declared.segment.Segment.{Segment}
+use Rattle.snap_select.specs.declared.segment.Segment.TheVariants.{Key}
 use Rattle.snap_select.proofs.PieceFacts.{cut_at}
 
 neither : (a b : Bool) → not (a || b) ≡ true → (a ≡ false) × (b ≡ false)
@@ -11,27 +13,27 @@ neither true b h = absurd (cc)
 neither false true h = absurd (cc)
 neither false false h = (refl, refl)
 
-plain_on : (ss : List Segment) (key : List ℕ) (c : ℕ) (cs : List ℕ) → is_plain c ≡ true → outcome (in_quotes ss key) (c ∷ cs) ≡ outcome (in_quotes ss (key ++ c ∷ [])) cs
-plain_on ss key c cs h = let k = neither (c == 34) (c == 92) h in rw (k.0, k.1) refl
+plain_on : (ps : Parts) (ss : List Segment) (key : List ℕ) (c : ℕ) (cs : List ℕ) → is_plain c ≡ true → outcome (inside ps ss (in_quotes key)) (c ∷ cs) ≡ outcome (inside ps ss (in_quotes (key ++ c ∷ []))) cs
+plain_on ps ss key c cs h = let k = neither (c == 34) (c == 92) h in rw (k.0, k.1) refl
 
-quote_on : (ss : List Segment) (key : List ℕ) (c : ℕ) (cs rest : List ℕ) → c ∷ cs ≡ 34 ∷ rest → outcome (in_quotes ss key) (c ∷ cs) ≡ outcome (behind_quotes ss (key ++ [])) rest
-quote_on ss key c cs rest h =
-    ap (λ x. outcome (in_quotes ss key) x) h ∙ ap (λ x. outcome (behind_quotes ss x) rest) (sym (append-nil key))
+quote_on : (ps : Parts) (ss : List Segment) (key : List ℕ) (c : ℕ) (cs rest : List ℕ) → c ∷ cs ≡ 34 ∷ rest → outcome (inside ps ss (in_quotes key)) (c ∷ cs) ≡ outcome (inside ps ss (closing (Key (key ++ [])))) rest
+quote_on ps ss key c cs rest h =
+    ap (λ x. outcome (inside ps ss (in_quotes key)) x) h ∙ ap (λ x. outcome (inside ps ss (closing (Key x))) rest) (sym (append-nil key))
 
-quoted_step : (ss : List Segment) (key : List ℕ) (c : ℕ) (cs rest : List ℕ) (b : Bool) → is_plain c ≡ b
-    → ((k : List ℕ) → past is_plain cs ≡ 34 ∷ rest → outcome (in_quotes ss k) cs ≡ outcome (behind_quotes ss (k ++ front is_plain cs)) rest)
-    → cond b (past is_plain cs) (c ∷ cs) ≡ 34 ∷ rest → outcome (in_quotes ss key) (c ∷ cs) ≡ outcome (behind_quotes ss (key ++ cond b (c ∷ front is_plain cs) [])) rest
-quoted_step ss key c cs rest true e later h =
-    plain_on ss key c cs e ∙ later (key ++ c ∷ []) h ∙ ap (λ x. outcome (behind_quotes ss x) rest) (append_assoc key (c ∷ []) (front is_plain cs))
-quoted_step ss key c cs rest false e later h = quote_on ss key c cs rest h
+quoted_step : (ps : Parts) (ss : List Segment) (key : List ℕ) (c : ℕ) (cs rest : List ℕ) (b : Bool) → is_plain c ≡ b
+    → ((k : List ℕ) → past is_plain cs ≡ 34 ∷ rest → outcome (inside ps ss (in_quotes k)) cs ≡ outcome (inside ps ss (closing (Key (k ++ front is_plain cs)))) rest)
+    → cond b (past is_plain cs) (c ∷ cs) ≡ 34 ∷ rest → outcome (inside ps ss (in_quotes key)) (c ∷ cs) ≡ outcome (inside ps ss (closing (Key (key ++ cond b (c ∷ front is_plain cs) [])))) rest
+quoted_step ps ss key c cs rest true e later h =
+    plain_on ps ss key c cs e ∙ later (key ++ c ∷ []) h ∙ ap (λ x. outcome (inside ps ss (closing (Key x))) rest) (append_assoc key (c ∷ []) (front is_plain cs))
+quoted_step ps ss key c cs rest false e later h = quote_on ps ss key c cs rest h
 
-pub quoted_text : (text : List ℕ) (ss : List Segment) (rest key : List ℕ) → past is_plain text ≡ 34 ∷ rest → outcome (in_quotes ss key) text ≡ outcome (behind_quotes ss (key ++ front is_plain text)) rest
-quoted_text [] ss rest key h = absurd (cc)
-quoted_text (c ∷ cs) ss rest key h = quoted_step ss key c cs rest (is_plain c) refl (λ k. quoted_text cs ss rest k) h
+pub quoted_text : (text : List ℕ) (ps : Parts) (ss : List Segment) (rest key : List ℕ) → past is_plain text ≡ 34 ∷ rest → outcome (inside ps ss (in_quotes key)) text ≡ outcome (inside ps ss (closing (Key (key ++ front is_plain text)))) rest
+quoted_text [] ps ss rest key h = absurd (cc)
+quoted_text (c ∷ cs) ps ss rest key h = quoted_step ps ss key c cs rest (is_plain c) refl (λ k. quoted_text cs ps ss rest k) h
 
 -- the key that was read, and what is left is shorter
-pub quoted_key : (text key rest : List ℕ) → key ≡ front is_plain text → past is_plain text ≡ 34 ∷ rest → (ss : List Segment) → outcome (in_quotes ss []) text ≡ outcome (behind_quotes ss key) rest
-quoted_key text key rest e h ss = quoted_text text ss rest [] h ∙ ap (λ x. outcome (behind_quotes ss x) rest) (sym e)
+pub quoted_key : (text key rest : List ℕ) → key ≡ front is_plain text → past is_plain text ≡ 34 ∷ rest → (ps : Parts) (ss : List Segment) → outcome (inside ps ss (in_quotes [])) text ≡ outcome (inside ps ss (closing (Key key))) rest
+quoted_key text key rest e h ps ss = quoted_text text ps ss rest [] h ∙ ap (λ x. outcome (inside ps ss (closing (Key x))) rest) (sym e)
 
 pub quoted_shorter : (text rest : List ℕ) → past is_plain text ≡ 34 ∷ rest → length rest < length text
 quoted_shorter text rest h =

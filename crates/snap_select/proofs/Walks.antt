@@ -71,7 +71,7 @@ digit_is c h = lt-ltb (digit_value c) 10 h
 digit_apart : (c d : ℕ) → digit_value c < 10 → (digit_value d < 10 → ⊥) → (c == d) ≡ false
 digit_apart c d h k = ne_eqb c d (λ e. let P : ℕ → Type 0 = λ x. digit_value x < 10 in k (subst P e h))
 
-no_blank : (c : ℕ) → digit_value c < 10 → is_blank c ≡ false
+pub no_blank : (c : ℕ) → digit_value c < 10 → is_blank c ≡ false
 no_blank c h = let a = digit_apart c 32 h (λ k. omega arith) in let b = digit_apart c 9 h (λ k. omega arith) in rw (a, b) refl
 
 pub no_quote : (c : ℕ) → digit_value c < 10 → (c == 34) ≡ false

@@ -1,5 +1,5 @@
 -- Why reading stops, and what it comes to where it goes on.
-use Rattle.std.specs.Prelude.{◌≡◌, ◌≢◌, ◌+◌, ◌&&◌, ⊤, ℕ, List, [], ◌∷◌, ◌++◌, length, if◌then◌else◌}
+use Rattle.std.specs.Prelude.{◌≡◌, ◌≢◌, ◌+◌, ◌&&◌, false, ⊤, ℕ, List, [], ◌∷◌, ◌++◌, length, if◌then◌else◌}
 use Rattle.std.specs.Str.{chars}
 use Rattle.snap_select.specs.Deep.{is_deep, has_deep}
 use Rattle.snap_select.specs.Grammar.{is_blank}
@@ -16,9 +16,9 @@ abbrev pub IsStop : Outcome → Stop → Type 0
 IsStop o (Fault kind rest) = o ≡ refuses kind (length (chars rest.now))
 IsStop o OutOfMemory = ⊤
 
--- behind any parts and segments, the text comes to what the rest comes to with one segment more
+-- behind any parts and segments, the text comes to what the rest comes to with one segment more, which is no deep wildcard
 abbrev pub GoesOn : Token → List ℕ → Segment → List ℕ → Type 0
-GoesOn token text segment rest = (ps : Parts) (ss : List Segment) → outcome (inside ps ss token) text ≡ outcome (ready ps (ss ++ segment ∷ [])) rest
+GoesOn token text segment rest = (is_deep segment ≡ false) × ((ps : Parts) (ss : List Segment) → outcome (inside ps ss token) text ≡ outcome (ready ps (ss ++ segment ∷ [])) rest)
 
 -- behind any parts and segments, the text comes to the fault of the stop
 abbrev pub StopsAt : Token → List ℕ → Stop → Type 0

@@ -23,7 +23,7 @@ fn read_segments<'a>(alloc: Global, text: &'a str) -> Result<(Part<'a>, &'a str)
 {
     let mut segments = Vec::new(alloc);
     let mut rest = text;
-    while begins_segment(rest) {
+    'segments: while begins_segment(rest) {
         match read_segment(alloc, rest) {
             Err(stop) => return Err(stop),
             Ok((segment, more)) => {

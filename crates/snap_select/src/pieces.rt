@@ -75,13 +75,20 @@ pub(crate) fn split_name(text: &str) -> Option<(&str, &str)>
     }
 }
 
+/// Whether the character is a decimal digit.
+fn is_decimal(character: char) -> bool
+    ensures { result ≡ is_decimal character }
+{
+    character.to_digit(10).is_some()
+}
+
 /// What is left behind the digits.
 fn past_digits(text: &str) -> &str
     ensures { chars result.now ≡ past is_decimal (chars text.now) }
 {
     let mut rest = text;
     while let Some((c, more)) = split_first(rest) {
-        if c.to_digit(10).is_none() {
+        if !is_decimal(c) {
             return rest;
         }
         rest = more;
@@ -105,7 +112,7 @@ pub(crate) fn split_number(text: &str) -> Option<(&str, &str)>
         (λ p. IsNumberThen (chars text.now) (chars p.0.now) (chars p.1.now)) }
 {
     match split_first(unsigned(text)) {
-        Some((c, more)) if c.to_digit(10).is_some() => {
+        Some((c, more)) if is_decimal(c) => {
             let rest = past_digits(more);
             Some((before_rest(text, rest), rest))
         }

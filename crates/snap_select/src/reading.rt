@@ -27,6 +27,23 @@ fn closed<'a>(segment: Segment<'a>, text: &'a str) -> Result<(Segment<'a>, &'a s
     }
 }
 
+/// The range from the first bound up to the one at the front, and the text behind the closing bracket.
+fn read_second<'a>(from: Option<i64>, text: &'a str) -> Result<(Segment<'a>, &'a str), Stop<'a>>
+    requires no_blank { Fails is_blank (chars text.now) }
+    requires no_bracket { (cs : List ℕ) → chars text.now ≡ 93 ∷ cs → ⊥ }
+    ensures ok { IfOk result (λ p. GoesOn (colon from) (chars text.now) p.0 (chars p.1.now)) }
+    ensures stop { IfErr result (λ s. StopsAt (colon from) (chars text.now) s) }
+    ensures shorter { IfOk result (λ p. length (chars p.1.now) < length (chars text.now)) }
+{
+    match split_number(text) {
+        None => Err(Stop::Fault(SelectFault::BadToken, unsigned(text))),
+        Some((number, rest)) => match bound_of(number) {
+            None => Err(Stop::Fault(SelectFault::TooLarge, text)),
+            Some(bound) => closed(Segment::Range(from, Some(bound)), rest),
+        },
+    }
+}
+
 /// The range from that bound, behind its colon, and the text behind the closing bracket.
 fn read_to<'a>(from: Option<i64>, text: &'a str) -> Result<(Segment<'a>, &'a str), Stop<'a>>
     ensures ok { IfOk result (λ p. GoesOn (colon from) (chars text.now) p.0 (chars p.1.now)) }
@@ -34,15 +51,9 @@ fn read_to<'a>(from: Option<i64>, text: &'a str) -> Result<(Segment<'a>, &'a str
     ensures shorter { IfOk result (λ p. length (chars p.1.now) < length (chars text.now)) }
 {
     let text = past_blanks(text);
-    if let Some(rest) = after_character(text, ']') {
-        return Ok((Segment::Range(from, None), rest));
-    }
-    match split_number(text) {
-        None => Err(Stop::Fault(SelectFault::BadToken, unsigned(text))),
-        Some((number, rest)) => match bound_of(number) {
-            None => Err(Stop::Fault(SelectFault::TooLarge, text)),
-            Some(bound) => closed(Segment::Range(from, Some(bound)), rest),
-        },
+    match after_character(text, ']') {
+        Some(rest) => Ok((Segment::Range(from, None), rest)),
+        None => read_second(from, text),
     }
 }
 

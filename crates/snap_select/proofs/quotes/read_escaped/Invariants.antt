@@ -2,7 +2,8 @@ use Rattle.std.proofs.Common.{◌≡◌, List, [], length, ◌≤◌}
 use denote.Text.{Utf8}
 use denote.Shadow.{shadow}
 use Rattle.std.specs.Str.{chars}
-use Rattle.snap_select.specs.Reading.{outcome, in_quotes}
+use Rattle.snap_select.specs.Reading.{outcome, inside, in_quotes}
+use Rattle.snap_select.specs.Parts.{Parts}
 use Rattle.snap_select.specs.declared.segment.Segment.{Segment}
 use Rattle.snap_select.proofs.quotes.read_escaped.Given as goal
 
@@ -10,7 +11,7 @@ use Rattle.snap_select.proofs.quotes.read_escaped.Given as goal
 abbrev pub invariant-loop-c : goal.invariant-loop-c
 invariant-loop-c l = record {
   utf8 : shadow (Utf8 l.rest);
-  same : (ss : List Segment) → outcome (in_quotes ss []) (chars l.fn.text) ≡ outcome (in_quotes ss l.key) (chars l.rest);
+  same : (ps : Parts) (ss : List Segment) → outcome (inside ps ss (in_quotes [])) (chars l.fn.text) ≡ outcome (inside ps ss (in_quotes l.key)) (chars l.rest);
   within : length (chars l.rest) ≤ length (chars l.fn.text);
 }
 

@@ -2,6 +2,7 @@ use Rattle.std.proofs.Common.{ap, ◌∙◌}
 use Rattle.std.proofs.lemmas.List.{drop_all}
 use Rattle.snap_select.specs.Put.{put_of}
 use Rattle.snap_select.proofs.RedactedLists.{items_step, items_done, pairs_step, pairs_done, fields_step, fields_done, inside_struct, inside_struct_variant}
+use Rattle.snap_select.specs.Selectors.{parts_of}
 use Rattle.snap_select.proofs.redact.+redact.Goals as goal
 
 pub redact_inside-returns-in_ok-fields-in-Struct-clause-ok : goal.redact_inside-returns-in_ok-fields-in-Struct-clause-ok
@@ -25,7 +26,7 @@ redact_items-returns-clause-ok t c = items_done _ _ _ _ _ _ c.loop-item.invarian
 pub redact_pairs-loop-key-preserved : goal.redact_pairs-loop-key-preserved
 redact_pairs-loop-key-preserved t c = record {
   path = c.in_ok-new_value.ensures.path ∙ c.in_ok-new_key.ensures.path ∙ c.loop-key.invariant.path;
-  so_far = pairs_step _ (put_of c.args.redaction.now) _ _ _ _ _ _ _ _ _ _ _ _ c.loop-key.invariant.path c.in_ok-new_key.ensures.path c.in_ok-from_ascii.ensures c.in_ok-try_clone.ensures c.in_ok-new_key.ensures.ok c.in_ok-new_value.ensures.ok
+  so_far = pairs_step (parts_of c.args.selector.now) (put_of c.args.redaction.now) _ _ _ _ _ _ _ _ _ _ _ _ c.loop-key.invariant.path c.in_ok-new_key.ensures.path c.in_ok-from_ascii.ensures c.in_ok-try_clone.ensures c.in_ok-new_key.ensures.ok c.in_ok-new_value.ensures.ok
       c.loop-key.invariant.so_far c.loop-key-test.true c.loop-key-item.is c.in_ok-push.ensures.ok;
 }
 
@@ -35,7 +36,7 @@ redact_pairs-returns-clause-ok t c = pairs_done _ _ _ _ _ _ _ c.loop-key.invaria
 pub redact_fields-loop-name-preserved : goal.redact_fields-loop-name-preserved
 redact_fields-loop-name-preserved t c = record {
   path = c.in_ok-new_value.ensures.path ∙ c.loop-name.invariant.path;
-  so_far = fields_step _ (put_of c.args.redaction.now) _ _ _ _ _ _ _ _ _ _ c.loop-name.invariant.path c.in_ok-try_clone.ensures c.in_ok-try_clone-2.ensures c.in_ok-new_value.ensures.ok
+  so_far = fields_step (parts_of c.args.selector.now) (put_of c.args.redaction.now) _ _ _ _ _ _ _ _ _ _ c.loop-name.invariant.path c.in_ok-try_clone.ensures c.in_ok-try_clone-2.ensures c.in_ok-new_value.ensures.ok
       c.loop-name.invariant.so_far c.loop-name-test.true c.loop-name-item.is c.in_ok-push.ensures.ok;
 }
 

@@ -1,0 +1,17 @@
+-- Bounds as numbers of the machine.
+use mir.Syntax.{w64}
+use mir.Val.{to_z, of_z}
+use Rattle.std.proofs.Common.{◌≡◌, ℤ, ℕ, List, ◌∷◌, Some, sym, ap, ◌∙◌}
+use Rattle.snap_select.specs.Grammar.{is_blank, FitsBound}
+use Rattle.snap_select.specs.Parts.{Parts}
+use Rattle.snap_select.specs.Pieces.{past, number_value, IsNumberThen}
+use Rattle.snap_select.specs.Reading.{bracket, colon, inside, outcome}
+use Rattle.snap_select.specs.declared.segment.Segment.{Segment}
+use Rattle.snap_select.proofs.PieceFacts.{kept_bound}
+use Rattle.snap_select.proofs.Readers.{colon_near, same_near}
+
+-- behind the colon of a number that is a bound
+pub number_colon : (text num after later : List ℕ) (v : ℤ) → IsNumberThen text num after → past is_blank after ≡ 58 ∷ later → v ≡ number_value num → FitsBound v
+    → (ps : Parts) (ss : List Segment) → outcome (inside ps ss bracket) text ≡ outcome (inside ps ss (colon (Some (to_z w64 (of_z w64 v))))) later
+number_colon text num after later v h e is fits ps ss =
+    colon_near text num after later h e (same_near v (number_value num) is fits) ps ss ∙ ap (λ x. outcome (inside ps ss (colon (Some x))) later) (sym (kept_bound v fits ∙ is))
