@@ -1,22 +1,22 @@
 -- A refusal is the fault of the text at the smallest column.
-use Rattle.std.proofs.Common.{◌≡◌, ◌≢◌, ℕ, zero, suc, ℤ, ◌+◌, ◌^◌, ◌<◌, ◌≤◌, Bool, true, false, ◌⊎◌, inl, inr, List, [], ◌∷◌, ◌++◌, length, Option, Some, None, cond, refl, sym, ap, ◌∙◌, subst, append_assoc, append-nil, arith, length-append}
-use Rattle.std.proofs.lemmas.Bool.{eqb-true, and_parts, lt-leb, le-leb, leb-false, leb-true, ltb-true, false_from_ne_true}
+use Rattle.std.proofs.Common.{◌≡◌, ℕ, suc, ℤ, ◌+◌, ◌<◌, ◌≤◌, Bool, true, false, ◌⊎◌, inl, inr, List, [], ◌∷◌, ◌++◌, length, Option, Some, None, cond, refl, sym, ap, ◌∙◌, subst, append_assoc, append-nil, arith, length-append}
+use Rattle.std.proofs.lemmas.Bool.{eqb-true, and_parts}
 use Rattle.std.proofs.lemmas.Option.{same_Some}
 use Rattle.std.specs.Char.{is_digit, digit_value}
-use Rattle.std.specs.Prelude.{◌==◌, ◌&&◌, not, nat_le, ⊤}
-use Rattle.std.specs.Str.Parse.{IsNumeral, AllDigits, digits_value}
+use Rattle.std.specs.Prelude.{◌==◌, ◌&&◌, not, ⊤}
+use Rattle.std.specs.Str.Parse.{IsNumeral, digits_value}
 use Rattle.unicode_ident.specs.Ident.{is_xid_start, is_xid_continue}
 use Rattle.unicode_ident.proofs.Computing.{unicode_ident}
 use Rattle.snap_select.specs.Deep.{has_deep}
-use Rattle.snap_select.specs.Faults.{IsStuck, Begins, BadTokenAt, Opens, FitsIndex, IsTooLarge, neither, first, second, TooLargeAt, DeepTwiceAt, FaultAt, IsFault}
-use Rattle.snap_select.specs.Grammar.{is_blank, AreBlanks, begins_name, signed, signed_value, MayBound, FitsBound, SpellsEach, MayFollowDot, Stands, EachBeforeComma, IsSpelled, IsSelector}
+use Rattle.snap_select.specs.Faults.{IsStuck, BadTokenAt, Opens, IsTooLarge, neither, first, second, TooLargeAt, DeepTwiceAt, FaultAt, IsFault}
+use Rattle.snap_select.specs.Grammar.{is_blank, AreBlanks, begins_name, signed, signed_value, IsSelector}
 use Rattle.snap_select.specs.Parts.{Parts}
 use Rattle.snap_select.specs.Reading.{Token, dot, in_name, star, bracket, in_quotes, backslash, minus, number, behind_number, colon, to_minus, to_number, closing, Move, on, ends, ended_before, nowhere, behind, move, Place, before_part, first_dot, ready, inside, behind_part, separate, follow, moved, step, ended, is_far, is_over, flaw_in, flaw, since_in, since, outcome, refuses}
 use Rattle.snap_select.specs.declared.fault.SelectFault.{SelectFault}
 use Rattle.snap_select.specs.declared.fault.SelectFault.TheVariants.{BadToken, DeepTwice, TooLarge}
 use Rattle.snap_select.specs.declared.segment.Segment.{Segment}
 use Rattle.snap_select.specs.declared.segment.Segment.TheVariants.{Key, Index, Range, Wildcard, DeepWildcard}
-use Rattle.snap_select.proofs.Fitting.{Fitting, fitting_leads, near_fits, fits_near, one_near, near_over}
+use Rattle.snap_select.proofs.Fitting.{Fitting, fitting_leads, one_near, near_over}
 use Rattle.snap_select.proofs.Oversize.{far_unfit, unfit_far, over_unfit, over_far, unfit_over, first_digit}
 use Rattle.snap_select.proofs.Outcomes.{Stuck, StuckAt, FlawAt, Why, by_end, by_stuck, by_flaw, why, selector_selects}
 use Rattle.snap_select.proofs.Places.{Means, Opened}
@@ -300,6 +300,7 @@ large_flawed text place h = by_case h.large
   where
     m : MayOpen (before_part []) h.before h.opens.earlier h.segments
     m = opens_leads h.segments h.before h.opens
+
     by_case : IsTooLarge h.opening h.negative h.digits h.after → Flawed text TooLarge place
     by_case (neither blanks e b i u) =
         over_flawed text (h.before ++ 91 ∷ blanks) h.negative h.digits h.after h.opens.earlier h.segments place (same_lead text h.before h.opening (91 ∷ blanks) h.negative h.digits h.after h.is e)
@@ -492,6 +493,7 @@ no_flaw text left kind place h k =
         let Q : List ℕ → Type 0 = λ x. Stuck z x in
         let S : Place → Type 0 = λ x. step x d ≡ Some w.2.0 in
         none_some Place (step z d) w.2.0 (subst Q f stuck).0 (subst S same w.2.1)
+
     flaw_behind : (other rest front m : List ℕ) (d : ℕ) (back : List ℕ) (c : ℕ) (z near : Place) → Fitting (before_part []) front z → Leads (before_part []) other near → flaw near c ≡ Some kind → front ≡ other ++ d ∷ m → c ∷ rest ≡ d ∷ m ++ back → ⊥
     flaw_behind other rest front m d back c z near h k flawed e f =
         let P : List ℕ → Type 0 = λ x. Fitting (before_part []) x z in
@@ -512,6 +514,7 @@ stuck_first text left column h count other place k = elim (any_flawed text other
   where
     leads : Leads (before_part []) h.front h.to
     leads = fitting_leads (before_part []) h.front h.to h.fitting
+
     least : BadTokenAt text place → column ≤ place
     least b = elim (cuts h.front h.back b.front b.back (sym h.is ∙ b.is)) [
       | ahead m e f ↦ omega (arith, h.count, ap length h.is, length-append h.front h.back, ap length e, length-append h.front m, b.place, count)
@@ -550,6 +553,7 @@ flaw_order text kind other left column place h at k =
         let same = leads_once (before_part []) h.front w.0 h.near w.1 (fitting_leads (before_part []) h.front h.near h.fitting) in
         let s = since_along w.0 m k.near w.2 in
         omega (arith, at, k.at, ap length e, length-append h.front m, s, ap since same)
+
     earlier : (c : ℕ) (m : List ℕ) → h.front ≡ k.front ++ c ∷ m → k.c ∷ k.back ≡ c ∷ m ++ h.c ∷ h.back → ⊥
     earlier c m e f =
         let P : List ℕ → Type 0 = λ x. Fitting (before_part []) x h.near in

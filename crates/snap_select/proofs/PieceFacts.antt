@@ -151,6 +151,7 @@ signless (c ∷ cs) h = by_minus (c == 45) refl h
   where
     plain : (c : ℕ) → IsNumeral 10 (c ∷ cs) → (c == 45) ≡ false → (without_leading_sign (c ∷ cs) ≡ c ∷ cs) × (signed_digits_value 10 (c ∷ cs) ≡ pos (digits_value 10 (c ∷ cs)))
     plain c h e = let f = ne_eqb c 43 (no_plus c h.1.0) in (rw (e, f) refl, rw (e, f) refl)
+
     by_minus : (b : Bool) → (c == 45) ≡ b → IsNumeral 10 (cond b cs (c ∷ cs)) → (without_leading_sign (c ∷ cs) ≡ unsigned (c ∷ cs)) × (signed_digits_value 10 (c ∷ cs) ≡ number_value (c ∷ cs))
     by_minus true e h = (rw e refl, rw e refl)
     by_minus false e h = let p = plain c h e in (p.0 ∙ rw e refl, p.1 ∙ rw e refl)
@@ -162,6 +163,7 @@ number_ascii (c ∷ cs) h = by_minus (c == 45) refl h
     behind_minus : (c : ℕ) → c ≡ 45 → IsAscii cs → IsAscii (c ∷ cs)
     behind_minus c e h zero = omega (arith, e)
     behind_minus c e h (suc k) = h k
+
     by_minus : (b : Bool) → (c == 45) ≡ b → IsNumeral 10 (cond b cs (c ∷ cs)) → IsAscii (c ∷ cs)
     by_minus true e h = behind_minus c (eqb-true c 45 e) (digits_ascii cs h.1)
     by_minus false e h = digits_ascii (c ∷ cs) h.1

@@ -1,7 +1,6 @@
 -- What each reader reads, as outcomes.
-use Rattle.std.proofs.Common.{◌≡◌, ◌≢◌, ℕ, suc, ℤ, pos, neg_ℤ, ◌+◌, ◌^◌, ◌<◌, ◌≤◌, Bool, true, false, ◌⊎◌, inl, inr, List, [], ◌∷◌, ◌++◌, length, Option, Some, None, cond, refl, sym, ap, ◌∙◌, subst, append_assoc, append-nil, arith, length-append, MatchOption, Bor, is_some}
-use Rattle.std.proofs.lemmas.Bool.{eqb-true, ne_eqb, lt-ltb, and_parts, le-leb, lt-leb}
-use Rattle.std.specs.Char.{is_digit, digit_value}
+use Rattle.std.proofs.Common.{◌≡◌, ℕ, suc, ℤ, ◌+◌, ◌^◌, ◌<◌, ◌≤◌, Bool, true, false, List, [], ◌∷◌, ◌++◌, length, Option, Some, None, cond, refl, sym, ap, ◌∙◌, subst, append_assoc, append-nil, arith, length-append, MatchOption, Bor, is_some}
+use Rattle.std.proofs.lemmas.Bool.{eqb-true, ne_eqb, and_parts, le-leb, lt-leb}
 use Rattle.std.specs.List.{list_all}
 use Rattle.std.specs.Prelude.{IsTrue, ◌==◌, ◌&&◌, ◌||◌, not}
 use Rattle.std.specs.Str.{chars}
@@ -13,14 +12,14 @@ use Rattle.snap_select.specs.Deep.{is_deep, has_deep}
 use Rattle.snap_select.specs.Grammar.{is_blank, AreBlanks, begins_name, IsName, signed, signed_value, FitsBound}
 use Rattle.snap_select.specs.Parts.{Parts}
 use Rattle.snap_select.specs.Pieces.{past, front, is_decimal, Fails, IsNameThen, goes_on_dot, begins_segment, unsigned, IsNumber, number_value, IsNumberThen}
-use Rattle.snap_select.specs.Reading.{Token, dot, in_name, star, bracket, in_quotes, minus, number, behind_number, colon, to_minus, to_number, closing, behind, Place, before_part, first_dot, ready, inside, behind_part, step, ended, flaw, since, is_far, is_over, Outcome, selects, refuses, outcome}
+use Rattle.snap_select.specs.Reading.{Token, dot, in_name, star, bracket, in_quotes, minus, number, behind_number, colon, to_minus, to_number, closing, Place, before_part, first_dot, ready, inside, behind_part, step, flaw, since, is_far, is_over, Outcome, selects, refuses, outcome}
 use Rattle.snap_select.specs.Stops.{IsStop, GoesOn, StopsAt, Closes, ClosesNot, IsNumberBehind, once_deep, ReadsWildcard, ReadsDotted, ReadsSegment, ReadsPart, StopsPart}
 use Rattle.snap_select.specs.declared.fault.SelectFault.{SelectFault}
 use Rattle.snap_select.specs.declared.fault.SelectFault.TheVariants.{BadToken, DeepTwice, TooLarge}
 use Rattle.snap_select.specs.declared.segment.Segment.{Segment}
 use Rattle.snap_select.specs.declared.stop.Stop.{Stop}
 use Rattle.snap_select.specs.declared.segment.Segment.TheVariants.{DeepWildcard, Wildcard, Key, Index, Range}
-use Rattle.snap_select.proofs.Fitting.{Fitting, over_less, far_less, one_near, near_over, fits_near, near_fits}
+use Rattle.snap_select.proofs.Fitting.{Fitting, over_less, far_less, one_near, near_over, fits_near}
 use Rattle.snap_select.proofs.Outcomes.{Stuck}
 use Rattle.snap_select.proofs.Oversize.{unfit_far, first_digit}
 use Rattle.snap_select.proofs.PieceFacts.{cut_at, past_fails, front_passes}
@@ -153,19 +152,23 @@ gap_fitting : (ps : Parts) (ss : List Segment) (negative : Bool) (digits : List 
     → Fitting (inside ps ss (behind_number negative digits count)) gap (inside ps ss (behind_number negative digits total))
 gap_fitting ps ss negative digits count [] b total e = ap (λ x. inside ps ss (behind_number negative digits x)) (sym (e ∙ omega arith))
 gap_fitting ps ss negative digits count (c ∷ cs) b total e =
-    let q = and_parts (is_blank c) (list_all is_blank cs) b in
-    (inside ps ss (behind_number negative digits (suc count)), rw q.0 refl, at_blank (λ x. flaw (inside ps ss (behind_number negative digits count)) x ≡ None) c q.0 refl refl,
-    gap_fitting ps ss negative digits (suc count) cs q.1 total (omega (arith, e)))
+    let q = and_parts (is_blank c) (list_all is_blank cs) b in (
+      inside ps ss (behind_number negative digits (suc count)),
+      rw q.0 refl,
+      at_blank (λ x. flaw (inside ps ss (behind_number negative digits count)) x ≡ None) c q.0 refl refl,
+      gap_fitting ps ss negative digits (suc count) cs q.1 total (omega (arith, e)),
+    )
 
 pub gap_fits : (ps : Parts) (ss : List Segment) (negative : Bool) (digits gap : List ℕ) → AreBlanks gap → Fitting (inside ps ss (number negative digits)) gap (at_number ps ss negative digits gap)
 unfolding at_number
 gap_fits ps ss negative digits [] b = refl
 gap_fits ps ss negative digits (c ∷ cs) b =
-    let q = and_parts (is_blank c) (list_all is_blank cs) b in
-    (inside ps ss (behind_number negative digits 1),
-    at_blank (λ x. step (inside ps ss (number negative digits)) x ≡ Some (inside ps ss (behind_number negative digits 1))) c q.0 refl refl,
-    at_blank (λ x. flaw (inside ps ss (number negative digits)) x ≡ None) c q.0 refl refl,
-    gap_fitting ps ss negative digits 1 cs q.1 (length (c ∷ cs)) (omega arith))
+    let q = and_parts (is_blank c) (list_all is_blank cs) b in (
+      inside ps ss (behind_number negative digits 1),
+      at_blank (λ x. step (inside ps ss (number negative digits)) x ≡ Some (inside ps ss (behind_number negative digits 1))) c q.0 refl refl,
+      at_blank (λ x. flaw (inside ps ss (number negative digits)) x ≡ None) c q.0 refl refl,
+      gap_fitting ps ss negative digits 1 cs q.1 (length (c ∷ cs)) (omega arith),
+    )
 
 -- a number, by its minus and its digits
 pub record NumberShape (number : List ℕ) : Type 0 where
@@ -562,6 +565,7 @@ first_dotted ps (c ∷ cs) h = by_name (begins_name c) refl h
   where
     star_same : (c : ℕ) → c ≡ 42 → outcome (first_dot ps) (c ∷ cs) ≡ outcome (inside ps [] dot) (c ∷ cs)
     star_same c e = ap (λ x. outcome (first_dot ps) (x ∷ cs)) e ∙ star_here ps cs ∙ ap (λ x. outcome (inside ps [] dot) (x ∷ cs)) (sym e)
+
     by_name : (b : Bool) → begins_name c ≡ b → b || (c == 42) ≡ true → outcome (first_dot ps) (c ∷ cs) ≡ outcome (inside ps [] dot) (c ∷ cs)
     by_name true e h = rw e refl
     by_name false e h = star_same c (eqb-true c 42 h)
@@ -592,6 +596,7 @@ unled_part ps (c ∷ cs) h k = by_dot (c == 46) refl h
   where
     opened : (c : ℕ) → c ≡ 91 → outcome (before_part ps) (c ∷ cs) ≡ outcome (ready ps []) (c ∷ cs)
     opened c e = ap (λ x. outcome (before_part ps) (x ∷ cs)) e ∙ ap (λ x. outcome (ready ps []) (x ∷ cs)) (sym e)
+
     by_dot : (b : Bool) → (c == 46) ≡ b → b || (c == 91) ≡ true → outcome (before_part ps) (c ∷ cs) ≡ outcome (ready ps []) (c ∷ cs)
     by_dot true e h = let is = ap (λ x. x ∷ cs) (eqb-true c 46 e) in dotted_part ps (c ∷ cs) cs is (k cs is)
     by_dot false e h = opened c (eqb-true c 91 h)

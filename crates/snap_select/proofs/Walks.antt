@@ -1,5 +1,5 @@
 -- From place to place along a text: every spelled text leads to its parts.
-use Rattle.std.proofs.Common.{◌≡◌, ◌≢◌, ℕ, ℤ, suc, ◌+◌, ◌<◌, Bool, true, false, ◌⊎◌, inl, inr, List, [], ◌∷◌, ◌++◌, length, Option, Some, None, cond, refl, sym, ap, ◌∙◌, subst, append_assoc, append-nil, arith}
+use Rattle.std.proofs.Common.{◌≡◌, ◌≢◌, ℕ, ℤ, suc, ◌+◌, ◌<◌, Bool, true, false, ◌⊎◌, inl, inr, List, [], ◌∷◌, ◌++◌, length, Option, Some, None, refl, sym, ap, ◌∙◌, subst, append_assoc, append-nil, arith}
 use Rattle.std.proofs.lemmas.Bool.{eqb-true, ne_eqb, lt-ltb, and_parts}
 use Rattle.std.proofs.lemmas.Option.{same_Some}
 use Rattle.std.specs.Char.{is_digit, digit_value}
@@ -8,9 +8,9 @@ use Rattle.std.specs.Prelude.{IsTrue, ◌==◌, ◌||◌}
 use Rattle.std.specs.Str.Parse.{IsNumeral, AllDigits, digits_value}
 use Rattle.unicode_ident.specs.Ident.{is_xid_start, is_xid_continue}
 use Rattle.unicode_ident.proofs.Computing.{unicode_ident}
-use Rattle.snap_select.specs.Grammar.{is_blank, AreBlanks, begins_name, IsName, Quoted, Quotes, InQuotes, dotted, bracketed, Bracketed, signed, signed_value, SpellsBound, MayBound, unbounded, bounded, SpellsBounds, Spells, SpellsEach, MayFollowDot, Stands, SpellsPart, EachBeforeComma, IsSpelled}
+use Rattle.snap_select.specs.Grammar.{is_blank, AreBlanks, IsName, Quoted, Quotes, InQuotes, dotted, bracketed, Bracketed, signed, signed_value, MayBound, unbounded, bounded, SpellsBounds, Spells, SpellsEach}
 use Rattle.snap_select.specs.Parts.{Parts}
-use Rattle.snap_select.specs.Reading.{Token, dot, in_name, star, bracket, in_quotes, backslash, minus, number, behind_number, colon, to_minus, to_number, closing, Place, before_part, first_dot, ready, inside, behind_part, step, ended}
+use Rattle.snap_select.specs.Reading.{dot, in_name, star, bracket, in_quotes, backslash, minus, number, behind_number, colon, to_minus, to_number, closing, Place, before_part, ready, inside, behind_part, step, ended}
 use Rattle.snap_select.specs.declared.segment.Segment.{Segment}
 use Rattle.snap_select.specs.declared.segment.Segment.TheVariants.{DeepWildcard, Wildcard, Key, Index, Range}
 
@@ -315,10 +315,11 @@ to_end ps ss from (Some v) second after k b =
     shut [] b = (ready ps (ss ++ Range from (Some (signed_value k.negative k.digits)) ∷ []), refl, refl)
     shut (c ∷ cs) b =
         let q = and_parts (is_blank c) (list_all is_blank cs) b in
-        let segment = Range from (Some (signed_value k.negative k.digits)) in
-        (inside ps ss (closing segment),
-        at_blank (λ x. step (inside ps ss (to_number from k.negative k.digits)) x ≡ Some (inside ps ss (closing (Range from (Some (signed_value k.negative k.digits)))))) c q.0 refl refl,
-        closes ps ss segment cs q.1)
+        let segment = Range from (Some (signed_value k.negative k.digits)) in (
+          inside ps ss (closing segment),
+          at_blank (λ x. step (inside ps ss (to_number from k.negative k.digits)) x ≡ Some (inside ps ss (closing (Range from (Some (signed_value k.negative k.digits)))))) c q.0 refl refl,
+          closes ps ss segment cs q.1,
+        )
 
 range_on : (s : Place) (ps : Parts) (ss : List Segment) (from to : Option ℤ) (before held after text : List ℕ) → AtEnd s ps ss → AreBlanks before → AreBlanks after
     → text ≡ 91 ∷ before ++ held ++ after ++ 93 ∷ [] → SpellsBounds from to held → LeadsToEnd s text ps (ss ++ Range from to ∷ [])

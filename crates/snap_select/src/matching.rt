@@ -97,6 +97,8 @@ impl Selector<'_> {
     pub fn is_match(&self, path: &[PathItem]) -> bool
         ensures { result ≡ path_match (parts_of self.now) (map step_of path.now) }
     {
-        self.parts.iter().any(|part| segments_match(part.segments(), path))
+        self.parts
+            .iter()
+            .any(|part| segments_match(part.segments(), path))
     }
 }
