@@ -1,9 +1,9 @@
 -- Numbers that fit and single deep wildcards, along a text.
-use Rattle.std.proofs.Common.{◌≡◌, ℕ, zero, suc, ℤ, pos, negsuc, neg_ℤ, ◌+◌, ◌*◌, ◌^◌, ◌<◌, ◌≤◌, Bool, true, false, ◌⊎◌, inl, inr, List, [], ◌∷◌, ◌++◌, Option, Some, None, cond, refl, sym, ap, ◌∙◌, subst, arith}
-use Rattle.std.proofs.lemmas.Bool.{lt-leb, leb-false, eqb-true, ltb-true, and_parts}
+use Rattle.std.proofs.Common.{◌≡◌, ℕ, zero, suc, ℤ, pos, negsuc, neg_ℤ, ◌+◌, ◌*◌, ◌^◌, ◌<◌, ◌≤◌, Bool, true, false, List, [], ◌∷◌, ◌++◌, Option, Some, None, cond, refl, sym, ◌∙◌, subst, arith}
+use Rattle.std.proofs.lemmas.Bool.{lt-leb, leb-false, ltb-true, and_parts}
 use Rattle.std.proofs.lemmas.Option.{same_Some}
 use Rattle.std.specs.Char.{is_digit, digit_value}
-use Rattle.std.specs.Prelude.{◌==◌, ◌&&◌, ◌||◌, not, nat_le, ⊤}
+use Rattle.std.specs.Prelude.{◌==◌, ◌&&◌, ◌||◌, not, ⊤}
 use Rattle.std.specs.Str.Parse.{digits_value, digits_value_after}
 use Rattle.unicode_ident.specs.Ident.{is_xid_continue}
 use Rattle.snap_select.specs.Deep.{is_deep, has_deep}

@@ -1,15 +1,15 @@
 -- What an outcome says, and what decides it.
-use Rattle.std.proofs.Common.{◌≡◌, ℕ, zero, suc, ◌+◌, ◌≤◌, Bool, true, false, List, [], ◌∷◌, ◌++◌, length, Option, Some, None, cond, refl, sym, ap, ◌∙◌, subst, arith}
+use Rattle.std.proofs.Common.{◌≡◌, ℕ, suc, ◌+◌, List, [], ◌∷◌, ◌++◌, length, Option, Some, None, refl, sym, ap, subst}
 use Rattle.std.proofs.lemmas.Option.{same_Some}
-use Rattle.snap_select.specs.Grammar.{ArePlain, IsSelector}
+use Rattle.snap_select.specs.Grammar.{IsSelector}
 use Rattle.snap_select.specs.Parts.{Parts}
 use Rattle.snap_select.specs.Reading.{Place, before_part, step, ended, flaw, since, Outcome, selects, refuses, at_end, going, stepped, outcome}
+use Rattle.snap_select.specs.Selected.{parts_in, selected}
 use Rattle.snap_select.specs.declared.fault.SelectFault.{SelectFault}
-use Rattle.snap_select.specs.declared.fault.SelectFault.TheVariants.{BadToken, DeepTwice, TooLarge}
+use Rattle.snap_select.specs.declared.fault.SelectFault.TheVariants.{BadToken}
 use Rattle.snap_select.proofs.Fitting.{Fitting, fitting_leads, fitting_fits, leads_fitting, PlaceFits, fit_at_end, fit_before_end}
 use Rattle.snap_select.proofs.Places.{end_kept}
 use Rattle.snap_select.proofs.Starts.{leads_means, spelled_on}
-use Rattle.snap_select.proofs.Walks.{Leads}
 
 abbrev pub Stuck : Place → List ℕ → Type 0
 Stuck s [] = ended s ≡ None
@@ -110,3 +110,15 @@ by_why t parts (by_flaw kind left e h) = absurd (cc)
 
 pub selects_selector : (t : List ℕ) (parts : Parts) → outcome (before_part []) t ≡ selects parts → IsSelector t parts
 selects_selector t parts h = by_why t parts (why (before_part []) t (selects parts) h)
+
+-- the same of what is selected
+selected_by : (t : List ℕ) (parts : Parts) (o : Outcome) → outcome (before_part []) t ≡ o → parts_in o ≡ Some parts → IsSelector t parts
+selected_by t parts (selects others) e h =
+    let P : Parts → Type 0 = λ x. IsSelector t x in subst P (same_Some others parts h) (selects_selector t others e)
+selected_by t parts (refuses kind left) e h = absurd (cc)
+
+pub selected_selector : (t : List ℕ) (parts : Parts) → selected t ≡ Some parts → IsSelector t parts
+selected_selector t parts h = selected_by t parts (outcome (before_part []) t) refl h
+
+pub selector_selected : (t : List ℕ) (parts : Parts) → IsSelector t parts → selected t ≡ Some parts
+selector_selected t parts h = ap parts_in (selector_selects t parts h)

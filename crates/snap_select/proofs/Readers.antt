@@ -1,7 +1,6 @@
 -- What each reader reads, as outcomes.
-use Rattle.std.proofs.Common.{◌≡◌, ◌≢◌, ℕ, suc, ℤ, pos, neg_ℤ, ◌+◌, ◌^◌, ◌<◌, ◌≤◌, Bool, true, false, ◌⊎◌, inl, inr, List, [], ◌∷◌, ◌++◌, length, Option, Some, None, cond, refl, sym, ap, ◌∙◌, subst, append_assoc, append-nil, arith, length-append, MatchOption, Bor, is_some}
-use Rattle.std.proofs.lemmas.Bool.{eqb-true, ne_eqb, lt-ltb, and_parts, le-leb, lt-leb}
-use Rattle.std.specs.Char.{is_digit, digit_value}
+use Rattle.std.proofs.Common.{◌≡◌, ℕ, suc, ℤ, ◌+◌, ◌^◌, ◌<◌, ◌≤◌, Bool, true, false, List, [], ◌∷◌, ◌++◌, length, Option, Some, None, cond, refl, sym, ap, ◌∙◌, subst, append_assoc, append-nil, arith, length-append, MatchOption, Bor, is_some}
+use Rattle.std.proofs.lemmas.Bool.{eqb-true, ne_eqb, and_parts, le-leb, lt-leb}
 use Rattle.std.specs.List.{list_all}
 use Rattle.std.specs.Prelude.{IsTrue, ◌==◌, ◌&&◌, ◌||◌, not}
 use Rattle.std.specs.Str.{chars}
@@ -13,14 +12,14 @@ use Rattle.snap_select.specs.Deep.{is_deep, has_deep}
 use Rattle.snap_select.specs.Grammar.{is_blank, AreBlanks, begins_name, IsName, signed, signed_value, FitsBound}
 use Rattle.snap_select.specs.Parts.{Parts}
 use Rattle.snap_select.specs.Pieces.{past, front, is_decimal, Fails, IsNameThen, goes_on_dot, begins_segment, unsigned, IsNumber, number_value, IsNumberThen}
-use Rattle.snap_select.specs.Reading.{Token, dot, in_name, star, bracket, in_quotes, minus, number, behind_number, colon, to_minus, to_number, closing, behind, Place, before_part, first_dot, ready, inside, behind_part, step, ended, flaw, since, is_far, is_over, Outcome, selects, refuses, outcome}
+use Rattle.snap_select.specs.Reading.{Token, dot, in_name, star, bracket, in_quotes, minus, number, behind_number, colon, to_minus, to_number, closing, Place, before_part, first_dot, ready, inside, behind_part, step, flaw, since, is_far, is_over, Outcome, selects, refuses, outcome}
 use Rattle.snap_select.specs.Stops.{IsStop, GoesOn, StopsAt, Closes, ClosesNot, IsNumberBehind, once_deep, ReadsWildcard, ReadsDotted, ReadsSegment, ReadsPart, StopsPart}
 use Rattle.snap_select.specs.declared.fault.SelectFault.{SelectFault}
 use Rattle.snap_select.specs.declared.fault.SelectFault.TheVariants.{BadToken, DeepTwice, TooLarge}
 use Rattle.snap_select.specs.declared.segment.Segment.{Segment}
 use Rattle.snap_select.specs.declared.stop.Stop.{Stop}
 use Rattle.snap_select.specs.declared.segment.Segment.TheVariants.{DeepWildcard, Wildcard, Key, Index, Range}
-use Rattle.snap_select.proofs.Fitting.{Fitting, over_less, far_less, one_near, near_over, fits_near, near_fits}
+use Rattle.snap_select.proofs.Fitting.{Fitting, over_less, far_less, one_near, near_over, fits_near}
 use Rattle.snap_select.proofs.Outcomes.{Stuck}
 use Rattle.snap_select.proofs.Oversize.{unfit_far, first_digit}
 use Rattle.snap_select.proofs.PieceFacts.{cut_at, past_fails, front_passes}

@@ -1,14 +1,13 @@
 -- From the start: the texts that lead somewhere are the beginnings of selectors.
-use Rattle.std.proofs.Common.{◌≡◌, ◌≢◌, ℕ, ℤ, Bool, true, false, ◌⊎◌, inl, inr, List, [], ◌∷◌, ◌++◌, length, Option, Some, None, refl, sym, ap, ◌∙◌, subst, append_assoc, append-nil}
+use Rattle.std.proofs.Common.{◌≡◌, ◌≢◌, ℕ, true, inl, inr, List, [], ◌∷◌, ◌++◌, Some, None, refl, sym, ap, ◌∙◌, subst, append_assoc, append-nil}
 use Rattle.std.proofs.lemmas.Bool.{and_parts}
 use Rattle.std.proofs.lemmas.Option.{same_Some}
 use Rattle.std.specs.List.{list_all}
-use Rattle.std.specs.Prelude.{◌==◌}
 use Rattle.unicode_ident.specs.Ident.{is_xid_start, is_xid_continue}
 use Rattle.unicode_ident.proofs.Computing.{unicode_ident}
 use Rattle.snap_select.specs.Deep.{has_deep}
 use Rattle.snap_select.specs.Faults.{Begins, Opens}
-use Rattle.snap_select.specs.Grammar.{is_blank, AreBlanks, begins_name, IsName, dotted, bracketed, Behind, Bracketed, signed_value, Spells, SpellsEach, MayFollowDot, Stands, SpellsPart, BeforeComma, EachBeforeComma, IsSpelled}
+use Rattle.snap_select.specs.Grammar.{is_blank, AreBlanks, begins_name, IsName, dotted, bracketed, signed_value, Spells, SpellsEach, MayFollowDot, Stands, SpellsPart, BeforeComma, EachBeforeComma, IsSpelled}
 use Rattle.snap_select.specs.Parts.{Parts}
 use Rattle.snap_select.specs.Reading.{Token, dot, in_name, star, bracket, in_quotes, backslash, minus, number, behind_number, colon, to_minus, to_number, closing, Place, before_part, first_dot, ready, inside, behind_part, step, ended}
 use Rattle.snap_select.specs.declared.segment.Segment.{Segment}

@@ -1,5 +1,5 @@
 -- How a text falls into a piece at its front and the rest.
-use Rattle.std.specs.Prelude.{◌≡◌, ◌==◌, ◌||◌, ◌&&◌, not, ⊤, ℕ, ℤ, Bool, false, List, [], ◌∷◌, ◌++◌, if◌then◌else◌}
+use Rattle.std.specs.Prelude.{◌≡◌, ◌==◌, ◌||◌, not, ⊤, ℕ, ℤ, Bool, false, List, [], ◌∷◌, ◌++◌, if◌then◌else◌}
 use Rattle.std.specs.Char.{is_digit}
 use Rattle.std.specs.Str.Parse.{IsNumeral}
 use Rattle.unicode_ident.specs.Ident.{is_xid_continue}

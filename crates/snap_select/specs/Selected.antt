@@ -7,6 +7,6 @@ abbrev pub parts_in : Outcome → Option Parts
 parts_in (selects parts) = Some parts
 parts_in (refuses fault left) = None
 
--- by the law on reading: these are the parts of which the text is a selector
+-- by a law these are the parts of which the text is a selector
 abbrev pub selected : List ℕ → Option Parts
 selected text = parts_in (outcome (before_part []) text)

@@ -1,11 +1,11 @@
 -- Why reading stops, and what it comes to where it goes on.
-use Rattle.std.specs.Prelude.{◌≡◌, ◌≢◌, ◌+◌, ◌&&◌, false, ⊤, ℕ, List, [], ◌∷◌, ◌++◌, length, if◌then◌else◌}
+use Rattle.std.specs.Prelude.{◌≡◌, ◌+◌, ◌&&◌, false, ⊤, ℕ, List, [], ◌∷◌, ◌++◌, length, if◌then◌else◌}
 use Rattle.std.specs.Str.{chars}
 use Rattle.snap_select.specs.Deep.{is_deep, has_deep}
 use Rattle.snap_select.specs.Grammar.{is_blank}
 use Rattle.snap_select.specs.Parts.{Parts}
 use Rattle.snap_select.specs.Pieces.{past, Fails, is_decimal, IsNumber}
-use Rattle.snap_select.specs.Reading.{Token, Place, ready, inside, dot, star, before_part, behind_part, Outcome, refuses, outcome}
+use Rattle.snap_select.specs.Reading.{Token, Place, ready, inside, dot, star, behind_part, Outcome, refuses, outcome}
 use Rattle.snap_select.specs.declared.fault.SelectFault.TheVariants.{BadToken, DeepTwice}
 use Rattle.snap_select.specs.declared.segment.Segment.{Segment}
 use Rattle.snap_select.specs.declared.stop.Stop.{Stop}

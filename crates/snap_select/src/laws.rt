@@ -1,5 +1,5 @@
 //! Laws of selectors' texts.
-ghost use Rattle.std.specs.Prelude.{◌≡◌, ℕ, List, []};
+ghost use Rattle.std.specs.Prelude.{◌≡◌, ℕ, List, [], Some};
 ghost use Rattle.snap_content.specs.Sorted.{Sorted};
 ghost use Rattle.snap_content.specs.Tree.{Tree};
 ghost use Rattle.snap_select.specs.Examples.{AreSelected, AreRefused};
@@ -8,6 +8,7 @@ ghost use Rattle.snap_select.specs.Parts.{Parts};
 ghost use Rattle.snap_select.specs.Reading.{outcome, before_part, selects};
 ghost use Rattle.snap_select.specs.Redacted.{redacted};
 ghost use Rattle.snap_select.specs.Redacts.{IsHit, Redacts};
+ghost use Rattle.snap_select.specs.Selected.{selected};
 ghost use Rattle.snap_select.specs.SortedTree.{sorted_tree};
 
 /// A text is a selector of one list of parts at most.
@@ -21,6 +22,14 @@ pub const fn reading_is_the_grammar()
         → outcome (before_part []) text ≡ selects parts }
     ensures selected { (text : List ℕ) (parts : Parts)
         → outcome (before_part []) text ≡ selects parts → IsSelector text parts }
+{}
+
+/// What is selected is the parts of a selector, and nothing where a text is none.
+pub const fn selected_is_the_grammar()
+    ensures some { (text : List ℕ) (parts : Parts) → IsSelector text parts
+        → selected text ≡ Some parts }
+    ensures selector { (text : List ℕ) (parts : Parts) → selected text ≡ Some parts
+        → IsSelector text parts }
 {}
 
 /// Texts and their parts, and texts and their faults, that were worked out by hand.

@@ -2,9 +2,9 @@
 //! Exactly the texts of the grammar are selectors; every other text is refused with the column of its first fault.
 //! A redacted tree is as the tree was, but for what the selector hits.
 //!
-//! In the order in which data flows: `pieces` and `quotes` (names, digits and keys at the front of a text), `reading` and
-//! `stop` (segments), `segment` and `selector` (what was read), `fault` (what was not), `copies`, `path_item` and `matching`
-//! (which paths are hit), `redaction`, `in_order` and `redact` (the new tree), `laws`.
+//! In the order in which data flows: `pieces` and `quotes` (blanks, names, numbers and keys at the front of a text), `reading`,
+//! `deep`, `parts` and `stop` (segments and parts), `segment`, `part` and `selector` (what was read), `fault` (what was not),
+//! `copies`, `path_item` and `matching` (which paths are hit), `redaction`, `in_order` and `redact` (the new tree), `laws`.
 #![tactic(auto)]
 
 pub mod copies;

@@ -17,7 +17,8 @@ use std::alloc::Global;
 
 /// The segments at the front, as many as there are, and what follows them.
 fn read_segments<'a>(alloc: Global, text: &'a str) -> Result<(Part<'a>, &'a str), Stop<'a>>
-    ensures ok { IfOk result (λ p. ReadsPart (λ ps. ready ps []) (chars text.now) p.0 (chars p.1.now)) }
+    ensures ok { IfOk result (λ p.
+        ReadsPart (λ ps. ready ps []) (chars text.now) p.0 (chars p.1.now)) }
     ensures stop { IfErr result (λ s. StopsPart (λ ps. ready ps []) (chars text.now) s) }
     ensures within { IfOk result (λ p. length (chars p.1.now) ≤ length (chars text.now)) }
 {

@@ -56,7 +56,8 @@ fn kept_character<'a>(character: char, text: &'a str) -> Option<(char, &'a str)>
 /// The key up to the first quote without a backslash, and what follows; none where no such quote is there.
 fn read_escaped(alloc: Global, text: &str) -> Result<Option<(Text, &str)>, OutOfMemory>
     ensures key { IfOk result (λ found. (ps : Parts) (ss : List Segment)
-        → MatchOption found (outcome (inside ps ss (in_quotes [])) (chars text.now) ≡ refuses BadToken 0)
+        → MatchOption found
+        (outcome (inside ps ss (in_quotes [])) (chars text.now) ≡ refuses BadToken 0)
         (λ p. outcome (inside ps ss (in_quotes [])) (chars text.now)
         ≡ outcome (inside ps ss (closing (Key p.0))) (chars p.1.now))) }
     ensures shorter { IfOk result (λ found. IfSome found
@@ -83,7 +84,8 @@ pub(crate) fn read_quoted<'a>(
     text: &'a str,
 ) -> Result<Option<(Lent<'a>, &'a str)>, OutOfMemory>
     ensures key { IfOk result (λ found. (ps : Parts) (ss : List Segment)
-        → MatchOption found (outcome (inside ps ss (in_quotes [])) (chars text.now) ≡ refuses BadToken 0)
+        → MatchOption found
+        (outcome (inside ps ss (in_quotes [])) (chars text.now) ≡ refuses BadToken 0)
         (λ p. outcome (inside ps ss (in_quotes [])) (chars text.now)
         ≡ outcome (inside ps ss (closing (Key p.0))) (chars p.1.now))) }
     ensures shorter { IfOk result (λ found. IfSome found

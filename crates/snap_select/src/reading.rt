@@ -17,7 +17,8 @@ use std::alloc::Global;
 
 /// The segment, where a closing bracket follows behind blanks, and the text behind that.
 fn closed<'a>(segment: Segment<'a>, text: &'a str) -> Result<(Segment<'a>, &'a str), Stop<'a>>
-    ensures ok { IfOk result (λ p. (p.0 ≡ segment.entry) × Closes (chars text.now) (chars p.1.now)) }
+    ensures ok { IfOk result (λ p.
+        (p.0 ≡ segment.entry) × Closes (chars text.now) (chars p.1.now)) }
     ensures stop { IfErr result (λ s. ClosesNot (chars text.now) s) }
 {
     let text = past_blanks(text);

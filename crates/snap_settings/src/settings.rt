@@ -199,9 +199,10 @@ impl Settings {
 fn sorted_where(is_set: bool, alloc: Global, content: Content) -> Result<Content, OutOfMemory>
     ensures { IfOk result (λ made. tree made ≡ sorted_where is_set (tree content)) }
 {
-    let mut content = content;
-    if is_set {
-        content.sort_maps(alloc)?;
+    if !is_set {
+        return Ok(content);
     }
-    Ok(content)
+    let mut sorted = content;
+    sorted.sort_maps(alloc)?;
+    Ok(sorted)
 }
