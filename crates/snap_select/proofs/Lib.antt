@@ -15,3 +15,4 @@ pub mod WorkedExamples
 pub mod Oversize
 pub mod Readers
 pub mod Bounds
+pub mod ShownPaths

@@ -14,3 +14,5 @@ pub mod Redacts
 pub mod Redacted
 pub mod Put
 pub mod Selected
+pub mod PathText
+pub mod Paths
