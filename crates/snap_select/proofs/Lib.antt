@@ -18,3 +18,4 @@ pub mod WorkedExamples
 pub mod Oversize
 pub mod Readers
 pub mod Bounds
+pub mod ShownPaths

@@ -16,3 +16,5 @@ pub mod InOrder
 pub mod SortedTree
 pub mod Put
 pub mod Selected
+pub mod PathText
+pub mod Paths

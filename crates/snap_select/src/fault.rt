@@ -11,10 +11,10 @@ pub enum SelectFault {
     /// No selector goes on with this character, or none ends here.
     #[error("BadToken")]
     BadToken,
-    /// A second wildcard for any number of steps. It never comes yet.
+    /// A second wildcard for any number of steps in one part.
     #[error("DeepTwice")]
     DeepTwice,
-    /// The number is above 2^64 - 1.
+    /// A number that doesn't fit: an index is below 2^64, a bound from -2^63 up to 2^63 - 1.
     #[error("TooLarge")]
     TooLarge,
 }

@@ -4,9 +4,11 @@
 //!
 //! In the order in which data flows: `pieces` and `quotes` (blanks, names, numbers and keys at the front of a text), `reading`,
 //! `deep`, `parts` and `stop` (segments and parts), `segment`, `part` and `selector` (what was read), `fault` (what was not),
-//! `copies`, `path_item` and `matching` (which paths are hit), `redaction`, `in_order` and `redact` (the new tree), `laws`.
+//! `copies`, `path_item` and `matching` (which paths are hit), `content_path` (paths as they are shown), `redaction` and
+//! `redact` (the new tree), `laws`.
 #![tactic(auto)]
 
+pub mod content_path;
 pub mod copies;
 pub mod deep;
 pub mod fault;
@@ -25,6 +27,7 @@ pub mod segment;
 pub mod selector;
 pub mod stop;
 
+pub use content_path::ContentPath;
 pub use fault::{SelectError, SelectFault, SelectorParseError};
 pub use path_item::PathItem;
 pub use redaction::Redaction;

@@ -1,6 +1,6 @@
 //! Which paths are matched, and trees with what is made of them. The original makes the same of each.
 use snap_content::{Content, Fields, Items, OutOfMemory, Pairs, Text};
-use snap_select::{PathItem, Redaction, Selector};
+use snap_select::{ContentPath, PathItem, Redaction, Selector};
 use std::alloc::Global;
 use std::process::Abort;
 use std::test::Fail;
@@ -212,6 +212,25 @@ fn numbers_behind_wrappers(rt: HostRuntime) -> Result<(), Fail> {
     assert_match(&rt, alloc, "[1]", &key, true)?;
     assert_match(&rt, alloc, "[2]", &key, false)?;
     assert_match(&rt, alloc, "[\"1\"]", &key, false)
+}
+
+#[test]
+fn texts_of_paths(rt: HostRuntime) -> Result<(), Fail> {
+    let alloc = rt.alloc();
+    let items = [
+        PathItem::Content(some(alloc, text(alloc, "é")?)?),
+        PathItem::Field(Text::from_str(alloc, "$key")?),
+        PathItem::Index(12, 18446744073709551615),
+        PathItem::Content(Content::U8(7)),
+    ];
+    let path = ContentPath::new(&items);
+    assert_eq!(rt; path.to_string(alloc)?.as_str(), ".é.$key.12.<content>");
+    assert_eq!(rt;
+        path.clone()?.to_string(alloc)?.as_str(),
+        ".é.$key.12.<content>"
+    );
+    assert_eq!(rt; ContentPath::new(&[]).to_string(alloc)?.as_str(), "");
+    Ok(())
 }
 
 /// What becomes of the tree with the text `x` at the selector.

@@ -1,0 +1,10 @@
+use Rattle.std.proofs.Common.{take}
+use Rattle.std.specs.Fmt.{HasWritten, IsPlainFormatter}
+use Rattle.std.specs.Prelude.{map}
+use Rattle.snap_select.specs.Matching.{step_of}
+use Rattle.snap_select.specs.PathText.{path_text}
+use Rattle.snap_select.specs.Paths.{items_of}
+use Rattle.snap_select.proofs.content_path.ContentPathDisplay.fmt.Given as goal
+
+abbrev pub invariant-loop-item : goal.invariant-loop-item
+invariant-loop-item g l = IsPlainFormatter l.initial.f → HasWritten g.W.Write.write_str_gives l.initial.f (path_text (map step_of (take l.item-index (items_of l.self)))) l.f
