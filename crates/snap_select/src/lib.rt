@@ -4,8 +4,8 @@
 //!
 //! In the order in which data flows: `pieces` and `quotes` (blanks, names, numbers and keys at the front of a text), `reading`,
 //! `deep`, `parts` and `stop` (segments and parts), `segment`, `part` and `selector` (what was read), `fault` (what was not),
-//! `copies`, `path_item` and `matching` (which paths are hit), `content_path` (paths as they are shown), `redaction` and
-//! `redact` (the new tree), `laws`.
+//! `copies`, `path_item` and `matching` (which paths are hit), `content_path` (paths as they are shown), `redaction`,
+//! `in_order` and `redact` (the new tree), `laws`.
 #![tactic(auto)]
 
 pub mod content_path;
