@@ -24,6 +24,15 @@ redaction_made es at parts put keyed at_at at_parts at_put =
     ∙ needed_by (selected at) _ parts at_parts
     ∙ needed_by (put_from (last_value (codes "put") es) (last_value (codes "sort") es)) _ put at_put
 
+-- what is put where the pairs hold a tree for it, and do not say that a list is to be sorted
+pub put_made : (made : t.Tree) (put sort : Option Plain) → Some made ≡ option_map p.content_of put → None ≡ option_map p.content_of sort → Some (λ _. made) ≡ put_from put sort
+put_made made None sort e f = absurd (cc)
+put_made made (Some v) None e f =
+    let same : made ≡ p.content_of v = cc in
+    let always : t.Tree → Option (t.Tree → t.Tree) = λ tree. Some (λ _. tree) in
+    ap always same
+put_made made (Some v) (Some w) e f = absurd (cc)
+
 -- the items of a list that was read were made of plain trees
 pub record IsList (plain : Plain) (items : List Content) : Type 0 where
   pub held : Plains
