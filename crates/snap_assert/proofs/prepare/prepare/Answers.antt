@@ -11,7 +11,7 @@ use Rattle.snap_assert.proofs.prepare.prepare.Goals as goal
 pub returns : goal.returns
 returns c =
     let settings = settings_of c.args.settings.now in
-    let redacted : tree c.in_ok-content.content ≡ printed_tree settings (tree c.args.content) = c.in_ok-content.ensures in
+    let redacted : tree c.in_ok-content.content ≡ printed_tree settings (tree c.args.content) = c.in_ok-content.ensures.printed in
     record {
       path = c.in_ok-path.ensures;
       file_path = path_of-file settings (place_of c.args.place.now) c.args.name.now;
