@@ -7,6 +7,7 @@
 #![tactic(auto)]
 
 mod error;
+mod held;
 mod scalars;
 mod trees;
 

@@ -7,8 +7,8 @@
 //! `NewtypeVariant`, `TupleVariant 2` and `StructVariant 2`, stand behind the unit variant of their names and what they hold.
 //! A text stands there as `row_lines` writes it.
 use crate::error::LineError;
+use crate::held::{last_pairs, last_values};
 use crate::scalars::scalar;
-use row_lines::{last_pairs, last_values};
 use snap_content::{Content, Fields, Items, OutOfMemory, Pairs, Text};
 use std::alloc::Global;
 

@@ -3,10 +3,8 @@
 #![tactic(auto)]
 
 pub mod answers;
-pub mod held;
 pub mod laws;
 pub mod lines;
 
 pub use answers::answer_lines;
-pub use held::{last_pairs, last_values};
 pub use lines::{add_escaped, text_of};

@@ -3,7 +3,7 @@
 //! `s` and a text, `r` and the text of a number, `i` and a whole number, `t`, `f`, `n` for null, `b` for a bad value; `a` and how
 //! many of the values before it are the items; `h` and how many pairs of the values before it are the entries.
 //! A text stands there as `row_lines` writes it.
-use row_lines::{last_pairs, last_values, text_of};
+use row_lines::text_of;
 use snap_content::OutOfMemory;
 use snap_yaml::{Array, Hash, Yaml};
 use std::alloc::Global;
@@ -49,7 +49,7 @@ fn value_of_word(
         'f' => Ok(Some(Yaml::Boolean(false))),
         'n' => Ok(Some(Yaml::Null)),
         'b' => Ok(Some(Yaml::BadValue)),
-        'a' => array_of(held, rest),
+        'a' => array_of(alloc, held, rest),
         'h' => hash_of(alloc, held, rest),
         _ => Ok(None),
     }
@@ -62,18 +62,37 @@ fn whole_number(digits: &str) -> Option<Yaml> {
     }
 }
 
-/// The last values, as many as the digits say, as an array.
-fn array_of(held: &mut Vec<Yaml>, digits: &str) -> Result<Option<Yaml>, OutOfMemory> {
-    match last_values(held, digits)? {
-        Some(items) => Ok(Some(Yaml::Array(Array::from_vec(items)))),
-        None => Ok(None),
+/// The last values, as many as the number says, as an array.
+fn array_of(alloc: Global, held: &mut Vec<Yaml>, rest: &str) -> Result<Option<Yaml>, OutOfMemory> {
+    let Ok(count) = rest.parse::<u32>() else {
+        return Ok(None);
+    };
+    let mut items = Vec::new(alloc);
+    for _item in 0..count {
+        let Some(item) = held.pop() else {
+            return Ok(None);
+        };
+        items.push(item)?;
     }
+    items.reverse();
+    Ok(Some(Yaml::Array(Array::from_vec(items))))
 }
 
-/// The last values, as many pairs as the digits say, as a hash.
-fn hash_of(alloc: Global, held: &mut Vec<Yaml>, digits: &str) -> Result<Option<Yaml>, OutOfMemory> {
-    match last_pairs(alloc, held, digits)? {
-        Some(pairs) => Ok(Some(Yaml::Hash(Hash::from_vec(pairs)))),
-        None => Ok(None),
+/// The last values, as many pairs as the number says, as a hash.
+fn hash_of(alloc: Global, held: &mut Vec<Yaml>, rest: &str) -> Result<Option<Yaml>, OutOfMemory> {
+    let Ok(count) = rest.parse::<u32>() else {
+        return Ok(None);
+    };
+    let mut pairs = Vec::new(alloc);
+    for _pair in 0..count {
+        let Some(value) = held.pop() else {
+            return Ok(None);
+        };
+        let Some(key) = held.pop() else {
+            return Ok(None);
+        };
+        pairs.push((key, value))?;
     }
+    pairs.reverse();
+    Ok(Some(Yaml::Hash(Hash::from_vec(pairs))))
 }

@@ -7,7 +7,7 @@ use snap_content::OutOfMemory;
 use std::alloc::Global;
 
 /// The last values, as many as the digits say, if there are so many.
-pub fn last_values<T>(held: &mut Vec<T>, digits: &str) -> Result<Option<Vec<T>>, OutOfMemory>
+pub(crate) fn last_values<T>(held: &mut Vec<T>, digits: &str) -> Result<Option<Vec<T>>, OutOfMemory>
     ensures last { IfOk result (λ found. IfSome found (λ values. held.old.items ≡ held.new.items ++ values.items)) }
     ensures count { IfOk result (λ found. IfSome found
         (λ values. length values.items ≡ digits_value 10 (without_leading_plus digits.now))) }
@@ -22,7 +22,7 @@ pub fn last_values<T>(held: &mut Vec<T>, digits: &str) -> Result<Option<Vec<T>>,
 }
 
 /// The last values two by two, as many pairs as the digits say, if there are so many.
-pub fn last_pairs<T: Drop>(
+pub(crate) fn last_pairs<T: Drop>(
     alloc: Global,
     held: &mut Vec<T>,
     digits: &str,
