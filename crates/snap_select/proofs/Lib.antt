@@ -11,3 +11,4 @@ pub mod Tokens
 pub mod Walks
 pub mod Places
 pub mod Starts
+mod Reached

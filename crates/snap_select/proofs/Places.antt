@@ -288,7 +288,7 @@ first_dot_on ps front t c h is =
     (λ e. (46 ∷ c ∷ [], opened, ap (λ x. 46 ∷ x ∷ []) (eqb-true c 42 e)))
     (λ f. choose (c == 91) (Some (inside ps [] bracket)) (separate (ps ++ [] ∷ []) c) P
     (λ e. let R : List ℕ → Type 0 = λ x. Opened ps [] (91 ∷ []) x in
-        (91 ∷ [], subst R (ap (λ x. x ++ 91 ∷ []) (sym is) ∙ ap (λ x. t ++ x ∷ []) (sym (eqb-true c 91 e))) (begun_dot ps front [] h), ([], refl, refl)))
+    (91 ∷ [], subst R (ap (λ x. x ++ 91 ∷ []) (sym is) ∙ ap (λ x. t ++ x ∷ []) (sym (eqb-true c 91 e))) (begun_dot ps front [] h), ([], refl, refl)))
     (λ g. separated (ps ++ [] ∷ []) t c (lone_dot ps front t h is))))
 
 -- one character more

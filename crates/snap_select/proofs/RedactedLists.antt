@@ -95,53 +95,79 @@ inside_struct_variant ss put path whole name own index variant own_variant out f
     tree-StructVariant name index variant out ∙ ap (λ x. t.struct_variant x index variant (field_trees (field_list out))) same_name
     ∙ ap (λ x. t.struct_variant own index x (field_trees (field_list out))) same_variant ∙ ap (λ x. t.struct_variant own index own_variant x) same_fields ∙ sym (ap (inside ss put path) seen)
 
--- one turn of each loop, over the path at that turn
-turn : {X Y Z : Type 0} (f : X → Y) (g : Z → Y) (outs out : List Z) (new : Z) (items : List X) (i : ℕ) (item : X) → map g outs ≡ map f (take i items) → i < length items → item ≡ get_or items i item
-    → g new ≡ f item → out ≡ outs ++ new ∷ [] → map g out ≡ map f (take (i + 1) items)
-turn f g outs out new items i item h small is same o =
-    ap (map g) o ∙ map-append g outs (new ∷ []) ∙ ap (λ x. x ++ g new ∷ []) h ∙ ap (λ x. map f (take i items) ++ x ∷ []) (same ∙ ap f is)
-    ∙ sym (map-append f (take i items) (get_or items i item ∷ [])) ∙ ap (map f) (sym (take_more items i item small))
+-- the images of what is made so far, and of what is left
+pub record MappedSoFar {X Y Z : Type 0} (f : X → Y) (g : Z → Y) (all : List X) (made : List Z) (left : List X) : Type 0 where
+  pub is : map g made ++ map f left ≡ map f all
 
-pub items_step : (ss : Parts) (put : t.Tree → t.Tree) (now was : List PathItem) (all made out items : List Content) (i a b : ℕ) (item new : Content) → ItemsSoFar ss put (map step_of was) all made (drop i items)
-    → i < length items → item ≡ get_or items i item → tree new ≡ redacted ss put (map step_of now ++ to_item a b ∷ []) (tree item) → now ≡ was → a ≡ length made → b ≡ length all → out ≡ made ++ new ∷ []
-    → ItemsSoFar ss put (map step_of was) all out (drop (i + 1) items)
-items_step ss put now was all made out items i a b item new h small is n path first total o =
-    let e : drop i items ≡ item ∷ drop (i + 1) items = drop-cons items i item small ∙ ap (λ x. x ∷ drop (suc i) items) (sym is) ∙ ap (λ k. item ∷ drop k items) (sym (add-one i)) in
+mapped_begin : {X Y Z : Type 0} (f : X → Y) (g : Z → Y) (all : List X) (made : List Z) → made ≡ [] → MappedSoFar f g all made all
+mapped_begin f g all made e = record { is = ap (λ x. map g x ++ map f all) e }
+
+mapped_more : {X Y Z : Type 0} (f : X → Y) (g : Z → Y) (all left later : List X) (made out : List Z) (item : X) (new : Z) → MappedSoFar f g all made left
+    → left ≡ item ∷ later → g new ≡ f item → out ≡ made ++ new ∷ [] → MappedSoFar f g all out later
+mapped_more f g all left later made out item new h e n o = record {
+  is = ap (λ x. map g x ++ map f later) o ∙ ap (λ x. x ++ map f later) (map-append g made (new ∷ [])) ∙ append_assoc (map g made) (g new ∷ []) (map f later)
+      ∙ ap (λ x. map g made ++ x ∷ map f later) n ∙ ap (λ x. map g made ++ map f x) (sym e) ∙ h.is;
+}
+
+mapped_done : {X Y Z : Type 0} (f : X → Y) (g : Z → Y) (all left : List X) (made : List Z) → MappedSoFar f g all made left → left ≡ [] → map g made ≡ map f all
+mapped_done f g all left made h none = sym (append-nil (map g made)) ∙ ap (λ x. map g made ++ map f x) (sym none) ∙ h.is
+
+abbrev pub PairsSoFar : Parts → (t.Tree → t.Tree) → List Step → List (Content × Content) → List (Content × Content) → List (Content × Content) → Type 0
+PairsSoFar ss put path = MappedSoFar (λ p. redacted_pair ss put path (pair_tree p)) pair_tree
+
+abbrev pub FieldsSoFar : Parts → (t.Tree → t.Tree) → List Step → List (List ℕ × Content) → List (List ℕ × Content) → List (List ℕ × Content) → Type 0
+FieldsSoFar ss put path = MappedSoFar (λ f. redacted_field ss put path (field_tree f)) field_tree
+
+-- one turn of each loop, over the path at that turn
+pub items_step : (ss : Parts) (put : t.Tree → t.Tree) (now was : List PathItem) (all made out left later : List Content) (a b : ℕ) (item new : Content) → ItemsSoFar ss put (map step_of was) all made left
+    → left ≡ item ∷ later → tree new ≡ redacted ss put (map step_of now ++ to_item a b ∷ []) (tree item) → now ≡ was → a ≡ length made → b ≡ length all → out ≡ made ++ new ∷ []
+    → ItemsSoFar ss put (map step_of was) all out later
+items_step ss put now was all made out left later a b item new h e n path first total o =
     let seen : tree new ≡ redacted ss put (map step_of was ++ to_item (length made) (length all) ∷ []) (tree item)
     = n ∙ ap (λ x. redacted ss put (map step_of x ++ to_item a b ∷ []) (tree item)) path ∙ ap (λ x. redacted ss put (map step_of was ++ to_item x b ∷ []) (tree item)) first
     ∙ ap (λ x. redacted ss put (map step_of was ++ to_item (length made) x ∷ []) (tree item)) total in
-    items_more ss put (map step_of was) all made (drop i items) (drop (i + 1) items) out item new h e seen o
+    items_more ss put (map step_of was) all made left later out item new h e seen o
 
-pub pairs_step : (ss : Parts) (put : t.Tree → t.Tree) (now later was : List PathItem) (outs out items : List (Content × Content)) (i : ℕ) (item : Content × Content) (name : List ℕ) (copy new_key new_value : Content)
+pub pairs_begin : (ss : Parts) (put : t.Tree → t.Tree) (path : List Step) (all made : List (Content × Content)) → made ≡ [] → PairsSoFar ss put path all made all
+pairs_begin ss put path all made e = mapped_begin (λ p. redacted_pair ss put path (pair_tree p)) pair_tree all made e
+
+pub pairs_step : (ss : Parts) (put : t.Tree → t.Tree) (now later was : List PathItem) (all made out left more : List (Content × Content)) (item : Content × Content) (name : List ℕ) (copy new_key new_value : Content)
+    → PairsSoFar ss put (map step_of was) all made left → left ≡ item ∷ more
     → now ≡ was → later ≡ now → name ≡ codes "$key" → tree copy ≡ tree item.0 → tree new_key ≡ redacted ss put (map step_of now ++ into_field name ∷ []) (tree item.0)
     → tree new_value ≡ redacted ss put (map step_of later ++ under_key (tree copy) ∷ []) (tree item.1)
-    → map pair_tree outs ≡ map (λ p. redacted_pair ss put (map step_of was) (pair_tree p)) (take i items) → i < length items → item ≡ get_or items i item → out ≡ outs ++ (new_key, new_value) ∷ []
-    → map pair_tree out ≡ map (λ p. redacted_pair ss put (map step_of was) (pair_tree p)) (take (i + 1) items)
-pairs_step ss put now later was outs out items i item name copy new_key new_value a b n k key value h small is o =
+    → out ≡ made ++ (new_key, new_value) ∷ [] → PairsSoFar ss put (map step_of was) all out more
+pairs_step ss put now later was all made out left more item name copy new_key new_value h e a b n k key value o =
     let first : tree new_key ≡ redacted ss put (map step_of was ++ into_field (codes "$key") ∷ []) (tree item.0)
     = key ∙ ap (λ x. redacted ss put (map step_of x ++ into_field name ∷ []) (tree item.0)) a ∙ ap (λ x. redacted ss put (map step_of was ++ into_field x ∷ []) (tree item.0)) n in
     let second : tree new_value ≡ redacted ss put (map step_of was ++ under_key (tree item.0) ∷ []) (tree item.1)
     = value ∙ ap (λ x. redacted ss put (map step_of x ++ under_key (tree copy) ∷ []) (tree item.1)) (b ∙ a) ∙ ap (λ x. redacted ss put (map step_of was ++ under_key x ∷ []) (tree item.1)) k in
     let both : pair_tree (new_key, new_value) ≡ redacted_pair ss put (map step_of was) (pair_tree item)
     = ap (λ x. (x, tree new_value)) first ∙ ap (λ x. (redacted ss put (map step_of was ++ into_field (codes "$key") ∷ []) (tree item.0), x)) second in
-    turn (λ p. redacted_pair ss put (map step_of was) (pair_tree p)) pair_tree outs out (new_key, new_value) items i item h small is both o
+    mapped_more (λ p. redacted_pair ss put (map step_of was) (pair_tree p)) pair_tree all left more made out item (new_key, new_value) h e both o
 
-pub pairs_done : (ss : Parts) (put : t.Tree → t.Tree) (was : List PathItem) (outs items all : List (Content × Content)) (i : ℕ) → map pair_tree outs ≡ map (λ p. redacted_pair ss put (map step_of was) (pair_tree p)) (take i items)
-    → length items ≤ i → items ≡ all → pair_trees outs ≡ redacted_pairs ss put (map step_of was) (pair_trees all)
-pairs_done ss put was outs items all i h done e =
-    ap t.pairs_of (h ∙ ap (map (λ p. redacted_pair ss put (map step_of was) (pair_tree p))) (take_all i items done ∙ e)) ∙ pairs_are ss put (map step_of was) all
+pub pairs_done : (ss : Parts) (put : t.Tree → t.Tree) (was : List PathItem) (all made left : List (Content × Content)) → PairsSoFar ss put (map step_of was) all made left → left ≡ []
+    → pair_trees made ≡ redacted_pairs ss put (map step_of was) (pair_trees all)
+pairs_done ss put was all made left h none =
+    ap t.pairs_of (mapped_done (λ p. redacted_pair ss put (map step_of was) (pair_tree p)) pair_tree all left made h none) ∙ pairs_are ss put (map step_of was) all
 
-pub fields_step : (ss : Parts) (put : t.Tree → t.Tree) (now was : List PathItem) (outs out items : List (List ℕ × Content)) (i : ℕ) (item : List ℕ × Content) (name copy : List ℕ) (new : Content)
-    → now ≡ was → name ≡ item.0 → copy ≡ item.0 → tree new ≡ redacted ss put (map step_of now ++ into_field name ∷ []) (tree item.1)
-    → map field_tree outs ≡ map (λ f. redacted_field ss put (map step_of was) (field_tree f)) (take i items) → i < length items → item ≡ get_or items i item → out ≡ outs ++ (copy, new) ∷ []
-    → map field_tree out ≡ map (λ f. redacted_field ss put (map step_of was) (field_tree f)) (take (i + 1) items)
-fields_step ss put now was outs out items i item name copy new a n k value h small is o =
+pub fields_begin : (ss : Parts) (put : t.Tree → t.Tree) (path : List Step) (all made : List (List ℕ × Content)) → made ≡ [] → FieldsSoFar ss put path all made all
+fields_begin ss put path all made e = mapped_begin (λ f. redacted_field ss put path (field_tree f)) field_tree all made e
+
+pub fields_step : (ss : Parts) (put : t.Tree → t.Tree) (now was : List PathItem) (all made out left more : List (List ℕ × Content)) (item : List ℕ × Content) (name : List ℕ) (new : Content)
+    → FieldsSoFar ss put (map step_of was) all made left → left ≡ item ∷ more
+    → now ≡ was → name ≡ item.0 → tree new ≡ redacted ss put (map step_of now ++ into_field name ∷ []) (tree item.1)
+    → out ≡ made ++ (item.0, new) ∷ [] → FieldsSoFar ss put (map step_of was) all out more
+fields_step ss put now was all made out left more item name new h e a n value o =
     let seen : tree new ≡ redacted ss put (map step_of was ++ into_field item.0 ∷ []) (tree item.1)
     = value ∙ ap (λ x. redacted ss put (map step_of x ++ into_field name ∷ []) (tree item.1)) a ∙ ap (λ x. redacted ss put (map step_of was ++ into_field x ∷ []) (tree item.1)) n in
-    let both : field_tree (copy, new) ≡ redacted_field ss put (map step_of was) (field_tree item) = ap (λ x. (x, tree new)) k ∙ ap (λ x. (item.0, x)) seen in
-    turn (λ f. redacted_field ss put (map step_of was) (field_tree f)) field_tree outs out (copy, new) items i item h small is both o
+    let both : field_tree (item.0, new) ≡ redacted_field ss put (map step_of was) (field_tree item) = ap (λ x. (item.0, x)) seen in
+    mapped_more (λ f. redacted_field ss put (map step_of was) (field_tree f)) field_tree all left more made out item (item.0, new) h e both o
 
-pub fields_done : (ss : Parts) (put : t.Tree → t.Tree) (was : List PathItem) (outs items all : List (List ℕ × Content)) (i : ℕ) → map field_tree outs ≡ map (λ f. redacted_field ss put (map step_of was) (field_tree f)) (take i items)
-    → length items ≤ i → items ≡ all → field_trees outs ≡ redacted_fields ss put (map step_of was) (field_trees all)
-fields_done ss put was outs items all i h done e =
-    ap t.fields_of (h ∙ ap (map (λ f. redacted_field ss put (map step_of was) (field_tree f))) (take_all i items done ∙ e)) ∙ fields_are ss put (map step_of was) all
+pub fields_done : (ss : Parts) (put : t.Tree → t.Tree) (was : List PathItem) (all made left : List (List ℕ × Content)) → FieldsSoFar ss put (map step_of was) all made left → left ≡ []
+    → field_trees made ≡ redacted_fields ss put (map step_of was) (field_trees all)
+fields_done ss put was all made left h none =
+    ap t.fields_of (mapped_done (λ f. redacted_field ss put (map step_of was) (field_tree f)) field_tree all left made h none) ∙ fields_are ss put (map step_of was) all
+
+pub nothing_left : {X : Type 0} (xs : List X) → length xs ≡ 0 → xs ≡ []
+nothing_left [] h = refl
+nothing_left (x ∷ xs) h = absurd (omega arith)

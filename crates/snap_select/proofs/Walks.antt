@@ -315,10 +315,11 @@ to_end ps ss from (Some v) second after k b =
     shut [] b = (ready ps (ss ++ Range from (Some (signed_value k.negative k.digits)) ∷ []), refl, refl)
     shut (c ∷ cs) b =
         let q = and_parts (is_blank c) (list_all is_blank cs) b in
-        let segment = Range from (Some (signed_value k.negative k.digits)) in
-        (inside ps ss (closing segment),
-        at_blank (λ x. step (inside ps ss (to_number from k.negative k.digits)) x ≡ Some (inside ps ss (closing (Range from (Some (signed_value k.negative k.digits)))))) c q.0 refl refl,
-        closes ps ss segment cs q.1)
+        let segment = Range from (Some (signed_value k.negative k.digits)) in (
+          inside ps ss (closing segment),
+          at_blank (λ x. step (inside ps ss (to_number from k.negative k.digits)) x ≡ Some (inside ps ss (closing (Range from (Some (signed_value k.negative k.digits)))))) c q.0 refl refl,
+          closes ps ss segment cs q.1,
+        )
 
 range_on : (s : Place) (ps : Parts) (ss : List Segment) (from to : Option ℤ) (before held after text : List ℕ) → AtEnd s ps ss → AreBlanks before → AreBlanks after
     → text ≡ 91 ∷ before ++ held ++ after ++ 93 ∷ [] → SpellsBounds from to held → LeadsToEnd s text ps (ss ++ Range from to ∷ [])

@@ -49,7 +49,7 @@ pub data IsTooLarge (opening : List ℕ) (negative : Bool) (digits after : List 
   neither : (blanks : List ℕ) → opening ≡ 91 ∷ blanks → AreBlanks blanks → ¬ FitsIndex negative digits → ¬ FitsBound (signed_value negative digits) → IsTooLarge opening negative digits after
   first : (blanks gap back : List ℕ) → opening ≡ 91 ∷ blanks → AreBlanks blanks → after ≡ gap ++ 58 ∷ back → AreBlanks gap → ¬ FitsBound (signed_value negative digits) → IsTooLarge opening negative digits after
   second : (blanks bound gap gap' : List ℕ) (from : Option ℤ) → opening ≡ 91 ∷ blanks ++ bound ++ gap ++ 58 ∷ gap' → AreBlanks blanks → MayBound from bound → AreBlanks gap → AreBlanks gap'
-    → ¬ FitsBound (signed_value negative digits) → IsTooLarge opening negative digits after
+      → ¬ FitsBound (signed_value negative digits) → IsTooLarge opening negative digits after
 
 -- a number that doesn't fit begins at this column, its minus counted, behind a bracket that may stand there
 pub record TooLargeAt (text : List ℕ) (column : ℕ) : Type 0 where

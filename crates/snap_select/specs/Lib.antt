@@ -16,3 +16,4 @@ pub mod InOrder
 pub mod SortedTree
 pub mod Put
 pub mod Selected
+pub mod Reaching

@@ -13,10 +13,10 @@ use crate::selector::Selector;
 use snap_content::{Content, Fields, Items, OutOfMemory, Pairs, Text};
 use std::alloc::Global;
 
-/// A copy of the tree at a path, redacted.
+/// The tree at a path, redacted.
 #[cycle(redact)]
 fn redact_at(
-    value: &Content,
+    value: Content,
     selector: &Selector<'_>,
     redaction: &Redaction,
     alloc: Global,
@@ -24,11 +24,14 @@ fn redact_at(
 ) -> Result<Content, OutOfMemory>
     ensures ok { IfOk result (λ out. tree out
         ≡ redacted (parts_of selector.now) (put_of redaction.now) (map step_of path.old.items)
-        (tree value.now)) }
+        (tree value)) }
     ensures path { OnOk result (path.new.items ≡ path.old.items) }
 {
     if selector.is_match(path.as_slice()) {
         return redaction.replacement(alloc, value);
+    }
+    if !selector.reaches(path.as_slice()) {
+        return Ok(value);
     }
     redact_inside(value, selector, redaction, alloc, path)
 }
@@ -36,7 +39,7 @@ fn redact_at(
 /// The same behind one step more.
 #[cycle(redact)]
 fn redact_behind(
-    value: &Content,
+    value: Content,
     selector: &Selector<'_>,
     redaction: &Redaction,
     alloc: Global,
@@ -45,7 +48,7 @@ fn redact_behind(
 ) -> Result<Content, OutOfMemory>
     ensures ok { IfOk result (λ out. tree out
         ≡ redacted (parts_of selector.now) (put_of redaction.now)
-        (map step_of path.old.items ++ step_of step ∷ []) (tree value.now)) }
+        (map step_of path.old.items ++ step_of step ∷ []) (tree value)) }
     ensures path { OnOk result (path.new.items ≡ path.old.items) }
 {
     path.push(step)?;
@@ -57,7 +60,7 @@ fn redact_behind(
 /// The same in a box, behind the same steps.
 #[cycle(redact)]
 fn redact_box(
-    value: &Box<Content>,
+    value: Box<Content>,
     selector: &Selector<'_>,
     redaction: &Redaction,
     alloc: Global,
@@ -65,17 +68,17 @@ fn redact_box(
 ) -> Result<Box<Content>, OutOfMemory>
     ensures ok { IfOk result (λ out. tree out.value
         ≡ redacted (parts_of selector.now) (put_of redaction.now) (map step_of path.old.items)
-        (tree value.now.value)) }
+        (tree value.value)) }
     ensures path { OnOk result (path.new.items ≡ path.old.items) }
 {
-    let inner = redact_at(value, selector, redaction, alloc, path)?;
+    let inner = redact_at(Box::into_inner(value), selector, redaction, alloc, path)?;
     Ok(Box::new(alloc, inner)?)
 }
 
-/// A copy of the tree at a path that isn't matched, with its parts redacted.
+/// The tree at a path that isn't matched, with its parts redacted.
 #[cycle(redact)]
 fn redact_inside(
-    value: &Content,
+    value: Content,
     selector: &Selector<'_>,
     redaction: &Redaction,
     alloc: Global,
@@ -83,7 +86,7 @@ fn redact_inside(
 ) -> Result<Content, OutOfMemory>
     ensures ok { IfOk result (λ out. tree out
         ≡ inside (parts_of selector.now) (put_of redaction.now) (map step_of path.old.items)
-        (tree value.now)) }
+        (tree value)) }
     ensures path { OnOk result (path.new.items ≡ path.old.items) }
 {
     match value {
@@ -91,14 +94,12 @@ fn redact_inside(
             Ok(Content::Some(redact_box(inner, selector, redaction, alloc, path)?))
         }
         Content::NewtypeStruct(name, inner) => {
-            let name = name.try_clone(alloc)?;
             let inner = redact_box(inner, selector, redaction, alloc, path)?;
             Ok(Content::NewtypeStruct(name, inner))
         }
         Content::NewtypeVariant(name, index, variant, inner) => {
-            let (name, variant) = names(alloc, name, variant)?;
             let inner = redact_box(inner, selector, redaction, alloc, path)?;
-            Ok(Content::NewtypeVariant(name, *index, variant, inner))
+            Ok(Content::NewtypeVariant(name, index, variant, inner))
         }
         Content::Seq(items) => {
             Ok(Content::Seq(redact_items(items, selector, redaction, alloc, path)?))
@@ -107,44 +108,32 @@ fn redact_inside(
             Ok(Content::Tuple(redact_items(items, selector, redaction, alloc, path)?))
         }
         Content::TupleStruct(name, items) => {
-            let name = name.try_clone(alloc)?;
             let items = redact_items(items, selector, redaction, alloc, path)?;
             Ok(Content::TupleStruct(name, items))
         }
         Content::TupleVariant(name, index, variant, items) => {
-            let (name, variant) = names(alloc, name, variant)?;
             let items = redact_items(items, selector, redaction, alloc, path)?;
-            Ok(Content::TupleVariant(name, *index, variant, items))
+            Ok(Content::TupleVariant(name, index, variant, items))
         }
         Content::Map(pairs) => {
             Ok(Content::Map(redact_pairs(pairs, selector, redaction, alloc, path)?))
         }
         Content::Struct(name, fields) => {
-            let name = name.try_clone(alloc)?;
             let fields = redact_fields(fields, selector, redaction, alloc, path)?;
             Ok(Content::Struct(name, fields))
         }
         Content::StructVariant(name, index, variant, fields) => {
-            let (name, variant) = names(alloc, name, variant)?;
             let fields = redact_fields(fields, selector, redaction, alloc, path)?;
-            Ok(Content::StructVariant(name, *index, variant, fields))
+            Ok(Content::StructVariant(name, index, variant, fields))
         }
-        _ => value.try_clone(alloc),
+        leaf => Ok(leaf),
     }
 }
 
-/// Copies of two names.
-fn names(alloc: Global, name: &Text, variant: &Text) -> Result<(Text, Text), OutOfMemory>
-    ensures { IfOk result (λ copies. copies ≡ (name.now, variant.now)) }
-{
-    let name = name.try_clone(alloc)?;
-    Ok((name, variant.try_clone(alloc)?))
-}
-
-/// Copies of the items of a list, each redacted behind its place.
+/// The items of a list, each redacted behind its place.
 #[cycle(redact)]
 fn redact_items(
-    items: &Items,
+    items: Items,
     selector: &Selector<'_>,
     redaction: &Redaction,
     alloc: Global,
@@ -152,22 +141,23 @@ fn redact_items(
 ) -> Result<Items, OutOfMemory>
     ensures ok { IfOk result (λ out. item_trees (item_list out)
         ≡ redacted_items (parts_of selector.now) (put_of redaction.now) (map step_of path.old.items)
-        (count_of (item_trees (item_list items.now))) 0 (item_trees (item_list items.now))) }
+        (count_of (item_trees (item_list items))) 0 (item_trees (item_list items))) }
     ensures path { OnOk result (path.new.items ≡ path.old.items) }
 {
+    let length = items.len() as u64;
     let mut out = Items::new(alloc);
-    for item in items.as_slice() {
-        let step = PathItem::Index(out.len() as u64, items.len() as u64);
+    for item in items.into_vec() {
+        let step = PathItem::Index(out.len() as u64, length);
         let new_item = redact_behind(item, selector, redaction, alloc, path, step)?;
         out.push(new_item)?;
     }
     Ok(out)
 }
 
-/// Copies of the pairs of a map, each key redacted under the field `$key`, and each value under its key as it was.
+/// The pairs of a map, each key redacted under the field `$key`, and each value under its key as it was.
 #[cycle(redact)]
 fn redact_pairs(
-    pairs: &Pairs,
+    pairs: Pairs,
     selector: &Selector<'_>,
     redaction: &Redaction,
     alloc: Global,
@@ -175,24 +165,24 @@ fn redact_pairs(
 ) -> Result<Pairs, OutOfMemory>
     ensures ok { IfOk result (λ out. pair_trees (pair_list out)
         ≡ redacted_pairs (parts_of selector.now) (put_of redaction.now) (map step_of path.old.items)
-        (pair_trees (pair_list pairs.now))) }
+        (pair_trees (pair_list pairs))) }
     ensures path { OnOk result (path.new.items ≡ path.old.items) }
 {
     let mut out = Pairs::new(alloc);
-    for (key, value) in pairs.as_slice() {
+    for (key, value) in pairs.into_vec() {
+        let under_key = PathItem::Content(key.try_clone(alloc)?);
         let step = PathItem::Field(Text::from_ascii(alloc, "$key")?);
         let new_key = redact_behind(key, selector, redaction, alloc, path, step)?;
-        let step = PathItem::Content(key.try_clone(alloc)?);
-        let new_value = redact_behind(value, selector, redaction, alloc, path, step)?;
+        let new_value = redact_behind(value, selector, redaction, alloc, path, under_key)?;
         out.push((new_key, new_value))?;
     }
     Ok(out)
 }
 
-/// Copies of the fields of a struct, each redacted behind its name.
+/// The fields of a struct, each redacted behind its name.
 #[cycle(redact)]
 fn redact_fields(
-    fields: &Fields,
+    fields: Fields,
     selector: &Selector<'_>,
     redaction: &Redaction,
     alloc: Global,
@@ -200,27 +190,27 @@ fn redact_fields(
 ) -> Result<Fields, OutOfMemory>
     ensures ok { IfOk result (λ out. field_trees (field_list out)
         ≡ redacted_fields (parts_of selector.now) (put_of redaction.now) (map step_of path.old.items)
-        (field_trees (field_list fields.now))) }
+        (field_trees (field_list fields))) }
     ensures path { OnOk result (path.new.items ≡ path.old.items) }
 {
     let mut out = Fields::new(alloc);
-    for (name, value) in fields.as_slice() {
+    for (name, value) in fields.into_vec() {
         let step = PathItem::Field(name.try_clone(alloc)?);
         let new_value = redact_behind(value, selector, redaction, alloc, path, step)?;
-        out.push((name.try_clone(alloc)?, new_value))?;
+        out.push((name, new_value))?;
     }
     Ok(out)
 }
 
-/// A copy of the tree, redacted.
+/// The whole tree, redacted.
 fn redact_tree(
-    value: &Content,
+    value: Content,
     selector: &Selector<'_>,
     redaction: &Redaction,
     alloc: Global,
 ) -> Result<Content, OutOfMemory>
     ensures { IfOk result (λ out. tree out
-        ≡ redacted (parts_of selector.now) (put_of redaction.now) [] (tree value.now)) }
+        ≡ redacted (parts_of selector.now) (put_of redaction.now) [] (tree value)) }
 {
     let mut path = Vec::new(alloc);
     redact_at(value, selector, redaction, alloc, &mut path)
@@ -247,6 +237,6 @@ impl Selector<'_> {
         ensures parts { IfOk result (λ out. tree out
             ≡ redacted (parts_of self.now) (put_of redaction.now) [] (tree value)) }
     {
-        redact_tree(&value, self, redaction, alloc)
+        redact_tree(value, self, redaction, alloc)
     }
 }

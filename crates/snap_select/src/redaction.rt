@@ -26,12 +26,12 @@ impl Redaction {
     }
 
     /// What stands in place of this value.
-    pub(crate) fn replacement(&self, alloc: Global, value: &Content) -> Result<Content, OutOfMemory>
-        ensures { IfOk result (λ out. tree out ≡ put_of self.now (tree value.now)) }
+    pub(crate) fn replacement(&self, alloc: Global, value: Content) -> Result<Content, OutOfMemory>
+        ensures { IfOk result (λ out. tree out ≡ put_of self.now (tree value)) }
     {
         match self {
             Redaction::Static(content) => content.try_clone(alloc),
-            Redaction::Sorted => in_order(alloc, value.try_clone(alloc)?),
+            Redaction::Sorted => in_order(alloc, value),
         }
     }
 }
