@@ -8,10 +8,10 @@ pub mod Rewrapped
 pub mod Booleans
 pub mod BeforeRest
 pub mod DictMade
-mod Joined
+pub mod Joined
 mod Rearrangements
 mod KeyOrdered
 mod OneOrder
 mod Settled
 mod Visits
-mod WalkTurns
+pub mod WalkTurns

@@ -12,6 +12,7 @@ pub mod Quotes
 pub mod Typed
 pub mod Spell
 pub mod Lines
+pub mod Meanings
 pub mod Readable
 pub mod Printed
 pub mod Orders

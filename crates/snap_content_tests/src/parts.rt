@@ -106,6 +106,42 @@ fn made<T: ToContent>(alloc: Global, value: &T) -> Result<Content, OutOfMemory> 
 fn trees_of_values(rt: HostRuntime) -> Result<(), Fail> {
     let tree = Content::Seq(one_item(rt.alloc(), "a")?);
     assert!(rt; made(rt.alloc(), &tree)? == tree);
+    assert!(rt; made(rt.alloc(), &())? == Content::Unit);
+    assert!(rt; made(rt.alloc(), &true)? == Content::Bool(true));
+    assert!(rt; made(rt.alloc(), &'é')? == Content::Char('é'));
+    assert!(rt; made(rt.alloc(), &"a")? == Content::from_str(rt.alloc(), "a")?);
+    assert!(rt;
+        made(rt.alloc(), &Text::from_str(rt.alloc(), "a")?)? == Content::from_str(rt.alloc(), "a")?
+    );
+    Ok(())
+}
+
+#[test]
+fn trees_of_numbers(rt: HostRuntime) -> Result<(), Fail> {
+    assert!(rt; made(rt.alloc(), &255u8)? == Content::U8(255));
+    assert!(rt; made(rt.alloc(), &7u16)? == Content::U16(7));
+    assert!(rt; made(rt.alloc(), &7u32)? == Content::U32(7));
+    assert!(rt; made(rt.alloc(), &u64::MAX)? == Content::U64(u64::MAX));
+    assert!(rt; made(rt.alloc(), &u128::MAX)? == Content::U128(u128::MAX));
+    assert!(rt; made(rt.alloc(), &usize::MAX)? == Content::U64(u64::MAX));
+    assert!(rt; made(rt.alloc(), &-128i8)? == Content::I8(-128));
+    assert!(rt; made(rt.alloc(), &-7i16)? == Content::I16(-7));
+    assert!(rt; made(rt.alloc(), &-7i32)? == Content::I32(-7));
+    assert!(rt; made(rt.alloc(), &i64::MIN)? == Content::I64(i64::MIN));
+    assert!(rt; made(rt.alloc(), &i128::MIN)? == Content::I128(i128::MIN));
+    assert!(rt; made(rt.alloc(), &isize::MIN)? == Content::I64(i64::MIN));
+    Ok(())
+}
+
+#[test]
+fn trees_of_what_holds_values(rt: HostRuntime) -> Result<(), Fail> {
+    let absent: Option<bool> = None;
+    assert!(rt; made(rt.alloc(), &absent)? == Content::None);
+    let inner = Box::new(rt.alloc(), Content::U8(3))?;
+    assert!(rt; made(rt.alloc(), &Some(3u8))? == Content::Some(inner));
+    let list = Content::Seq(one_item(rt.alloc(), "a")?);
+    assert!(rt; made(rt.alloc(), &vec![in rt.alloc(); "a"]?)? == list);
+    assert!(rt; made(rt.alloc(), &["a"].as_slice())? == list);
     Ok(())
 }
 

@@ -118,9 +118,8 @@ fn maps_inside_trees(rt: HostRuntime) -> Result<(), Fail> {
     Ok(())
 }
 
-/// Keys from the least to the greatest: truths, numbers without a sign and characters, numbers with one,
-/// those of 128 bits, texts and bytes, of which some stand in a wrapper.
-fn push_keys_with_values(alloc: Global, keys: &mut Items) -> Result<(), OutOfMemory> {
+/// Truths, and numbers without a sign and characters, from the least key to the greatest; one stands in a wrapper.
+fn push_truths_and_numbers(alloc: Global, keys: &mut Items) -> Result<(), OutOfMemory> {
     keys.push(Content::Bool(false))?;
     keys.push(Content::Bool(true))?;
     keys.push(Content::U8(1))?;
@@ -129,6 +128,11 @@ fn push_keys_with_values(alloc: Global, keys: &mut Items) -> Result<(), OutOfMem
     keys.push(Content::Char('A'))?;
     keys.push(Content::U32(66))?;
     keys.push(Content::U64(u64::MAX))?;
+    Ok(())
+}
+
+/// Numbers with a sign, and those of 128 bits.
+fn push_wide_numbers(alloc: Global, keys: &mut Items) -> Result<(), OutOfMemory> {
     keys.push(Content::I64(i64::MIN))?;
     keys.push(Content::I8(-1))?;
     keys.push(Content::I16(0))?;
@@ -137,6 +141,11 @@ fn push_keys_with_values(alloc: Global, keys: &mut Items) -> Result<(), OutOfMem
     keys.push(Content::U128(5))?;
     keys.push(Content::I128(-5))?;
     keys.push(Content::I128(0))?;
+    Ok(())
+}
+
+/// Texts and bytes.
+fn push_texts_and_bytes(alloc: Global, keys: &mut Items) -> Result<(), OutOfMemory> {
     for text in ["", "B", "a", "ab", "b"] {
         keys.push(Content::from_str(alloc, text)?)?;
     }
@@ -172,7 +181,9 @@ fn map_with(alloc: Global, keys: &[Content]) -> Result<Content, OutOfMemory> {
 #[test]
 fn keys_of_each_rank(rt: HostRuntime) -> Result<(), Fail> {
     let mut keys = Items::new(rt.alloc());
-    push_keys_with_values(rt.alloc(), &mut keys)?;
+    push_truths_and_numbers(rt.alloc(), &mut keys)?;
+    push_wide_numbers(rt.alloc(), &mut keys)?;
+    push_texts_and_bytes(rt.alloc(), &mut keys)?;
     push_other_keys(rt.alloc(), &mut keys)?;
     let mut keys = keys.into_vec();
     let sorted = map_with(rt.alloc(), keys.as_slice())?;
@@ -208,84 +219,31 @@ fn keys_are_sorted_before_they_compare(rt: HostRuntime) -> Result<(), Fail> {
     sorts(&rt, rt.alloc(), tree, &sorted)
 }
 
-/// A tree, and the key that it is.
-struct Row {
-    tree: Content,
-    key: Key<'static>,
+/// That the tree is this key.
+fn is_key(rt: &impl Abort, tree: Content, key: Key<'static>) {
+    assert!(rt; tree.as_key() == key);
 }
 
 #[test]
-fn keys_without_a_sign(rt: HostRuntime) -> Result<(), Fail> {
-    for row in &[
-        Row {
-            tree: Content::Bool(true),
-            key: Key::Bool(true),
-        },
-        Row {
-            tree: Content::U8(255),
-            key: Key::U64(255),
-        },
-        Row {
-            tree: Content::U16(7),
-            key: Key::U64(7),
-        },
-        Row {
-            tree: Content::U32(7),
-            key: Key::U64(7),
-        },
-        Row {
-            tree: Content::U64(u64::MAX),
-            key: Key::U64(u64::MAX),
-        },
-        Row {
-            tree: Content::Char('é'),
-            key: Key::U64(233),
-        },
-        Row {
-            tree: Content::U128(7),
-            key: Key::U128(7),
-        },
-    ] {
-        assert!(rt; row.tree.as_key() == row.key);
-    }
-    Ok(())
+fn keys_without_a_sign(rt: HostRuntime) {
+    is_key(&rt, Content::Bool(true), Key::Bool(true));
+    is_key(&rt, Content::U8(255), Key::U64(255));
+    is_key(&rt, Content::U16(7), Key::U64(7));
+    is_key(&rt, Content::U32(7), Key::U64(7));
+    is_key(&rt, Content::U64(u64::MAX), Key::U64(u64::MAX));
+    is_key(&rt, Content::Char('é'), Key::U64(233));
+    is_key(&rt, Content::U128(7), Key::U128(7));
 }
 
 #[test]
-fn keys_with_a_sign(rt: HostRuntime) -> Result<(), Fail> {
-    for row in &[
-        Row {
-            tree: Content::I8(-128),
-            key: Key::I64(-128),
-        },
-        Row {
-            tree: Content::I16(-7),
-            key: Key::I64(-7),
-        },
-        Row {
-            tree: Content::I32(7),
-            key: Key::I64(7),
-        },
-        Row {
-            tree: Content::I64(i64::MIN),
-            key: Key::I64(i64::MIN),
-        },
-        Row {
-            tree: Content::I128(7),
-            key: Key::I128(7),
-        },
-        Row {
-            tree: Content::None,
-            key: Key::Other,
-        },
-        Row {
-            tree: Content::Unit,
-            key: Key::Other,
-        },
-    ] {
-        assert!(rt; row.tree.as_key() == row.key);
-    }
-    Ok(())
+fn keys_with_a_sign(rt: HostRuntime) {
+    is_key(&rt, Content::I8(-128), Key::I64(-128));
+    is_key(&rt, Content::I16(-7), Key::I64(-7));
+    is_key(&rt, Content::I32(7), Key::I64(7));
+    is_key(&rt, Content::I64(i64::MIN), Key::I64(i64::MIN));
+    is_key(&rt, Content::I128(7), Key::I128(7));
+    is_key(&rt, Content::None, Key::Other);
+    is_key(&rt, Content::Unit, Key::Other);
 }
 
 #[test]
