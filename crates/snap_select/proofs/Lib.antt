@@ -1,9 +1,6 @@
 pub mod PieceFacts
 pub mod QuotedText
 pub mod Lasts
-pub mod RedactedParts
-pub mod QuietTrees
-pub mod RedactedLists
 mod StableSorts
 mod ListsInOrder
 pub mod SortedTrees
@@ -19,3 +16,9 @@ pub mod Oversize
 pub mod Readers
 pub mod Bounds
 pub mod ShownPaths
+pub mod OneRedacted
+mod Answered
+mod Reached
+mod RedactedLists
+mod RedactedParts
+mod QuietTrees

@@ -1,147 +1,130 @@
--- Lists of redacted parts, item by item.
-use Rattle.std.proofs.Common.{◌≡◌, ℕ, suc, ◌+◌, ◌<◌, ◌≤◌, get_or, add-one, drop-cons, List, [], ◌∷◌, ◌++◌, length, map, take, drop, refl, sym, ap, ◌∙◌, subst, append_assoc, append-nil, arith, length-append}
-use Rattle.std.proofs.lemmas.List.{length-map, map-append, take_more, take_all}
+-- Turns of the loops that redact lists in place, and one level of a tree.
+use Rattle.std.proofs.Common.{◌≡◌, ℕ, suc, ◌+◌, ◌<◌, ◌≤◌, List, [], ◌∷◌, ◌++◌, get_or, set, take, drop, length, map, refl, sym, ap, ◌∙◌, subst, arith, add-one, drop-cons}
+use Rattle.std.proofs.lemmas.List.{drop-set-lt, take_more_set, take_all, drop_all}
 use Rattle.std.specs.Prelude.{codes}
 use Rattle.snap_content.specs.Tree as t
-use Rattle.snap_content.specs.View.{tree, item_trees, pair_tree, pair_trees, field_list, field_tree, field_trees}
-use Rattle.snap_content.specs.declared.content.Content.{Content, Struct, StructVariant}
-use Rattle.snap_content.specs.declared.lists.Fields.{Fields}
-use Rattle.snap_content.proofs.Views.{tree-Struct, tree-StructVariant}
+use Rattle.snap_content.specs.View.{tree, item_trees, pair_trees, field_trees}
+use Rattle.snap_content.specs.declared.content.Content.{Content}
+use Rattle.snap_content.proofs.Joined.{joined, joined-push, joined-end, joined_pairs, joined_pairs-push, joined_pairs-end, joined_fields, joined_fields-push, joined_fields-end}
 use Rattle.snap_select.specs.Matching.{Step, step_of, to_item, into_field, under_key}
-use Rattle.snap_select.specs.Positions.{count_of}
-use Rattle.snap_select.specs.Redacted.{inside, redacted, redacted_items, redacted_pairs, redacted_fields}
-use Rattle.snap_select.specs.declared.path_item.PathItem.{PathItem}
 use Rattle.snap_select.specs.Parts.{Parts}
+use Rattle.snap_select.specs.Positions.{count_of}
+use Rattle.snap_select.specs.Put.{Allowed}
+use Rattle.snap_select.specs.Redacting.{ItemsRedacted, PairsRedacted, FieldsRedacted, RedactedAt, IsRedacted}
+use Rattle.snap_select.specs.declared.path_item.PathItem.{PathItem}
 
--- items from a position on
-abbrev pub items_from : Parts → (t.Tree → t.Tree) → List Step → ℕ → ℕ → List t.Tree → List t.Tree
-items_from ss put path total index [] = []
-items_from ss put path total index (x ∷ xs) = redacted ss put (path ++ to_item index total ∷ []) x ∷ items_from ss put path total (suc index) xs
-
-abbrev pub redacted_pair : Parts → (t.Tree → t.Tree) → List Step → t.Tree × t.Tree → t.Tree × t.Tree
-redacted_pair ss put path p = (redacted ss put (path ++ into_field (codes "$key") ∷ []) p.0, redacted ss put (path ++ under_key p.0 ∷ []) p.1)
-
-abbrev pub redacted_field : Parts → (t.Tree → t.Tree) → List Step → List ℕ × t.Tree → List ℕ × t.Tree
-redacted_field ss put path f = (f.0, redacted ss put (path ++ into_field f.0 ∷ []) f.1)
-
-items_are : (ss : Parts) (put : t.Tree → t.Tree) (path : List Step) (total index : ℕ) (xs : List t.Tree) → t.trees_of (items_from ss put path total index xs) ≡ redacted_items ss put path total index (t.trees_of xs)
-items_are ss put path total index [] = refl
-items_are ss put path total index (x ∷ xs) = ap (λ y. t.tree (redacted ss put (path ++ to_item index total ∷ []) x) y) (items_are ss put path total (suc index) xs)
-
-count_is : (xs : List t.Tree) → length xs ≡ count_of (t.trees_of xs)
+pub count_is : (cs : List Content) → length cs ≡ count_of (item_trees cs)
 count_is [] = refl
 count_is (x ∷ xs) = ap suc (count_is xs)
 
-pub pairs_are : (ss : Parts) (put : t.Tree → t.Tree) (path : List Step) (ps : List (Content × Content))
-    → t.pairs_of (map (λ p. redacted_pair ss put path (pair_tree p)) ps) ≡ redacted_pairs ss put path (pair_trees ps)
-pairs_are ss put path [] = refl
-pairs_are ss put path (p ∷ ps) =
-    ap (λ y. t.pair (redacted_pair ss put path (pair_tree p)).0 (redacted_pair ss put path (pair_tree p)).1 y) (pairs_are ss put path ps)
+module _ (ss : Parts) (allows : Allowed) where
+  -- what is still to come makes, behind what is done, what the whole list becomes
+  abbrev pub ItemsSoFar : List Step → List Content → ℕ → List Content → Type 0
+  ItemsSoFar path all i now =
+      (rest : t.Trees) → ItemsRedacted ss allows path (count_of (item_trees all)) i (item_trees (drop i now)) rest
+      → ItemsRedacted ss allows path (count_of (item_trees all)) 0 (item_trees all) (joined (take i now) rest)
 
-pub fields_are : (ss : Parts) (put : t.Tree → t.Tree) (path : List Step) (fs : List (List ℕ × Content))
-    → t.fields_of (map (λ f. redacted_field ss put path (field_tree f)) fs) ≡ redacted_fields ss put path (field_trees fs)
-fields_are ss put path [] = refl
-fields_are ss put path (f ∷ fs) = ap (λ y. t.field f.0 (redacted_field ss put path (field_tree f)).1 y) (fields_are ss put path fs)
+  abbrev pub PairsSoFar : List Step → List (Content × Content) → ℕ → List (Content × Content) → Type 0
+  PairsSoFar path all i now =
+      (rest : t.TreePairs) → PairsRedacted ss allows path (pair_trees (drop i now)) rest
+      → PairsRedacted ss allows path (pair_trees all) (joined_pairs (take i now) rest)
 
--- what is made of the items so far, and what is left of them
-pub record ItemsSoFar (ss : Parts) (put : t.Tree → t.Tree) (path : List Step) (all made left : List Content) : Type 0 where
-  pub is : map tree made ++ items_from ss put path (length all) (length made) (map tree left) ≡ items_from ss put path (length all) 0 (map tree all)
+  abbrev pub FieldsSoFar : List Step → List (List ℕ × Content) → ℕ → List (List ℕ × Content) → Type 0
+  FieldsSoFar path all i now =
+      (rest : t.TreeFields) → FieldsRedacted ss allows path (field_trees (drop i now)) rest
+      → FieldsRedacted ss allows path (field_trees all) (joined_fields (take i now) rest)
 
-pub items_begin : (ss : Parts) (put : t.Tree → t.Tree) (path : List Step) (all made : List Content) → made ≡ [] → ItemsSoFar ss put path all made all
-items_begin ss put path all made e = let P : List Content → Type 0 = λ x. ItemsSoFar ss put path all x all in subst P (sym e) (record { is = refl })
+  pub items_begin : (path : List Step) (all now : List Content) → now ≡ all → ItemsSoFar path all 0 now
+  items_begin path all now same rest = subst (λ z. ItemsRedacted ss allows path (count_of (item_trees all)) 0 (item_trees z) rest) same
 
-map_end : (made : List Content) (new : Content) → map tree (made ++ new ∷ []) ≡ map tree made ++ tree new ∷ []
-map_end [] new = refl
-map_end (x ∷ xs) new = ap (λ y. tree x ∷ y) (map_end xs new)
+  pub items_turn : (was path : List PathItem) (all now : List Content) (i total : ℕ) (step : PathItem) (x y : Content)
+      → ItemsSoFar (map step_of was) all i now → path ≡ was → step_of step ≡ to_item i total → total ≡ length all → i < length now → x ≡ get_or now i x
+      → RedactedAt ss allows (map step_of path ++ step_of step ∷ []) (tree x) (tree y) → ItemsSoFar (map step_of was) all (i + 1) (set now i y)
+  items_turn was path all now i total step x y so_far same place count small is new rest later =
+      let all_count : ℕ = count_of (item_trees all) in
+      let steps : List Step = map step_of was in
+      let e : drop i now ≡ x ∷ drop (suc i) now = drop-cons now i x small ∙ ap (λ z. z ∷ drop (suc i) now) (sym is) in
+      let left : drop (i + 1) (set now i y) ≡ drop (suc i) now = drop-set-lt (i + 1) now i y (omega arith) ∙ ap (λ k. drop k now) (add-one i) in
+      let next : ItemsRedacted ss allows steps all_count (suc i) (item_trees (drop (suc i) now)) rest
+      = subst (λ k. ItemsRedacted ss allows steps all_count k (item_trees (drop (suc i) now)) rest) (add-one i)
+      (subst (λ z. ItemsRedacted ss allows steps all_count (i + 1) (item_trees z) rest) left later) in
+      let here : RedactedAt ss allows (steps ++ to_item i all_count ∷ []) (tree x) (tree y)
+      = subst (λ s. RedactedAt ss allows (steps ++ s ∷ []) (tree x) (tree y)) (place ∙ ap (to_item i) (count ∙ count_is all))
+      (subst (λ p. RedactedAt ss allows (map step_of p ++ step_of step ∷ []) (tree x) (tree y)) same new) in
+      let one : ItemsRedacted ss allows steps all_count i (item_trees (drop i now)) (t.tree (tree y) rest)
+      = subst (λ z. ItemsRedacted ss allows steps all_count i (item_trees z) (t.tree (tree y) rest)) (sym e) (tree y, rest, refl, here, next) in
+      subst (λ z. ItemsRedacted ss allows steps all_count 0 (item_trees all) z)
+      (sym (joined-push (take i now) y rest) ∙ ap (λ z. joined z rest) (sym (take_more_set now i y small)))
+      (so_far (t.tree (tree y) rest) one)
 
-pub items_more : (ss : Parts) (put : t.Tree → t.Tree) (path : List Step) (all made left later out : List Content) (item new : Content) → ItemsSoFar ss put path all made left → left ≡ item ∷ later
-    → tree new ≡ redacted ss put (path ++ to_item (length made) (length all) ∷ []) (tree item) → out ≡ made ++ new ∷ [] → ItemsSoFar ss put path all out later
-items_more ss put path all made left later out item new h e n o =
-    let P : List Content → Type 0 = λ x. ItemsSoFar ss put path all x later in
-    let here : List t.Tree → List t.Tree = λ x. x ++ items_from ss put path (length all) (length (made ++ new ∷ [])) (map tree later) in
-    let count : length (made ++ new ∷ []) ≡ suc (length made) = omega (arith, length-append made (new ∷ [])) in
-    let front : map tree (made ++ new ∷ []) ++ items_from ss put path (length all) (length (made ++ new ∷ [])) (map tree later)
-    ≡ (map tree made ++ tree new ∷ []) ++ items_from ss put path (length all) (suc (length made)) (map tree later)
-    = ap here (map_end made new) ∙ ap (λ x. (map tree made ++ tree new ∷ []) ++ items_from ss put path (length all) x (map tree later)) count in
-    let middle : (map tree made ++ tree new ∷ []) ++ items_from ss put path (length all) (suc (length made)) (map tree later)
-    ≡ map tree made ++ tree new ∷ items_from ss put path (length all) (suc (length made)) (map tree later)
-    = append_assoc (map tree made) (tree new ∷ []) (items_from ss put path (length all) (suc (length made)) (map tree later)) in
-    let back : map tree made ++ tree new ∷ items_from ss put path (length all) (suc (length made)) (map tree later)
-    ≡ map tree made ++ items_from ss put path (length all) (length made) (map tree left)
-    = ap (λ x. map tree made ++ x ∷ items_from ss put path (length all) (suc (length made)) (map tree later)) n
-    ∙ ap (λ x. map tree made ++ items_from ss put path (length all) (length made) (map tree x)) (sym e) in
-    subst P (sym o) (record { is = front ∙ middle ∙ back ∙ h.is })
+  pub items_end : (path : List Step) (all now out : List Content) (i : ℕ) → ItemsSoFar path all i now → length now ≤ i → out ≡ now
+      → ItemsRedacted ss allows path (count_of (item_trees all)) 0 (item_trees all) (item_trees out)
+  items_end path all now out i so_far done same =
+      let none : ItemsRedacted ss allows path (count_of (item_trees all)) i (item_trees (drop i now)) t.no_trees
+      = subst (λ z. ItemsRedacted ss allows path (count_of (item_trees all)) i (item_trees z) t.no_trees) (sym (drop_all i now done)) refl in
+      subst (λ z. ItemsRedacted ss allows path (count_of (item_trees all)) 0 (item_trees all) z)
+      (ap (λ z. joined z t.no_trees) (take_all i now done) ∙ joined-end now ∙ ap item_trees (sym same)) (so_far t.no_trees none)
 
-pub items_done : (ss : Parts) (put : t.Tree → t.Tree) (path : List Step) (all made left : List Content) → ItemsSoFar ss put path all made left → left ≡ []
-    → item_trees made ≡ redacted_items ss put path (count_of (item_trees all)) 0 (item_trees all)
-items_done ss put path all made left h none =
-    let P : List Content → Type 0 = λ x. map tree made ++ items_from ss put path (length all) (length made) (map tree x) ≡ items_from ss put path (length all) 0 (map tree all) in
-    let whole : map tree made ≡ items_from ss put path (length all) 0 (map tree all) = sym (append-nil (map tree made)) ∙ subst P none h.is in
-    let total : length all ≡ count_of (item_trees all) = sym (length-map all tree) ∙ count_is (map tree all) in
-    ap t.trees_of whole ∙ items_are ss put path (length all) 0 (map tree all) ∙ ap (λ n. redacted_items ss put path n 0 (item_trees all)) total
+  pub pairs_begin : (path : List Step) (all now : List (Content × Content)) → now ≡ all → PairsSoFar path all 0 now
+  pairs_begin path all now same rest = subst (λ z. PairsRedacted ss allows path (pair_trees z) rest) same
 
--- one level, where the search is given the equation
-pub inside_struct : (ss : Parts) (put : t.Tree → t.Tree) (path : List Step) (whole : Content) (name own : List ℕ) (out fields : Fields) → whole ≡ Struct own fields → name ≡ own
-    → field_trees (field_list out) ≡ redacted_fields ss put path (field_trees (field_list fields)) → tree (Struct name out) ≡ inside ss put path (tree whole)
-inside_struct ss put path whole name own out fields is same_name same_fields =
-    let seen : tree whole ≡ t.struct own (field_trees (field_list fields)) = ap tree is ∙ tree-Struct own fields in
-    tree-Struct name out ∙ ap (λ x. t.struct x (field_trees (field_list out))) same_name ∙ ap (λ x. t.struct own x) same_fields ∙ sym (ap (inside ss put path) seen)
+  pub pairs_turn : (was path : List PathItem) (all now : List (Content × Content)) (i : ℕ) (x y : Content × Content) (key_step : PathItem)
+      → PairsSoFar (map step_of was) all i now → path ≡ was → step_of key_step ≡ into_field (codes "$key") → i < length now → x ≡ get_or now i x
+      → RedactedAt ss allows (map step_of path ++ step_of key_step ∷ []) (tree x.0) (tree y.0)
+      → RedactedAt ss allows (map step_of path ++ under_key (tree x.0) ∷ []) (tree x.1) (tree y.1) → PairsSoFar (map step_of was) all (i + 1) (set now i y)
+  pairs_turn was path all now i x y key_step so_far same dollar small is new_key new_value rest later =
+      let steps : List Step = map step_of was in
+      let e : drop i now ≡ x ∷ drop (suc i) now = drop-cons now i x small ∙ ap (λ z. z ∷ drop (suc i) now) (sym is) in
+      let left : drop (i + 1) (set now i y) ≡ drop (suc i) now = drop-set-lt (i + 1) now i y (omega arith) ∙ ap (λ k. drop k now) (add-one i) in
+      let next : PairsRedacted ss allows steps (pair_trees (drop (suc i) now)) rest = subst (λ z. PairsRedacted ss allows steps (pair_trees z) rest) left later in
+      let first : RedactedAt ss allows (steps ++ into_field (codes "$key") ∷ []) (tree x.0) (tree y.0)
+      = subst (λ s. RedactedAt ss allows (steps ++ s ∷ []) (tree x.0) (tree y.0)) dollar
+      (subst (λ p. RedactedAt ss allows (map step_of p ++ step_of key_step ∷ []) (tree x.0) (tree y.0)) same new_key) in
+      let second : RedactedAt ss allows (steps ++ under_key (tree x.0) ∷ []) (tree x.1) (tree y.1)
+      = subst (λ p. RedactedAt ss allows (map step_of p ++ under_key (tree x.0) ∷ []) (tree x.1) (tree y.1)) same new_value in
+      let one : PairsRedacted ss allows steps (pair_trees (drop i now)) (t.pair (tree y.0) (tree y.1) rest)
+      = subst (λ z. PairsRedacted ss allows steps (pair_trees z) (t.pair (tree y.0) (tree y.1) rest)) (sym e) (tree y.0, tree y.1, rest, refl, first, second, next) in
+      subst (λ z. PairsRedacted ss allows steps (pair_trees all) z)
+      (sym (joined_pairs-push (take i now) y rest) ∙ ap (λ z. joined_pairs z rest) (sym (take_more_set now i y small)))
+      (so_far (t.pair (tree y.0) (tree y.1) rest) one)
 
-pub inside_struct_variant : (ss : Parts) (put : t.Tree → t.Tree) (path : List Step) (whole : Content) (name own : List ℕ) (index : ℕ) (variant own_variant : List ℕ) (out fields : Fields)
-    → whole ≡ StructVariant own index own_variant fields → name ≡ own → variant ≡ own_variant
-    → field_trees (field_list out) ≡ redacted_fields ss put path (field_trees (field_list fields)) → tree (StructVariant name index variant out) ≡ inside ss put path (tree whole)
-inside_struct_variant ss put path whole name own index variant own_variant out fields is same_name same_variant same_fields =
-    let seen : tree whole ≡ t.struct_variant own index own_variant (field_trees (field_list fields)) = ap tree is ∙ tree-StructVariant own index own_variant fields in
-    tree-StructVariant name index variant out ∙ ap (λ x. t.struct_variant x index variant (field_trees (field_list out))) same_name
-    ∙ ap (λ x. t.struct_variant own index x (field_trees (field_list out))) same_variant ∙ ap (λ x. t.struct_variant own index own_variant x) same_fields ∙ sym (ap (inside ss put path) seen)
+  pub pairs_end : (path : List Step) (all now out : List (Content × Content)) (i : ℕ) → PairsSoFar path all i now → length now ≤ i → out ≡ now
+      → PairsRedacted ss allows path (pair_trees all) (pair_trees out)
+  pairs_end path all now out i so_far done same =
+      let none : PairsRedacted ss allows path (pair_trees (drop i now)) t.no_pairs
+      = subst (λ z. PairsRedacted ss allows path (pair_trees z) t.no_pairs) (sym (drop_all i now done)) refl in
+      subst (λ z. PairsRedacted ss allows path (pair_trees all) z)
+      (ap (λ z. joined_pairs z t.no_pairs) (take_all i now done) ∙ joined_pairs-end now ∙ ap pair_trees (sym same)) (so_far t.no_pairs none)
 
--- one turn of each loop, over the path at that turn
-turn : {X Y Z : Type 0} (f : X → Y) (g : Z → Y) (outs out : List Z) (new : Z) (items : List X) (i : ℕ) (item : X) → map g outs ≡ map f (take i items) → i < length items → item ≡ get_or items i item
-    → g new ≡ f item → out ≡ outs ++ new ∷ [] → map g out ≡ map f (take (i + 1) items)
-turn f g outs out new items i item h small is same o =
-    ap (map g) o ∙ map-append g outs (new ∷ []) ∙ ap (λ x. x ++ g new ∷ []) h ∙ ap (λ x. map f (take i items) ++ x ∷ []) (same ∙ ap f is)
-    ∙ sym (map-append f (take i items) (get_or items i item ∷ [])) ∙ ap (map f) (sym (take_more items i item small))
+  pub fields_begin : (path : List Step) (all now : List (List ℕ × Content)) → now ≡ all → FieldsSoFar path all 0 now
+  fields_begin path all now same rest = subst (λ z. FieldsRedacted ss allows path (field_trees z) rest) same
 
-pub items_step : (ss : Parts) (put : t.Tree → t.Tree) (now was : List PathItem) (all made out items : List Content) (i a b : ℕ) (item new : Content) → ItemsSoFar ss put (map step_of was) all made (drop i items)
-    → i < length items → item ≡ get_or items i item → tree new ≡ redacted ss put (map step_of now ++ to_item a b ∷ []) (tree item) → now ≡ was → a ≡ length made → b ≡ length all → out ≡ made ++ new ∷ []
-    → ItemsSoFar ss put (map step_of was) all out (drop (i + 1) items)
-items_step ss put now was all made out items i a b item new h small is n path first total o =
-    let e : drop i items ≡ item ∷ drop (i + 1) items = drop-cons items i item small ∙ ap (λ x. x ∷ drop (suc i) items) (sym is) ∙ ap (λ k. item ∷ drop k items) (sym (add-one i)) in
-    let seen : tree new ≡ redacted ss put (map step_of was ++ to_item (length made) (length all) ∷ []) (tree item)
-    = n ∙ ap (λ x. redacted ss put (map step_of x ++ to_item a b ∷ []) (tree item)) path ∙ ap (λ x. redacted ss put (map step_of was ++ to_item x b ∷ []) (tree item)) first
-    ∙ ap (λ x. redacted ss put (map step_of was ++ to_item (length made) x ∷ []) (tree item)) total in
-    items_more ss put (map step_of was) all made (drop i items) (drop (i + 1) items) out item new h e seen o
+  pub fields_turn : (was path : List PathItem) (all now : List (List ℕ × Content)) (i : ℕ) (x y : List ℕ × Content)
+      → FieldsSoFar (map step_of was) all i now → path ≡ was → i < length now → x ≡ get_or now i x → y.0 ≡ x.0
+      → RedactedAt ss allows (map step_of path ++ into_field x.0 ∷ []) (tree x.1) (tree y.1) → FieldsSoFar (map step_of was) all (i + 1) (set now i y)
+  fields_turn was path all now i x y so_far same small is name new rest later =
+      let steps : List Step = map step_of was in
+      let e : drop i now ≡ x ∷ drop (suc i) now = drop-cons now i x small ∙ ap (λ z. z ∷ drop (suc i) now) (sym is) in
+      let left : drop (i + 1) (set now i y) ≡ drop (suc i) now = drop-set-lt (i + 1) now i y (omega arith) ∙ ap (λ k. drop k now) (add-one i) in
+      let next : FieldsRedacted ss allows steps (field_trees (drop (suc i) now)) rest = subst (λ z. FieldsRedacted ss allows steps (field_trees z) rest) left later in
+      let here : RedactedAt ss allows (steps ++ into_field x.0 ∷ []) (tree x.1) (tree y.1)
+      = subst (λ p. RedactedAt ss allows (map step_of p ++ into_field x.0 ∷ []) (tree x.1) (tree y.1)) same new in
+      let named : FieldsRedacted ss allows steps (t.field x.0 (tree x.1) (field_trees (drop (suc i) now))) (t.field x.0 (tree y.1) rest) = (tree y.1, rest, refl, here, next) in
+      let one : FieldsRedacted ss allows steps (field_trees (drop i now)) (t.field y.0 (tree y.1) rest)
+      = subst (λ z. FieldsRedacted ss allows steps (field_trees z) (t.field y.0 (tree y.1) rest)) (sym e)
+      (subst (λ n. FieldsRedacted ss allows steps (t.field x.0 (tree x.1) (field_trees (drop (suc i) now))) (t.field n (tree y.1) rest)) (sym name) named) in
+      subst (λ z. FieldsRedacted ss allows steps (field_trees all) z)
+      (sym (joined_fields-push (take i now) y rest) ∙ ap (λ z. joined_fields z rest) (sym (take_more_set now i y small)))
+      (so_far (t.field y.0 (tree y.1) rest) one)
 
-pub pairs_step : (ss : Parts) (put : t.Tree → t.Tree) (now later was : List PathItem) (outs out items : List (Content × Content)) (i : ℕ) (item : Content × Content) (name : List ℕ) (copy new_key new_value : Content)
-    → now ≡ was → later ≡ now → name ≡ codes "$key" → tree copy ≡ tree item.0 → tree new_key ≡ redacted ss put (map step_of now ++ into_field name ∷ []) (tree item.0)
-    → tree new_value ≡ redacted ss put (map step_of later ++ under_key (tree copy) ∷ []) (tree item.1)
-    → map pair_tree outs ≡ map (λ p. redacted_pair ss put (map step_of was) (pair_tree p)) (take i items) → i < length items → item ≡ get_or items i item → out ≡ outs ++ (new_key, new_value) ∷ []
-    → map pair_tree out ≡ map (λ p. redacted_pair ss put (map step_of was) (pair_tree p)) (take (i + 1) items)
-pairs_step ss put now later was outs out items i item name copy new_key new_value a b n k key value h small is o =
-    let first : tree new_key ≡ redacted ss put (map step_of was ++ into_field (codes "$key") ∷ []) (tree item.0)
-    = key ∙ ap (λ x. redacted ss put (map step_of x ++ into_field name ∷ []) (tree item.0)) a ∙ ap (λ x. redacted ss put (map step_of was ++ into_field x ∷ []) (tree item.0)) n in
-    let second : tree new_value ≡ redacted ss put (map step_of was ++ under_key (tree item.0) ∷ []) (tree item.1)
-    = value ∙ ap (λ x. redacted ss put (map step_of x ++ under_key (tree copy) ∷ []) (tree item.1)) (b ∙ a) ∙ ap (λ x. redacted ss put (map step_of was ++ under_key x ∷ []) (tree item.1)) k in
-    let both : pair_tree (new_key, new_value) ≡ redacted_pair ss put (map step_of was) (pair_tree item)
-    = ap (λ x. (x, tree new_value)) first ∙ ap (λ x. (redacted ss put (map step_of was ++ into_field (codes "$key") ∷ []) (tree item.0), x)) second in
-    turn (λ p. redacted_pair ss put (map step_of was) (pair_tree p)) pair_tree outs out (new_key, new_value) items i item h small is both o
+  pub fields_end : (path : List Step) (all now out : List (List ℕ × Content)) (i : ℕ) → FieldsSoFar path all i now → length now ≤ i → out ≡ now
+      → FieldsRedacted ss allows path (field_trees all) (field_trees out)
+  fields_end path all now out i so_far done same =
+      let none : FieldsRedacted ss allows path (field_trees (drop i now)) t.no_fields
+      = subst (λ z. FieldsRedacted ss allows path (field_trees z) t.no_fields) (sym (drop_all i now done)) refl in
+      subst (λ z. FieldsRedacted ss allows path (field_trees all) z)
+      (ap (λ z. joined_fields z t.no_fields) (take_all i now done) ∙ joined_fields-end now ∙ ap field_trees (sym same)) (so_far t.no_fields none)
 
-pub pairs_done : (ss : Parts) (put : t.Tree → t.Tree) (was : List PathItem) (outs items all : List (Content × Content)) (i : ℕ) → map pair_tree outs ≡ map (λ p. redacted_pair ss put (map step_of was) (pair_tree p)) (take i items)
-    → length items ≤ i → items ≡ all → pair_trees outs ≡ redacted_pairs ss put (map step_of was) (pair_trees all)
-pairs_done ss put was outs items all i h done e =
-    ap t.pairs_of (h ∙ ap (map (λ p. redacted_pair ss put (map step_of was) (pair_tree p))) (take_all i items done ∙ e)) ∙ pairs_are ss put (map step_of was) all
-
-pub fields_step : (ss : Parts) (put : t.Tree → t.Tree) (now was : List PathItem) (outs out items : List (List ℕ × Content)) (i : ℕ) (item : List ℕ × Content) (name copy : List ℕ) (new : Content)
-    → now ≡ was → name ≡ item.0 → copy ≡ item.0 → tree new ≡ redacted ss put (map step_of now ++ into_field name ∷ []) (tree item.1)
-    → map field_tree outs ≡ map (λ f. redacted_field ss put (map step_of was) (field_tree f)) (take i items) → i < length items → item ≡ get_or items i item → out ≡ outs ++ (copy, new) ∷ []
-    → map field_tree out ≡ map (λ f. redacted_field ss put (map step_of was) (field_tree f)) (take (i + 1) items)
-fields_step ss put now was outs out items i item name copy new a n k value h small is o =
-    let seen : tree new ≡ redacted ss put (map step_of was ++ into_field item.0 ∷ []) (tree item.1)
-    = value ∙ ap (λ x. redacted ss put (map step_of x ++ into_field name ∷ []) (tree item.1)) a ∙ ap (λ x. redacted ss put (map step_of was ++ into_field x ∷ []) (tree item.1)) n in
-    let both : field_tree (copy, new) ≡ redacted_field ss put (map step_of was) (field_tree item) = ap (λ x. (x, tree new)) k ∙ ap (λ x. (item.0, x)) seen in
-    turn (λ f. redacted_field ss put (map step_of was) (field_tree f)) field_tree outs out (copy, new) items i item h small is both o
-
-pub fields_done : (ss : Parts) (put : t.Tree → t.Tree) (was : List PathItem) (outs items all : List (List ℕ × Content)) (i : ℕ) → map field_tree outs ≡ map (λ f. redacted_field ss put (map step_of was) (field_tree f)) (take i items)
-    → length items ≤ i → items ≡ all → field_trees outs ≡ redacted_fields ss put (map step_of was) (field_trees all)
-fields_done ss put was outs items all i h done e =
-    ap t.fields_of (h ∙ ap (map (λ f. redacted_field ss put (map step_of was) (field_tree f))) (take_all i items done ∙ e)) ∙ fields_are ss put (map step_of was) all
+  -- the path of a whole tree is empty
+  pub from_root : (path : List PathItem) (c out : t.Tree) → path ≡ [] → RedactedAt ss allows (map step_of path) c out → IsRedacted ss allows c out
+  from_root path c out none p = record { parts = subst (λ x. RedactedAt ss allows (map step_of x) c out) none p }

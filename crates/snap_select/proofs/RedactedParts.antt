@@ -1,28 +1,15 @@
--- The redacted tree, part by part, is what a redaction makes.
-use Rattle.std.proofs.Common.{◌≡◌, ℕ, zero, suc, Bool, true, false, List, [], ◌∷◌, ◌++◌, Option, Some, slice_get, option_and_then, cond, refl, sym, ap, ◌∙◌, subst, append-nil}
+-- A tree that is redacted part by part is one that a redaction makes.
+use Rattle.std.proofs.Common.{◌≡◌, ℕ, zero, suc, Bool, true, false, MatchBool, List, [], ◌∷◌, ◌++◌, Option, Some, slice_get, option_and_then, refl, sym, ap, ◌∙◌, subst, append-nil}
 use Rattle.std.proofs.lemmas.Bool.{both_ways}
 use Rattle.std.proofs.lemmas.Option.{same_Some, option_and_then_some}
 use Rattle.std.specs.Prelude.{codes}
 use Rattle.snap_content.specs.Tree as t
 use Rattle.snap_select.specs.Matching.{Step, path_match, to_item, into_field, under_key}
-use Rattle.snap_select.specs.Positions.{Child, children, item_children, pair_children, field_children, part_at, path_at, count_of}
-use Rattle.snap_select.specs.Redacted.{inside, redacted, redacted_items, redacted_pairs, redacted_fields}
-use Rattle.snap_select.specs.Redacts.{IsHit, IsUntouched, node, units, pair_units, field_units, IsKept, RedactsAt}
 use Rattle.snap_select.specs.Parts.{Parts}
-
--- at any path
-abbrev Good : Parts → (t.Tree → t.Tree) → t.Tree → Type 0
-Good ss put c = (path : List Step) → RedactsAt ss put path c (redacted ss put path c)
-
--- a child, and the one that stands in its place
-record Follows (ss : Parts) (put : t.Tree → t.Tree) (path : List Step) (child : Child) (nexts : List Child) (k : ℕ) : Type 0 where
-  next : Child
-  at : slice_get nexts k ≡ Some next
-  part : next.part ≡ redacted ss put (path ++ child.steps) child.part
-  good : Good ss put child.part
-
-abbrev AllFollow : Parts → (t.Tree → t.Tree) → List Step → List Child → List Child → Type 0
-AllFollow ss put path olds nexts = (k : ℕ) (child : Child) → slice_get olds k ≡ Some child → Follows ss put path child nexts k
+use Rattle.snap_select.specs.Positions.{Child, wrapped, children, item_children, pair_children, field_children, part_at, path_at, count_of}
+use Rattle.snap_select.specs.Put.{Allowed}
+use Rattle.snap_select.specs.Redacting.{Inside, ItemsRedacted, PairsRedacted, FieldsRedacted, RedactedAt, IsRedacted}
+use Rattle.snap_select.specs.Redacts.{IsHit, IsUntouched, node, units, pair_units, field_units, IsKept, RedactsAt, Redacts}
 
 -- a front of a position, and the position below a child
 not_front : (front rest : List ℕ) (k : ℕ) → [] ≡ front ++ k ∷ rest → ⊥
@@ -59,150 +46,180 @@ pub hit_above : (ss : Parts) (path : List Step) (c : t.Tree) (k : ℕ) (ks : Lis
     → IsHit ss (path ++ child.steps) child.part ks → IsHit ss path c (k ∷ ks)
 hit_above ss path c k ks child n at h = record { steps = h.steps; is = rw at h.is; matched = h.matched; first = above_first ss path c k ks child n at h }
 
-part_below : (out : t.Tree) (k : ℕ) (ks : List ℕ) (next : Child) (part result : t.Tree) → slice_get (children out) k ≡ Some next → next.part ≡ part → part_at part ks ≡ Some result → part_at out (k ∷ ks) ≡ Some result
-part_below out k ks next part result at e h = rw at (let P : t.Tree → Type 0 = λ x. part_at x ks ≡ Some result in subst P (sym e) h)
+part_below : (out : t.Tree) (k : ℕ) (ks : List ℕ) (next : Child) (result : t.Tree) → slice_get (children out) k ≡ Some next → part_at next.part ks ≡ Some result → part_at out (k ∷ ks) ≡ Some result
+part_below out k ks next result at h = rw at h
 
-replaced_below : (ss : Parts) (put : t.Tree → t.Tree) (path : List Step) (c out : t.Tree) (k : ℕ) (ks : List ℕ) (part : t.Tree) → AllFollow ss put path (children c) (children out)
-    → part_at c (k ∷ ks) ≡ Some part → IsHit ss path c (k ∷ ks) → part_at out (k ∷ ks) ≡ Some (put part)
-replaced_below ss put path c out k ks part all here h =
-    option_and_then_some {P = part_at out (k ∷ ks) ≡ Some (put part)} (λ child. path_at (path ++ child.steps) child.part ks) (slice_get (children c) k) h.steps h.is
-    (λ child at is. let f = all k child at in
-    let P : Option Child → Type 0 = λ o. option_and_then (λ x. part_at x.part ks) o ≡ Some part in
-    part_below out k ks f.next (redacted ss put (path ++ child.steps) child.part) (put part) f.at f.part
-    ((f.good (path ++ child.steps)).replaced ks part (subst P at here) (hit_below ss path c k ks child h at is)))
+module _ (ss : Parts) (allows : Allowed) where
+  -- a child, and the one that stands in its place
+  record Follows (path : List Step) (child : Child) (nexts : List Child) (k : ℕ) : Type 0 where
+    next : Child
+    at : slice_get nexts k ≡ Some next
+    good : RedactsAt ss allows (path ++ child.steps) child.part next.part
 
-kept_below : (ss : Parts) (put : t.Tree → t.Tree) (path : List Step) (c out : t.Tree) (k : ℕ) (ks : List ℕ) (part : t.Tree) → path_match ss path ≡ false → AllFollow ss put path (children c) (children out)
-    → part_at c (k ∷ ks) ≡ Some part → IsUntouched ss path c (k ∷ ks) → IsKept out (k ∷ ks) part
-kept_below ss put path c out k ks part n all h untouched =
-    option_and_then_some {P = IsKept out (k ∷ ks) part} (λ child. part_at child.part ks) (slice_get (children c) k) part h
-    (λ child at is. let f = all k child at in
-    let below : IsUntouched ss (path ++ child.steps) child.part ks = λ front rest e hit. untouched (k ∷ front) rest (ap (λ x. k ∷ x) e) (hit_above ss path c k front child n at hit) in
-    let kept = (f.good (path ++ child.steps)).kept ks part is below in
-    record { now = kept.now; is = part_below out k ks f.next (redacted ss put (path ++ child.steps) child.part) kept.now f.at f.part kept.is; same = kept.same })
+  abbrev AllFollow : List Step → List Child → List Child → Type 0
+  AllFollow path olds nexts = (k : ℕ) (child : Child) → slice_get olds k ≡ Some child → Follows path child nexts k
 
--- a tree whose children follow
-replaced_at : (ss : Parts) (put : t.Tree → t.Tree) (path : List Step) (c out : t.Tree) → path_match ss path ≡ false → AllFollow ss put path (children c) (children out)
-    → (position : List ℕ) (part : t.Tree) → part_at c position ≡ Some part → IsHit ss path c position → part_at out position ≡ Some (put part)
-replaced_at ss put path c out n all [] part here h =
-    let same : path ≡ h.steps = same_Some path h.steps h.is in
-    let P : List Step → Type 0 = λ x. path_match ss x ≡ false in
-    absurd (both_ways (path_match ss h.steps) (subst P same n) h.matched)
-replaced_at ss put path c out n all (k ∷ ks) part here h = replaced_below ss put path c out k ks part all here h
+  abbrev Replaced : t.Tree → List ℕ → t.Tree → List Step → Type 0
+  Replaced out position part steps = (new : t.Tree) × (part_at out position ≡ Some new) × allows part steps new
 
-kept_at : (ss : Parts) (put : t.Tree → t.Tree) (path : List Step) (c out : t.Tree) → path_match ss path ≡ false → AllFollow ss put path (children c) (children out) → node out ≡ node c
-    → (position : List ℕ) (part : t.Tree) → part_at c position ≡ Some part → IsUntouched ss path c position → IsKept out position part
-kept_at ss put path c out n all same [] part h untouched = record { now = out; is = refl; same = same ∙ ap node (same_Some c part h) }
-kept_at ss put path c out n all same (k ∷ ks) part h untouched = kept_below ss put path c out k ks part n all h untouched
+  replaced_below : (path : List Step) (c out : t.Tree) (k : ℕ) (ks : List ℕ) (part : t.Tree) → AllFollow path (children c) (children out)
+      → part_at c (k ∷ ks) ≡ Some part → (h : IsHit ss path c (k ∷ ks)) → Replaced out (k ∷ ks) part h.steps
+  unfolding hit_below
+  replaced_below path c out k ks part all here h =
+      option_and_then_some {P = Replaced out (k ∷ ks) part h.steps} (λ child. path_at (path ++ child.steps) child.part ks) (slice_get (children c) k) h.steps h.is
+      (λ child at is. let f = all k child at in
+      let P : Option Child → Type 0 = λ o. option_and_then (λ x. part_at x.part ks) o ≡ Some part in
+      let below = f.good.replaced ks part (subst P at here) (hit_below ss path c k ks child h at is) in
+      (below.0, part_below out k ks f.next below.0 f.at below.1, below.2))
 
-put_replaced : (ss : Parts) (put : t.Tree → t.Tree) (path : List Step) (c : t.Tree) → path_match ss path ≡ true
-    → (position : List ℕ) (part : t.Tree) → part_at c position ≡ Some part → IsHit ss path c position → part_at (put c) position ≡ Some (put part)
-put_replaced ss put path c e [] part here h = ap (λ x. Some (put x)) (same_Some c part here)
-put_replaced ss put path c e (k ∷ ks) part here h = absurd (both_ways (path_match ss path) (h.first [] k ks path refl refl) e)
+  kept_below : (path : List Step) (c out : t.Tree) (k : ℕ) (ks : List ℕ) (part : t.Tree) → path_match ss path ≡ false → AllFollow path (children c) (children out)
+      → part_at c (k ∷ ks) ≡ Some part → IsUntouched ss path c (k ∷ ks) → IsKept out (k ∷ ks) part
+  kept_below path c out k ks part n all h untouched =
+      option_and_then_some {P = IsKept out (k ∷ ks) part} (λ child. part_at child.part ks) (slice_get (children c) k) part h
+      (λ child at is. let f = all k child at in
+      let below : IsUntouched ss (path ++ child.steps) child.part ks = λ front rest e hit. untouched (k ∷ front) rest (ap (λ x. k ∷ x) e) (hit_above ss path c k front child n at hit) in
+      let kept = f.good.kept ks part is below in
+      record { now = kept.now; is = part_below out k ks f.next kept.now f.at kept.is; same = kept.same })
 
-node_redacts : (ss : Parts) (put : t.Tree → t.Tree) (path : List Step) (c : t.Tree) (b : Bool) → path_match ss path ≡ b → AllFollow ss put path (children c) (children (inside ss put path c))
-    → node (inside ss put path c) ≡ node c → RedactsAt ss put path c (cond b (put c) (inside ss put path c))
-node_redacts ss put path c true e all same = record {
-  replaced = put_replaced ss put path c e;
-  kept = λ position part h untouched. absurd (untouched [] position refl (root_hit ss path c e));
-}
-node_redacts ss put path c false e all same = record {
-  replaced = replaced_at ss put path c (inside ss put path c) e all;
-  kept = kept_at ss put path c (inside ss put path c) e all same;
-}
+  -- a tree whose children follow
+  replaced_at : (path : List Step) (c out : t.Tree) → path_match ss path ≡ false → AllFollow path (children c) (children out)
+      → (position : List ℕ) (part : t.Tree) → part_at c position ≡ Some part → (h : IsHit ss path c position) → Replaced out position part h.steps
+  replaced_at path c out n all [] part here h =
+      let same : path ≡ h.steps = same_Some path h.steps h.is in
+      let P : List Step → Type 0 = λ x. path_match ss x ≡ false in
+      absurd (both_ways (path_match ss h.steps) (subst P same n) h.matched)
+  replaced_at path c out n all (k ∷ ks) part here h = replaced_below path c out k ks part all here h
 
--- the parts of lists
-no_follow : (ss : Parts) (put : t.Tree → t.Tree) (path : List Step) (nexts : List Child) → AllFollow ss put path [] nexts
-no_follow ss put path nexts k child e = absurd (cc)
+  kept_at : (path : List Step) (c out : t.Tree) → path_match ss path ≡ false → AllFollow path (children c) (children out) → node out ≡ node c
+      → (position : List ℕ) (part : t.Tree) → part_at c position ≡ Some part → IsUntouched ss path c position → IsKept out position part
+  kept_at path c out n all same [] part h untouched = record { now = out; is = refl; same = same ∙ ap node (same_Some c part h) }
+  kept_at path c out n all same (k ∷ ks) part h untouched = kept_below path c out k ks part n all h untouched
 
-one_follows : (ss : Parts) (put : t.Tree → t.Tree) (path : List Step) (old next : Child) (olds nexts : List Child) → next.part ≡ redacted ss put (path ++ old.steps) old.part → Good ss put old.part
-    → AllFollow ss put path olds nexts → AllFollow ss put path (old ∷ olds) (next ∷ nexts)
-one_follows ss put path old next olds nexts e good later zero child h =
-    let same : old ≡ child = same_Some old child h in
-    let P : Child → Type 0 = λ x. next.part ≡ redacted ss put (path ++ x.steps) x.part in
-    let Q : Child → Type 0 = λ x. Good ss put x.part in
-    record { next = next; at = refl; part = subst P same e; good = subst Q same good }
-one_follows ss put path old next olds nexts e good later (suc k) child h =
-    let f = later k child h in record { next = f.next; at = f.at; part = f.part; good = f.good }
+  put_replaced : (path : List Step) (c out : t.Tree) → path_match ss path ≡ true → allows c path out
+      → (position : List ℕ) (part : t.Tree) → part_at c position ≡ Some part → (h : IsHit ss path c position) → Replaced out position part h.steps
+  put_replaced path c out e put [] part here h =
+      (out, refl, subst (λ s. allows part s out) (same_Some path h.steps h.is) (subst (λ x. allows x path out) (same_Some c part here) put))
+  put_replaced path c out e put (k ∷ ks) part here h = absurd (both_ways (path_match ss path) (h.first [] k ks path refl refl) e)
 
-units_same : (ss : Parts) (put : t.Tree → t.Tree) (path : List Step) (total index : ℕ) (items : t.Trees) → units (redacted_items ss put path total index items) ≡ units items
-units_same ss put path total index t.no_trees = refl
-units_same ss put path total index (t.tree first rest) = ap (λ x. t.tree t.unit x) (units_same ss put path total (suc index) rest)
+  -- of a tree at a path that isn't matched: its children follow, and its node stays
+  abbrev Follow : List Step → t.Tree → t.Tree → Type 0
+  Follow path c out = AllFollow path (children c) (children out) × (node out ≡ node c)
 
-pair_units_same : (ss : Parts) (put : t.Tree → t.Tree) (path : List Step) (pairs : t.TreePairs) → pair_units (redacted_pairs ss put path pairs) ≡ pair_units pairs
-pair_units_same ss put path t.no_pairs = refl
-pair_units_same ss put path (t.pair key value rest) = ap (λ x. t.pair t.unit t.unit x) (pair_units_same ss put path rest)
+  node_redacts : (path : List Step) (c out : t.Tree) (b : Bool) → path_match ss path ≡ b → (Inside ss allows path c out → Follow path c out)
+      → MatchBool b (allows c path out) (Inside ss allows path c out) → RedactsAt ss allows path c out
+  node_redacts path c out true e f put = record {
+    replaced = put_replaced path c out e put;
+    kept = λ position part h untouched. absurd (untouched [] position refl (root_hit ss path c e));
+  }
+  node_redacts path c out false e f p = record {
+    replaced = replaced_at path c out e (f p).0;
+    kept = kept_at path c out e (f p).0 (f p).1;
+  }
 
-field_units_same : (ss : Parts) (put : t.Tree → t.Tree) (path : List Step) (fields : t.TreeFields) → field_units (redacted_fields ss put path fields) ≡ field_units fields
-field_units_same ss put path t.no_fields = refl
-field_units_same ss put path (t.field name value rest) = ap (λ x. t.field name t.unit x) (field_units_same ss put path rest)
+  good_at : (path : List Step) (c out : t.Tree) → (Inside ss allows path c out → Follow path c out) → RedactedAt ss allows path c out → RedactsAt ss allows path c out
+  good_at path c out = node_redacts path c out (path_match ss path) refl
 
-wrapper : (ss : Parts) (put : t.Tree → t.Tree) (path : List Step) (inner : t.Tree) → Good ss put inner
-    → AllFollow ss put path (record { steps = []; part = inner } ∷ []) (record { steps = []; part = redacted ss put path inner } ∷ [])
-wrapper ss put path inner good =
-    one_follows ss put path (record { steps = []; part = inner }) (record { steps = []; part = redacted ss put path inner }) [] []
-    (ap (λ x. redacted ss put x inner) (sym (append-nil path))) good (no_follow ss put path [])
+  -- the parts of lists
+  no_follow : (path : List Step) (nexts : List Child) → AllFollow path [] nexts
+  no_follow path nexts k child e = absurd (cc)
 
-leaf : (ss : Parts) (put : t.Tree → t.Tree) (path : List Step) (c : t.Tree) → children c ≡ [] → inside ss put path c ≡ c → RedactsAt ss put path c (redacted ss put path c)
-leaf ss put path c none same =
-    let P : List Child → Type 0 = λ x. AllFollow ss put path x (children (inside ss put path c)) in
-    node_redacts ss put path c (path_match ss path) refl (subst P (sym none) (no_follow ss put path (children (inside ss put path c)))) (ap node same)
+  one_follows : (path : List Step) (old next : Child) (olds nexts : List Child) → RedactsAt ss allows (path ++ old.steps) old.part next.part
+      → AllFollow path olds nexts → AllFollow path (old ∷ olds) (next ∷ nexts)
+  one_follows path old next olds nexts good later zero child h =
+      let P : Child → Type 0 = λ x. RedactsAt ss allows (path ++ x.steps) x.part next.part in
+      record { next = next; at = refl; good = subst P (same_Some old child h) good }
+  one_follows path old next olds nexts good later (suc k) child h =
+      let f = later k child h in record { next = f.next; at = f.at; good = f.good }
 
-mutual
-  pub tree_good : (ss : Parts) (put : t.Tree → t.Tree) (c : t.Tree) → Good ss put c
-  tree_good ss put (t.some inner) path = node_redacts ss put path (t.some inner) (path_match ss path) refl (wrapper ss put path inner (tree_good ss put inner)) refl
-  tree_good ss put (t.newtype_struct name inner) path =
-      node_redacts ss put path (t.newtype_struct name inner) (path_match ss path) refl (wrapper ss put path inner (tree_good ss put inner)) refl
-  tree_good ss put (t.newtype_variant name index variant inner) path =
-      node_redacts ss put path (t.newtype_variant name index variant inner) (path_match ss path) refl (wrapper ss put path inner (tree_good ss put inner)) refl
-  tree_good ss put (t.seq items) path =
-      node_redacts ss put path (t.seq items) (path_match ss path) refl (items_good ss put path (count_of items) (count_of (redacted_items ss put path (count_of items) 0 items)) 0 items)
-      (ap t.seq (units_same ss put path (count_of items) 0 items))
-  tree_good ss put (t.tuple items) path =
-      node_redacts ss put path (t.tuple items) (path_match ss path) refl (items_good ss put path (count_of items) (count_of (redacted_items ss put path (count_of items) 0 items)) 0 items)
-      (ap t.tuple (units_same ss put path (count_of items) 0 items))
-  tree_good ss put (t.tuple_struct name items) path =
-      node_redacts ss put path (t.tuple_struct name items) (path_match ss path) refl (items_good ss put path (count_of items) (count_of (redacted_items ss put path (count_of items) 0 items)) 0 items)
-      (ap (λ x. t.tuple_struct name x) (units_same ss put path (count_of items) 0 items))
-  tree_good ss put (t.tuple_variant name index variant items) path =
-      node_redacts ss put path (t.tuple_variant name index variant items) (path_match ss path) refl
-      (items_good ss put path (count_of items) (count_of (redacted_items ss put path (count_of items) 0 items)) 0 items)
-      (ap (λ x. t.tuple_variant name index variant x) (units_same ss put path (count_of items) 0 items))
-  tree_good ss put (t.map pairs) path =
-      node_redacts ss put path (t.map pairs) (path_match ss path) refl (pairs_good ss put path pairs) (ap t.map (pair_units_same ss put path pairs))
-  tree_good ss put (t.struct name fields) path =
-      node_redacts ss put path (t.struct name fields) (path_match ss path) refl (fields_good ss put path fields) (ap (λ x. t.struct name x) (field_units_same ss put path fields))
-  tree_good ss put (t.struct_variant name index variant fields) path =
-      node_redacts ss put path (t.struct_variant name index variant fields) (path_match ss path) refl (fields_good ss put path fields)
-      (ap (λ x. t.struct_variant name index variant x) (field_units_same ss put path fields))
-  tree_good ss put other path = leaf ss put path other refl refl
+  wrapper : (path : List Step) (inner new : t.Tree) → RedactsAt ss allows path inner new → AllFollow path (wrapped inner) (wrapped new)
+  wrapper path inner new good =
+      let P : List Step → Type 0 = λ x. RedactsAt ss allows x inner new in
+      one_follows path (record { steps = []; part = inner }) (record { steps = []; part = new }) [] [] (subst P (sym (append-nil path)) good) (no_follow path [])
 
-  items_good : (ss : Parts) (put : t.Tree → t.Tree) (path : List Step) (total after index : ℕ) (items : t.Trees)
-      → AllFollow ss put path (item_children total index items) (item_children after index (redacted_items ss put path total index items))
-  items_good ss put path total after index t.no_trees = no_follow ss put path []
-  items_good ss put path total after index (t.tree first rest) =
-      one_follows ss put path (record { steps = to_item index total ∷ []; part = first })
-      (record { steps = to_item index after ∷ []; part = redacted ss put (path ++ to_item index total ∷ []) first })
-      (item_children total (suc index) rest) (item_children after (suc index) (redacted_items ss put path total (suc index) rest)) refl
-      (tree_good ss put first) (items_good ss put path total after (suc index) rest)
+  units_same : (path : List Step) (total index : ℕ) (items out : t.Trees) → ItemsRedacted ss allows path total index items out → units out ≡ units items
+  units_same path total index t.no_trees out p = ap units p
+  units_same path total index (t.tree first rest) out p = ap units p.2 ∙ ap (λ x. t.tree t.unit x) (units_same path total (suc index) rest p.1 p.4)
 
-  pairs_good : (ss : Parts) (put : t.Tree → t.Tree) (path : List Step) (pairs : t.TreePairs) → AllFollow ss put path (pair_children pairs) (pair_children (redacted_pairs ss put path pairs))
-  pairs_good ss put path t.no_pairs = no_follow ss put path []
-  pairs_good ss put path (t.pair key value rest) =
-      let field = into_field (codes "$key") in
-      let new_key = redacted ss put (path ++ field ∷ []) key in
-      let new_value = redacted ss put (path ++ under_key key ∷ []) value in
-      one_follows ss put path (record { steps = field ∷ []; part = key }) (record { steps = field ∷ []; part = new_key })
-      (record { steps = under_key key ∷ []; part = value } ∷ pair_children rest)
-      (record { steps = under_key new_key ∷ []; part = new_value } ∷ pair_children (redacted_pairs ss put path rest)) refl (tree_good ss put key)
-      (one_follows ss put path (record { steps = under_key key ∷ []; part = value }) (record { steps = under_key new_key ∷ []; part = new_value })
-      (pair_children rest) (pair_children (redacted_pairs ss put path rest)) refl (tree_good ss put value) (pairs_good ss put path rest))
+  pair_units_same : (path : List Step) (pairs out : t.TreePairs) → PairsRedacted ss allows path pairs out → pair_units out ≡ pair_units pairs
+  pair_units_same path t.no_pairs out p = ap pair_units p
+  pair_units_same path (t.pair key value rest) out p = ap pair_units p.3 ∙ ap (λ x. t.pair t.unit t.unit x) (pair_units_same path rest p.2 p.6)
 
-  fields_good : (ss : Parts) (put : t.Tree → t.Tree) (path : List Step) (fields : t.TreeFields) → AllFollow ss put path (field_children fields) (field_children (redacted_fields ss put path fields))
-  fields_good ss put path t.no_fields = no_follow ss put path []
-  fields_good ss put path (t.field name value rest) =
-      one_follows ss put path (record { steps = into_field name ∷ []; part = value })
-      (record { steps = into_field name ∷ []; part = redacted ss put (path ++ into_field name ∷ []) value })
-      (field_children rest) (field_children (redacted_fields ss put path rest)) refl (tree_good ss put value) (fields_good ss put path rest)
+  field_units_same : (path : List Step) (fields out : t.TreeFields) → FieldsRedacted ss allows path fields out → field_units out ≡ field_units fields
+  field_units_same path t.no_fields out p = ap field_units p
+  field_units_same path (t.field name value rest) out p = ap field_units p.2 ∙ ap (λ x. t.field name t.unit x) (field_units_same path rest p.1 p.4)
 
-pub redacted_redacts : (ss : Parts) (put : t.Tree → t.Tree) (c : t.Tree) → RedactsAt ss put [] c (redacted ss put [] c)
-redacted_redacts ss put c = tree_good ss put c []
+  -- the same of a tree that is one
+  moved : (path : List Step) (c new out : t.Tree) → out ≡ new → Follow path c new → Follow path c out
+  moved path c new out e f = let P : t.Tree → Type 0 = λ x. Follow path c x in subst P (sym e) f
+
+  leaf : (path : List Step) (c out : t.Tree) → children c ≡ [] → out ≡ c → Follow path c out
+  leaf path c out none e =
+      let P : List Child → Type 0 = λ x. AllFollow path x (children out) in (subst P (sym none) (no_follow path (children out)), ap node e)
+
+  mutual
+    follow : (path : List Step) (c out : t.Tree) → Inside ss allows path c out → Follow path c out
+    follow path (t.some inner) out p =
+        moved path (t.some inner) (t.some p.0) out p.1 (wrapper path inner p.0 (good_at path inner p.0 (follow path inner p.0) p.2), refl)
+    follow path (t.newtype_struct name inner) out p =
+        moved path (t.newtype_struct name inner) (t.newtype_struct name p.0) out p.1 (wrapper path inner p.0 (good_at path inner p.0 (follow path inner p.0) p.2), refl)
+    follow path (t.newtype_variant name index variant inner) out p =
+        moved path (t.newtype_variant name index variant inner) (t.newtype_variant name index variant p.0) out p.1
+        (wrapper path inner p.0 (good_at path inner p.0 (follow path inner p.0) p.2), refl)
+    follow path (t.seq items) out p =
+        moved path (t.seq items) (t.seq p.0) out p.1
+        (items_follow path (count_of items) (count_of p.0) 0 items p.0 p.2, ap t.seq (units_same path (count_of items) 0 items p.0 p.2))
+    follow path (t.tuple items) out p =
+        moved path (t.tuple items) (t.tuple p.0) out p.1
+        (items_follow path (count_of items) (count_of p.0) 0 items p.0 p.2, ap t.tuple (units_same path (count_of items) 0 items p.0 p.2))
+    follow path (t.tuple_struct name items) out p =
+        moved path (t.tuple_struct name items) (t.tuple_struct name p.0) out p.1
+        (items_follow path (count_of items) (count_of p.0) 0 items p.0 p.2, ap (λ x. t.tuple_struct name x) (units_same path (count_of items) 0 items p.0 p.2))
+    follow path (t.tuple_variant name index variant items) out p =
+        moved path (t.tuple_variant name index variant items) (t.tuple_variant name index variant p.0) out p.1
+        (items_follow path (count_of items) (count_of p.0) 0 items p.0 p.2, ap (λ x. t.tuple_variant name index variant x) (units_same path (count_of items) 0 items p.0 p.2))
+    follow path (t.map pairs) out p =
+        moved path (t.map pairs) (t.map p.0) out p.1 (pairs_follow path pairs p.0 p.2, ap t.map (pair_units_same path pairs p.0 p.2))
+    follow path (t.struct name fields) out p =
+        moved path (t.struct name fields) (t.struct name p.0) out p.1
+        (fields_follow path fields p.0 p.2, ap (λ x. t.struct name x) (field_units_same path fields p.0 p.2))
+    follow path (t.struct_variant name index variant fields) out p =
+        moved path (t.struct_variant name index variant fields) (t.struct_variant name index variant p.0) out p.1
+        (fields_follow path fields p.0 p.2, ap (λ x. t.struct_variant name index variant x) (field_units_same path fields p.0 p.2))
+    follow path other out p = leaf path other out refl p
+
+    items_follow : (path : List Step) (total after index : ℕ) (items out : t.Trees) → ItemsRedacted ss allows path total index items out
+        → AllFollow path (item_children total index items) (item_children after index out)
+    items_follow path total after index t.no_trees out p = no_follow path (item_children after index out)
+    items_follow path total after index (t.tree first rest) out p =
+        let here = path ++ to_item index total ∷ [] in
+        let P : t.Trees → Type 0 = λ x. AllFollow path (item_children total index (t.tree first rest)) (item_children after index x) in
+        subst P (sym p.2)
+        (one_follows path (record { steps = to_item index total ∷ []; part = first }) (record { steps = to_item index after ∷ []; part = p.0 })
+        (item_children total (suc index) rest) (item_children after (suc index) p.1) (good_at here first p.0 (follow here first p.0) p.3)
+        (items_follow path total after (suc index) rest p.1 p.4))
+
+    pairs_follow : (path : List Step) (pairs out : t.TreePairs) → PairsRedacted ss allows path pairs out → AllFollow path (pair_children pairs) (pair_children out)
+    pairs_follow path t.no_pairs out p = no_follow path (pair_children out)
+    pairs_follow path (t.pair key value rest) out p =
+        let field = into_field (codes "$key") in
+        let at_key = path ++ field ∷ [] in
+        let at_value = path ++ under_key key ∷ [] in
+        let P : t.TreePairs → Type 0 = λ x. AllFollow path (pair_children (t.pair key value rest)) (pair_children x) in
+        subst P (sym p.3)
+        (one_follows path (record { steps = field ∷ []; part = key }) (record { steps = field ∷ []; part = p.0 })
+        (record { steps = under_key key ∷ []; part = value } ∷ pair_children rest)
+        (record { steps = under_key p.0 ∷ []; part = p.1 } ∷ pair_children p.2) (good_at at_key key p.0 (follow at_key key p.0) p.4)
+        (one_follows path (record { steps = under_key key ∷ []; part = value }) (record { steps = under_key p.0 ∷ []; part = p.1 })
+        (pair_children rest) (pair_children p.2) (good_at at_value value p.1 (follow at_value value p.1) p.5) (pairs_follow path rest p.2 p.6)))
+
+    fields_follow : (path : List Step) (fields out : t.TreeFields) → FieldsRedacted ss allows path fields out → AllFollow path (field_children fields) (field_children out)
+    fields_follow path t.no_fields out p = no_follow path (field_children out)
+    fields_follow path (t.field name value rest) out p =
+        let here = path ++ into_field name ∷ [] in
+        let P : t.TreeFields → Type 0 = λ x. AllFollow path (field_children (t.field name value rest)) (field_children x) in
+        subst P (sym p.2)
+        (one_follows path (record { steps = into_field name ∷ []; part = value }) (record { steps = into_field name ∷ []; part = p.0 })
+        (field_children rest) (field_children p.1) (good_at here value p.0 (follow here value p.0) p.3) (fields_follow path rest p.1 p.4))
+
+  pub redacted_redacts : (c out : t.Tree) → IsRedacted ss allows c out → Redacts ss allows c out
+  redacted_redacts c out p = record { at_root = good_at [] c out (follow [] c out) p.parts }

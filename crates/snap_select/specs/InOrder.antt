@@ -1,6 +1,7 @@
 -- Lists in order, and trees whose list is.
 use Rattle.std.specs.Prelude.{ℕ, List, [], ◌∷◌, if◌then◌else◌}
 use Rattle.std.specs.declared.cmp.Ordering.{Ordering}
+use Rattle.std.specs.List.Sorted.{IsSortedBy, IsStableBy}
 use Rattle.std.specs.Ordering.{is_lt, ordering_then}
 use Rattle.snap_content.specs.Tree as t
 use Rattle.snap_content.specs.Orders.{text_cmp, tree_cmp}
@@ -15,6 +16,12 @@ put_in cmp x (y ∷ ys) = if is_lt (cmp y x) then y ∷ put_in cmp x ys else x �
 abbrev pub ordered : {X : Type 0} → (X → X → Ordering) → List X → List X
 ordered cmp [] = []
 ordered cmp (x ∷ xs) = put_in cmp x (ordered cmp xs)
+
+-- what a stable sort promises: none is less than the one before it, and those that are neither less nor greater than another
+-- stand as they stood
+pub record IsStableSort {X : Type 0} (cmp : X → X → Ordering) (old new : List X) : Type 0 where
+  pub ascends : IsSortedBy (λ x y. is_lt (cmp x y)) new
+  pub keeps_ties : IsStableBy (λ x y. is_lt (cmp x y)) old new
 
 -- the elements of a tree's list
 abbrev pub items_in : t.Trees → List t.Tree

@@ -15,6 +15,9 @@ pub mod Redacted
 pub mod InOrder
 pub mod SortedTree
 pub mod Put
+pub mod Replacements
+pub mod Redacting
 pub mod Selected
 pub mod PathText
 pub mod Paths
+pub mod Reaching

@@ -4,6 +4,7 @@ use Rattle.snap_content.specs.Tree as t
 use Rattle.snap_select.specs.Matching.{Step, path_match}
 use Rattle.snap_select.specs.Positions.{part_at, path_at}
 use Rattle.snap_select.specs.Parts.{Parts}
+use Rattle.snap_select.specs.Put.{Allowed}
 
 -- a position is hit where its path is matched, and the path of no shorter front of it is
 pub record IsHit (ss : Parts) (path : List Step) (c : t.Tree) (position : List ℕ) : Type 0 where
@@ -49,11 +50,12 @@ pub record IsKept (out : t.Tree) (position : List ℕ) (part : t.Tree) : Type 0 
   pub is : part_at out position ≡ Some now
   pub same : node now ≡ node part
 
--- of the tree at that path: each hit position holds what is put in place of its part, and each untouched one its node
-pub record RedactsAt (ss : Parts) (put : t.Tree → t.Tree) (path : List Step) (c out : t.Tree) : Type 0 where
-  pub replaced : (position : List ℕ) (part : t.Tree) → part_at c position ≡ Some part → IsHit ss path c position → part_at out position ≡ Some (put part)
+-- of the tree at that path: each hit position holds a tree that is allowed in place of its part, and each untouched one its node
+pub record RedactsAt (ss : Parts) (allows : Allowed) (path : List Step) (c out : t.Tree) : Type 0 where
+  pub replaced : (position : List ℕ) (part : t.Tree) → part_at c position ≡ Some part → (hit : IsHit ss path c position)
+      → (new : t.Tree) × (part_at out position ≡ Some new) × allows part hit.steps new
   pub kept : (position : List ℕ) (part : t.Tree) → part_at c position ≡ Some part → IsUntouched ss path c position → IsKept out position part
 
 -- of a whole tree, whose path is empty
-abbrev pub Redacts : Parts → (t.Tree → t.Tree) → t.Tree → t.Tree → Type 0
-Redacts ss put c out = RedactsAt ss put [] c out
+pub record Redacts (ss : Parts) (allows : Allowed) (c out : t.Tree) : Type 0 where
+  pub at_root : RedactsAt ss allows [] c out

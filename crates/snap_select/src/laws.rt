@@ -1,13 +1,15 @@
 //! Laws of selectors' texts.
 ghost use Rattle.std.specs.Prelude.{◌≡◌, ℕ, List, [], Some};
+ghost use Rattle.snap_content.specs.Orders.{tree_cmp};
 ghost use Rattle.snap_content.specs.Sorted.{Sorted};
 ghost use Rattle.snap_content.specs.Tree.{Tree};
 ghost use Rattle.snap_select.specs.Examples.{AreSelected, AreRefused};
 ghost use Rattle.snap_select.specs.Grammar.{IsSelector};
+ghost use Rattle.snap_select.specs.InOrder.{IsStableSort, ordered, pair_cmp, field_cmp};
 ghost use Rattle.snap_select.specs.Parts.{Parts};
 ghost use Rattle.snap_select.specs.Reading.{outcome, before_part, selects};
 ghost use Rattle.snap_select.specs.Redacted.{redacted};
-ghost use Rattle.snap_select.specs.Redacts.{IsHit, Redacts};
+ghost use Rattle.snap_select.specs.Redacting.{IsRedacted, only};
 ghost use Rattle.snap_select.specs.Selected.{selected};
 ghost use Rattle.snap_select.specs.SortedTree.{sorted_tree};
 
@@ -38,15 +40,23 @@ pub const fn worked_examples()
     ensures refused { AreRefused }
 {}
 
-/// The redacted tree, part by part, is what a redaction makes of the tree; and it is the tree itself where no position is hit.
-pub const fn redacted_parts_are_the_redaction()
-    ensures redacts { (ss : Parts) (put : Tree → Tree) (c : Tree)
-        → Redacts ss put c (redacted ss put [] c) }
-    ensures untouched { (ss : Parts) (put : Tree → Tree) (c : Tree)
-        → ((position : List ℕ) → ¬ IsHit ss [] c position) → redacted ss put [] c ≡ c }
-{}
-
 /// What sorting the maps of a tree makes is one tree.
 pub const fn sorting_makes_the_sorted_tree()
     ensures { (c out : Tree) → Sorted c out → out ≡ sorted_tree c }
+{}
+
+/// Where the tree that is put follows from the value alone, what a redaction makes of a tree is one tree.
+pub const fn one_redacted_tree()
+    ensures { (ss : Parts) (put : Tree → Tree) (c out : Tree) → IsRedacted ss (only put) c out
+        → out ≡ redacted ss put [] c }
+{}
+
+/// A stable sort has one outcome, the list in order: of trees, of the pairs of a map, and of the fields of a struct.
+pub const fn stable_sorts_make_the_list_in_order()
+    ensures trees { (old new : List Tree) → IsStableSort tree_cmp old new
+        → new ≡ ordered tree_cmp old }
+    ensures pairs { (old new : List (Tree × Tree)) → IsStableSort pair_cmp old new
+        → new ≡ ordered pair_cmp old }
+    ensures fields { (old new : List (List ℕ × Tree)) → IsStableSort field_cmp old new
+        → new ≡ ordered field_cmp old }
 {}

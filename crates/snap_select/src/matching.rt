@@ -1,6 +1,7 @@
 //! Which paths a selector matches.
 ghost use Rattle.std.specs.Prelude.{◌≡◌, ◌≤◌, length, map, position};
 ghost use Rattle.snap_select.specs.Matching.{step_of, fits_step, fit_each, last_of, matches_whole, matches_ends, segments_match, path_match};
+ghost use Rattle.snap_select.specs.Reaching.{segments_reach, reaches};
 ghost use Rattle.snap_select.specs.Deep.{is_deep};
 
 use crate::deep::is_deep;
@@ -86,6 +87,16 @@ fn segments_match(segments: &[Segment<'_>], path: &[PathItem]) -> bool
     }
 }
 
+/// Whether the segments may match a path that goes on from this one.
+fn segments_reach(segments: &[Segment<'_>], path: &[PathItem]) -> bool
+    ensures { result ≡ segments_reach segments.now (map step_of path.now) }
+{
+    match deep_at(segments) {
+        None => path.len() < segments.len() && fit_each(segments, path),
+        Some(deep) => fit_each(&segments[..deep], path),
+    }
+}
+
 impl Selector<'_> {
     ghost use Rattle.snap_select.specs.Selectors.{parts_of};
 
@@ -100,5 +111,14 @@ impl Selector<'_> {
         self.parts
             .iter()
             .any(|part| segments_match(part.segments(), path))
+    }
+
+    /// Whether one of the parts may match a path that goes on from this one.
+    pub(crate) fn reaches(&self, path: &[PathItem]) -> bool
+        ensures { result ≡ reaches (parts_of self.now) (map step_of path.now) }
+    {
+        self.parts
+            .iter()
+            .any(|part| segments_reach(part.segments(), path))
     }
 }

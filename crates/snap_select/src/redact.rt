@@ -1,229 +1,295 @@
 //! Redacted trees.
-ghost use Rattle.std.specs.Prelude.{◌≡◌, ℕ, List, [], ◌∷◌, ◌++◌, map, IfOk, OnOk};
+ghost use Rattle.std.specs.Prelude.{◌≡◌, ℕ, List, [], ◌∷◌, ◌++◌, map, codes, IfOk, OnOk};
 ghost use Rattle.snap_content.specs.View.{tree, item_list, item_trees, pair_list, pair_trees, field_list, field_trees};
-ghost use Rattle.snap_select.specs.Matching.{step_of};
+ghost use Rattle.snap_select.specs.Matching.{step_of, to_item, into_field, under_key};
 ghost use Rattle.snap_select.specs.Positions.{count_of};
-ghost use Rattle.snap_select.specs.Put.{put_of};
-ghost use Rattle.snap_select.specs.Redacted.{redacted, inside, redacted_items, redacted_pairs, redacted_fields};
+ghost use Rattle.snap_select.specs.Put.{Puts};
+ghost use Rattle.snap_select.specs.Redacting.{RedactedAt, Inside, ItemsRedacted, PairsRedacted, FieldsRedacted, IsRedacted};
 ghost use Rattle.snap_select.specs.Selectors.{parts_of};
 
 use crate::path_item::PathItem;
+use crate::put::Put;
 use crate::redaction::Redaction;
+use crate::redactor::Redactor;
 use crate::selector::Selector;
 use snap_content::{Content, Fields, Items, OutOfMemory, Pairs, Text};
 use std::alloc::Global;
+use std::mem;
 
-/// A copy of the tree at a path, redacted.
+/// The step to the item at a place, counted from 0, of a list with so many.
+fn item_step(place: usize, length: u64) -> PathItem
+    ensures { step_of result ≡ to_item place length }
+{
+    PathItem::Index(place as u64, length)
+}
+
+/// The name of the field in which the key of a pair stands.
+fn key_name(alloc: Global) -> Result<Text, OutOfMemory>
+    ensures { IfOk result (λ name. name ≡ codes "$key") }
+{
+    Text::from_ascii(alloc, "$key")
+}
+
+/// Drops a step that is gone back over. Where it is dropped in the walk, each goal behind that has the steps of its dropping.
+fn leave(_step: PathItem) {}
+
+/// The tree at a path, redacted. Where no match can lie below, it comes back unseen.
 #[cycle(redact)]
-fn redact_at(
-    value: &Content,
+fn redact_at<P: Put>(
+    value: Content,
     selector: &Selector<'_>,
-    redaction: &Redaction,
+    put: &P,
     alloc: Global,
     path: &mut Vec<PathItem>,
 ) -> Result<Content, OutOfMemory>
-    ensures ok { IfOk result (λ out. tree out
-        ≡ redacted (parts_of selector.now) (put_of redaction.now) (map step_of path.old.items)
-        (tree value.now)) }
+    requires { P.can_put put.now }
+    ensures ok { IfOk result (λ out. RedactedAt (parts_of selector.now) (P.puts put.now)
+        (map step_of path.old.items) (tree value) (tree out)) }
     ensures path { OnOk result (path.new.items ≡ path.old.items) }
 {
     if selector.is_match(path.as_slice()) {
-        return redaction.replacement(alloc, value);
+        return put.put(alloc, value, path.as_slice());
     }
-    redact_inside(value, selector, redaction, alloc, path)
+    if !selector.reaches(path.as_slice()) {
+        return Ok(value);
+    }
+    redact_inside(value, selector, put, alloc, path)
 }
 
-/// The same behind one step more.
+/// The same in place, behind one step more, which comes back.
 #[cycle(redact)]
-fn redact_behind(
-    value: &Content,
+fn redact_behind<P: Put>(
+    value: &mut Content,
+    step: PathItem,
     selector: &Selector<'_>,
-    redaction: &Redaction,
+    put: &P,
     alloc: Global,
     path: &mut Vec<PathItem>,
-    step: PathItem,
-) -> Result<Content, OutOfMemory>
-    ensures ok { IfOk result (λ out. tree out
-        ≡ redacted (parts_of selector.now) (put_of redaction.now)
-        (map step_of path.old.items ++ step_of step ∷ []) (tree value.now)) }
+) -> Result<PathItem, OutOfMemory>
+    requires { P.can_put put.now }
+    ensures ok { OnOk result (RedactedAt (parts_of selector.now) (P.puts put.now)
+        (map step_of path.old.items ++ step_of step ∷ []) (tree value.old) (tree value.new)) }
+    ensures step { IfOk result (λ back. back ≡ step) }
     ensures path { OnOk result (path.new.items ≡ path.old.items) }
 {
     path.push(step)?;
-    let out = redact_at(value, selector, redaction, alloc, path)?;
-    let _ = path.pop();
-    Ok(out)
+    let whole = mem::replace(value, Content::Unit);
+    *value = redact_at(whole, selector, put, alloc, path)?;
+    let Some(step) = path.pop() else {
+        unreachable!()
+    };
+    Ok(step)
 }
 
 /// The same in a box, behind the same steps.
 #[cycle(redact)]
-fn redact_box(
-    value: &Box<Content>,
+fn redact_box<P: Put>(
+    mut inner: Box<Content>,
     selector: &Selector<'_>,
-    redaction: &Redaction,
+    put: &P,
     alloc: Global,
     path: &mut Vec<PathItem>,
 ) -> Result<Box<Content>, OutOfMemory>
-    ensures ok { IfOk result (λ out. tree out.value
-        ≡ redacted (parts_of selector.now) (put_of redaction.now) (map step_of path.old.items)
-        (tree value.now.value)) }
+    requires { P.can_put put.now }
+    ensures ok { IfOk result (λ out. RedactedAt (parts_of selector.now) (P.puts put.now)
+        (map step_of path.old.items) (tree inner.value) (tree out.value)) }
     ensures path { OnOk result (path.new.items ≡ path.old.items) }
 {
-    let inner = redact_at(value, selector, redaction, alloc, path)?;
-    Ok(Box::new(alloc, inner)?)
+    let whole = mem::replace(&mut *inner, Content::Unit);
+    *inner = redact_at(whole, selector, put, alloc, path)?;
+    Ok(inner)
 }
 
-/// A copy of the tree at a path that isn't matched, with its parts redacted.
+/// The tree at a path that isn't matched, with its parts redacted.
 #[cycle(redact)]
-fn redact_inside(
-    value: &Content,
+fn redact_inside<P: Put>(
+    value: Content,
     selector: &Selector<'_>,
-    redaction: &Redaction,
+    put: &P,
     alloc: Global,
     path: &mut Vec<PathItem>,
 ) -> Result<Content, OutOfMemory>
-    ensures ok { IfOk result (λ out. tree out
-        ≡ inside (parts_of selector.now) (put_of redaction.now) (map step_of path.old.items)
-        (tree value.now)) }
+    requires { P.can_put put.now }
+    ensures ok { IfOk result (λ out. Inside (parts_of selector.now) (P.puts put.now)
+        (map step_of path.old.items) (tree value) (tree out)) }
     ensures path { OnOk result (path.new.items ≡ path.old.items) }
 {
     match value {
         Content::Some(inner) => {
-            Ok(Content::Some(redact_box(inner, selector, redaction, alloc, path)?))
+            Ok(Content::Some(redact_box(inner, selector, put, alloc, path)?))
         }
         Content::NewtypeStruct(name, inner) => {
-            let name = name.try_clone(alloc)?;
-            let inner = redact_box(inner, selector, redaction, alloc, path)?;
+            let inner = redact_box(inner, selector, put, alloc, path)?;
             Ok(Content::NewtypeStruct(name, inner))
         }
         Content::NewtypeVariant(name, index, variant, inner) => {
-            let (name, variant) = names(alloc, name, variant)?;
-            let inner = redact_box(inner, selector, redaction, alloc, path)?;
-            Ok(Content::NewtypeVariant(name, *index, variant, inner))
+            let inner = redact_box(inner, selector, put, alloc, path)?;
+            Ok(Content::NewtypeVariant(name, index, variant, inner))
         }
         Content::Seq(items) => {
-            Ok(Content::Seq(redact_items(items, selector, redaction, alloc, path)?))
+            Ok(Content::Seq(redact_items(items, selector, put, alloc, path)?))
         }
         Content::Tuple(items) => {
-            Ok(Content::Tuple(redact_items(items, selector, redaction, alloc, path)?))
+            Ok(Content::Tuple(redact_items(items, selector, put, alloc, path)?))
         }
         Content::TupleStruct(name, items) => {
-            let name = name.try_clone(alloc)?;
-            let items = redact_items(items, selector, redaction, alloc, path)?;
+            let items = redact_items(items, selector, put, alloc, path)?;
             Ok(Content::TupleStruct(name, items))
         }
         Content::TupleVariant(name, index, variant, items) => {
-            let (name, variant) = names(alloc, name, variant)?;
-            let items = redact_items(items, selector, redaction, alloc, path)?;
-            Ok(Content::TupleVariant(name, *index, variant, items))
+            let items = redact_items(items, selector, put, alloc, path)?;
+            Ok(Content::TupleVariant(name, index, variant, items))
         }
         Content::Map(pairs) => {
-            Ok(Content::Map(redact_pairs(pairs, selector, redaction, alloc, path)?))
+            Ok(Content::Map(redact_pairs(pairs, selector, put, alloc, path)?))
         }
         Content::Struct(name, fields) => {
-            let name = name.try_clone(alloc)?;
-            let fields = redact_fields(fields, selector, redaction, alloc, path)?;
+            let fields = redact_fields(fields, selector, put, alloc, path)?;
             Ok(Content::Struct(name, fields))
         }
         Content::StructVariant(name, index, variant, fields) => {
-            let (name, variant) = names(alloc, name, variant)?;
-            let fields = redact_fields(fields, selector, redaction, alloc, path)?;
-            Ok(Content::StructVariant(name, *index, variant, fields))
+            let fields = redact_fields(fields, selector, put, alloc, path)?;
+            Ok(Content::StructVariant(name, index, variant, fields))
         }
-        _ => value.try_clone(alloc),
+        leaf => Ok(leaf),
     }
 }
 
-/// Copies of two names.
-fn names(alloc: Global, name: &Text, variant: &Text) -> Result<(Text, Text), OutOfMemory>
-    ensures { IfOk result (λ copies. copies ≡ (name.now, variant.now)) }
-{
-    let name = name.try_clone(alloc)?;
-    Ok((name, variant.try_clone(alloc)?))
-}
-
-/// Copies of the items of a list, each redacted behind its place.
+/// The items of a list, each redacted behind its place.
 #[cycle(redact)]
-fn redact_items(
-    items: &Items,
+fn redact_items<P: Put>(
+    list: Items,
     selector: &Selector<'_>,
-    redaction: &Redaction,
+    put: &P,
     alloc: Global,
     path: &mut Vec<PathItem>,
 ) -> Result<Items, OutOfMemory>
-    ensures ok { IfOk result (λ out. item_trees (item_list out)
-        ≡ redacted_items (parts_of selector.now) (put_of redaction.now) (map step_of path.old.items)
-        (count_of (item_trees (item_list items.now))) 0 (item_trees (item_list items.now))) }
+    requires { P.can_put put.now }
+    ensures ok { IfOk result (λ out. ItemsRedacted (parts_of selector.now) (P.puts put.now)
+        (map step_of path.old.items) (count_of (item_trees (item_list list))) 0
+        (item_trees (item_list list)) (item_trees (item_list out))) }
     ensures path { OnOk result (path.new.items ≡ path.old.items) }
 {
-    let mut out = Items::new(alloc);
-    for item in items.as_slice() {
-        let step = PathItem::Index(out.len() as u64, items.len() as u64);
-        let new_item = redact_behind(item, selector, redaction, alloc, path, step)?;
-        out.push(new_item)?;
+    let mut items = list.into_vec();
+    let length = items.len() as u64;
+    for index in 0..items.len() {
+        let step = item_step(index, length);
+        leave(redact_behind(&mut items[index], step, selector, put, alloc, path)?);
     }
-    Ok(out)
+    Ok(Items::from_vec(items))
 }
 
-/// Copies of the pairs of a map, each key redacted under the field `$key`, and each value under its key as it was.
+/// The pairs of a map, each key redacted under the field `$key`, and each value under its key as it was.
 #[cycle(redact)]
-fn redact_pairs(
-    pairs: &Pairs,
+fn redact_pairs<P: Put>(
+    list: Pairs,
     selector: &Selector<'_>,
-    redaction: &Redaction,
+    put: &P,
     alloc: Global,
     path: &mut Vec<PathItem>,
 ) -> Result<Pairs, OutOfMemory>
-    ensures ok { IfOk result (λ out. pair_trees (pair_list out)
-        ≡ redacted_pairs (parts_of selector.now) (put_of redaction.now) (map step_of path.old.items)
-        (pair_trees (pair_list pairs.now))) }
+    requires { P.can_put put.now }
+    ensures ok { IfOk result (λ out. PairsRedacted (parts_of selector.now) (P.puts put.now)
+        (map step_of path.old.items) (pair_trees (pair_list list)) (pair_trees (pair_list out))) }
     ensures path { OnOk result (path.new.items ≡ path.old.items) }
 {
-    let mut out = Pairs::new(alloc);
-    for (key, value) in pairs.as_slice() {
-        let step = PathItem::Field(Text::from_ascii(alloc, "$key")?);
-        let new_key = redact_behind(key, selector, redaction, alloc, path, step)?;
-        let step = PathItem::Content(key.try_clone(alloc)?);
-        let new_value = redact_behind(value, selector, redaction, alloc, path, step)?;
-        out.push((new_key, new_value))?;
+    let mut pairs = list.into_vec();
+    let mut key_step = PathItem::Field(key_name(alloc)?);
+    for index in 0..pairs.len() {
+        key_step = redact_pair(&mut pairs[index], key_step, selector, put, alloc, path)?;
     }
-    Ok(out)
+    leave(key_step);
+    Ok(Pairs::from_vec(pairs))
 }
 
-/// Copies of the fields of a struct, each redacted behind its name.
+/// First the value, so that its step has the key as it was; then the key behind its own step, which comes back.
 #[cycle(redact)]
-fn redact_fields(
-    fields: &Fields,
+fn redact_pair<P: Put>(
+    pair: &mut (Content, Content),
+    key_step: PathItem,
     selector: &Selector<'_>,
-    redaction: &Redaction,
+    put: &P,
+    alloc: Global,
+    path: &mut Vec<PathItem>,
+) -> Result<PathItem, OutOfMemory>
+    requires { P.can_put put.now }
+    ensures key { OnOk result (RedactedAt (parts_of selector.now) (P.puts put.now)
+        (map step_of path.old.items ++ step_of key_step ∷ []) (tree pair.old.0)
+        (tree pair.new.0)) }
+    ensures value { OnOk result (RedactedAt (parts_of selector.now) (P.puts put.now)
+        (map step_of path.old.items ++ under_key (tree pair.old.0) ∷ []) (tree pair.old.1)
+        (tree pair.new.1)) }
+    ensures step { IfOk result (λ back. back ≡ key_step) }
+    ensures path { OnOk result (path.new.items ≡ path.old.items) }
+{
+    let key = mem::replace(&mut pair.0, Content::Unit);
+    let step = PathItem::Content(key);
+    match redact_behind(&mut pair.1, step, selector, put, alloc, path)? {
+        PathItem::Content(key) => pair.0 = key,
+        PathItem::Field(_) | PathItem::Index(_, _) => unreachable!(),
+    }
+    redact_behind(&mut pair.0, key_step, selector, put, alloc, path)
+}
+
+/// The fields of a struct, each redacted behind its name.
+#[cycle(redact)]
+fn redact_fields<P: Put>(
+    list: Fields,
+    selector: &Selector<'_>,
+    put: &P,
     alloc: Global,
     path: &mut Vec<PathItem>,
 ) -> Result<Fields, OutOfMemory>
-    ensures ok { IfOk result (λ out. field_trees (field_list out)
-        ≡ redacted_fields (parts_of selector.now) (put_of redaction.now) (map step_of path.old.items)
-        (field_trees (field_list fields.now))) }
+    requires { P.can_put put.now }
+    ensures ok { IfOk result (λ out. FieldsRedacted (parts_of selector.now) (P.puts put.now)
+        (map step_of path.old.items) (field_trees (field_list list))
+        (field_trees (field_list out))) }
     ensures path { OnOk result (path.new.items ≡ path.old.items) }
 {
-    let mut out = Fields::new(alloc);
-    for (name, value) in fields.as_slice() {
-        let step = PathItem::Field(name.try_clone(alloc)?);
-        let new_value = redact_behind(value, selector, redaction, alloc, path, step)?;
-        out.push((name.try_clone(alloc)?, new_value))?;
+    let mut fields = list.into_vec();
+    for index in 0..fields.len() {
+        redact_field(&mut fields[index], selector, put, alloc, path)?;
     }
-    Ok(out)
+    Ok(Fields::from_vec(fields))
 }
 
-/// A copy of the tree, redacted.
-fn redact_tree(
-    value: &Content,
+#[cycle(redact)]
+fn redact_field<P: Put>(
+    field: &mut (Text, Content),
     selector: &Selector<'_>,
-    redaction: &Redaction,
+    put: &P,
+    alloc: Global,
+    path: &mut Vec<PathItem>,
+) -> Result<(), OutOfMemory>
+    requires { P.can_put put.now }
+    ensures value { OnOk result (RedactedAt (parts_of selector.now) (P.puts put.now)
+        (map step_of path.old.items ++ into_field field.old.0 ∷ []) (tree field.old.1)
+        (tree field.new.1)) }
+    ensures name { OnOk result (field.new.0 ≡ field.old.0) }
+    ensures path { OnOk result (path.new.items ≡ path.old.items) }
+{
+    let name = mem::replace(&mut field.0, Text::empty());
+    let step = PathItem::Field(name);
+    match redact_behind(&mut field.1, step, selector, put, alloc, path)? {
+        PathItem::Field(name) => field.0 = name,
+        PathItem::Content(_) | PathItem::Index(_, _) => unreachable!(),
+    }
+    Ok(())
+}
+
+/// The whole tree, redacted.
+fn redact_tree<P: Put>(
+    value: Content,
+    selector: &Selector<'_>,
+    put: &P,
     alloc: Global,
 ) -> Result<Content, OutOfMemory>
-    ensures { IfOk result (λ out. tree out
-        ≡ redacted (parts_of selector.now) (put_of redaction.now) [] (tree value.now)) }
+    requires { P.can_put put.now }
+    ensures { IfOk result (λ out. IsRedacted (parts_of selector.now) (P.puts put.now)
+        (tree value) (tree out)) }
 {
     let mut path = Vec::new(alloc);
-    redact_at(value, selector, redaction, alloc, &mut path)
+    redact_at(value, selector, put, alloc, &mut path)
 }
 
 impl Selector<'_> {
@@ -239,14 +305,20 @@ impl Selector<'_> {
         value: Content,
         redaction: &Redaction,
     ) -> Result<Content, OutOfMemory>
-        ensures redacted { IfOk result (λ out.
-            Redacts (parts_of self.now) (put_of redaction.now) (tree value) (tree out)) }
+        ensures redacted { IfOk result (λ out. Redacts (parts_of self.now)
+            (Puts (λ v. (⟦<dyn Redactor as Redactor>⟧ v).allows) redaction.now)
+            (tree value) (tree out)) }
         ensures untouched { IfOk result (λ out. ((position : List ℕ)
             → ¬ IsHit (parts_of self.now) [] (tree value) position) → tree out ≡ tree value) }
-        // Part by part, for who has to name the tree. That both say the same is a law.
-        ensures parts { IfOk result (λ out. tree out
-            ≡ redacted (parts_of self.now) (put_of redaction.now) [] (tree value)) }
+        // Part by part, for who has to name the tree.
+        ensures parts { IfOk result (λ out. IsRedacted (parts_of self.now)
+            (Puts (λ v. (⟦<dyn Redactor as Redactor>⟧ v).allows) redaction.now)
+            (tree value) (tree out)) }
     {
-        redact_tree(&value, self, redaction, alloc)
+        let put = |alloc: Global, value: Content, path: &[PathItem]| -> Result<
+            Content,
+            OutOfMemory,
+        > { redaction.put(alloc, value, path) };
+        redact_tree(value, self, &put, alloc)
     }
 }

@@ -1,8 +1,12 @@
-//! Tests of `snap_select` through its public calls: texts of selectors, and redacted trees.
+//! Tests of `snap_select` through its public calls: texts of selectors, redacted trees, and callers' own redactions.
 //! They stand apart, since a crate with tests is proved twice.
 #![tactic(auto)]
 
 #[cfg(test)]
 mod redacting;
 #[cfg(test)]
+mod redactors;
+#[cfg(test)]
 mod texts;
+#[cfg(test)]
+mod users;

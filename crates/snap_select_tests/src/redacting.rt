@@ -325,3 +325,29 @@ fn nothing_below_what_was_put(rt: HostRuntime) -> Result<(), Fail> {
     assert!(rt; made == of_field(alloc, of_field(alloc, Content::U8(1))?)?);
     Ok(())
 }
+
+/// Two numbers.
+fn numbers(alloc: Global, first: u8, second: u8) -> Result<Items, OutOfMemory> {
+    let mut items = Items::new(alloc);
+    items.push(Content::U8(first))?;
+    items.push(Content::U8(second))?;
+    Ok(items)
+}
+
+#[test]
+fn a_list_in_order(rt: HostRuntime) -> Result<(), Fail> {
+    let alloc = rt.alloc();
+    let tree = of_field(alloc, Content::Seq(numbers(alloc, 2, 1)?))?;
+    let made = Selector::parse(alloc, ".f")?.redact(alloc, tree, &Redaction::Sorted)?;
+    assert!(rt; made == of_field(alloc, Content::Seq(numbers(alloc, 1, 2)?))?);
+    Ok(())
+}
+
+#[test]
+fn a_tuple_as_it_stood(rt: HostRuntime) -> Result<(), Fail> {
+    let alloc = rt.alloc();
+    let tree = of_field(alloc, Content::Tuple(numbers(alloc, 2, 1)?))?;
+    let made = Selector::parse(alloc, ".f")?.redact(alloc, tree, &Redaction::Sorted)?;
+    assert!(rt; made == of_field(alloc, Content::Tuple(numbers(alloc, 2, 1)?))?);
+    Ok(())
+}

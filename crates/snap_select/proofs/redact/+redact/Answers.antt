@@ -1,44 +1,109 @@
-use Rattle.std.proofs.Common.{ap, ◌∙◌}
-use Rattle.std.proofs.lemmas.List.{drop_all}
-use Rattle.snap_select.specs.Put.{put_of}
-use Rattle.snap_select.proofs.RedactedLists.{items_step, items_done, pairs_step, pairs_done, fields_step, fields_done, inside_struct, inside_struct_variant}
+use Rattle.std.proofs.Common.{rules, of_calls, ◌≡◌, ◌≤◌, ◌+◌, map, ap, sym, ◌∙◌, refl, arith, length, drop, length-set}
+use Rattle.snap_content.specs.Count.{count, count_items, count_pairs, count_fields}
+use Rattle.snap_content.specs.View.{tree, item_list, item_trees, pair_list, pair_trees, field_list, field_trees}
+use Rattle.snap_content.proofs.Joined.{left_turn, count_left, count_pairs_left, count_fields_left}
+use Rattle.snap_select.specs.Matching.{step_of, into_field, path_match}
+use Rattle.snap_select.specs.Reaching.{reaches}
 use Rattle.snap_select.specs.Selectors.{parts_of}
+use Rattle.snap_select.proofs.Reached.{stays}
+use Rattle.snap_select.proofs.RedactedLists.{items_begin, items_turn, items_end, pairs_begin, pairs_turn, pairs_end, fields_begin, fields_turn, fields_end}
 use Rattle.snap_select.proofs.redact.+redact.Goals as goal
 
-pub redact_inside-returns-in_ok-fields-in-Struct-clause-ok : goal.redact_inside-returns-in_ok-fields-in-Struct-clause-ok
-redact_inside-returns-in_ok-fields-in-Struct-clause-ok t c =
-    inside_struct _ _ _ _ _ _ _ _ c.in-Struct.is c.in_ok-name-in-Struct.ensures c.in_ok-fields-in-Struct.ensures.ok
+pub redact_at-returns-then-not-reaches-clause-ok : goal.redact_at-returns-then-not-reaches-clause-ok
+redact_at-returns-then-not-reaches-clause-ok g t c =
+    stays (parts_of c.args.selector.now) (g.P.Put.puts c.args.put.now) (map step_of c.args.path.now.items) (tree c.args.value)
+    (ap (λ p. path_match (parts_of c.args.selector.now) (map step_of p)) (sym c.as_slice.ensures.value) ∙ sym c.is_match.ensures ∙ c.if-is_match.false)
+    (ap (λ p. reaches (parts_of c.args.selector.now) (map step_of p)) (sym c.as_slice-2.ensures.value) ∙ sym c.reaches.ensures ∙ c.if-not-reaches.true)
 
-pub redact_inside-returns-in_ok-fields-in-StructVariant-clause-ok : goal.redact_inside-returns-in_ok-fields-in-StructVariant-clause-ok
-redact_inside-returns-in_ok-fields-in-StructVariant-clause-ok t c =
-    let names = c.in_ok-name-in-StructVariant.ensures in
-    inside_struct_variant _ _ _ _ _ _ _ _ _ _ _ c.in-StructVariant.is (ap (λ p. p.0) names) (ap (λ p. p.1) names) c.in_ok-fields-in-StructVariant.ensures.ok
+pub redact_behind-redact_at-requires : goal.redact_behind-redact_at-requires
+redact_behind-redact_at-requires g t c κs within =
+    let k : count (tree c.replace-whole.result) ≡ count (tree c.args.value.now) = ap (λ x. count (tree x)) c.replace-whole.ensures.value in search (rules, of_calls)
 
-pub redact_items-loop-item-preserved : goal.redact_items-loop-item-preserved
-redact_items-loop-item-preserved t c = record {
-  path = c.in_ok-new_item.ensures.path ∙ c.loop-item.invariant.path;
-  so_far = items_step _ _ _ _ _ _ _ _ _ _ _ _ _ c.loop-item.invariant.so_far c.loop-item-test.true c.item-item.is c.in_ok-new_item.ensures.ok c.loop-item.invariant.path c.len.ensures c.len-in-loop-item.ensures c.in_ok-push.ensures.ok;
+pub redact_items-loop-index-init : goal.redact_items-loop-index-init
+redact_items-loop-index-init g t c = record {
+  path = refl;
+  left = ap (drop 0) c.into_vec-items.ensures;
+  same_length = ap length c.into_vec-items.ensures;
+  so_far = items_begin (parts_of c.args.selector.now) (g.P.Put.puts c.args.put.now) (map step_of c.args.path.now.items) _ _ c.into_vec-items.ensures;
+}
+
+pub redact_items-redact_behind-requires : goal.redact_items-redact_behind-requires
+redact_items-redact_behind-requires g t c κs within =
+    let k : count (tree c.index_mut.result.now) ≤ count_items (item_trees (item_list c.args.list))
+    = count_left _ c.loop-index.items.items c.loop-index.index _ c.loop-index.invariant.left (omega (arith, ap length c.into_vec-items.ensures)) c.index_mut.ensures.value in search rules
+
+pub redact_items-loop-index-preserved : goal.redact_items-loop-index-preserved
+redact_items-loop-index-preserved g t c = record {
+  path = c.in_ok-redact_behind.ensures.path ∙ c.loop-index.invariant.path;
+  left = left_turn _ c.loop-index.items.items c.loop-index.index c.redact_behind.new.value c.loop-index.invariant.left;
+  same_length = length-set c.loop-index.items.items c.loop-index.index c.redact_behind.new.value ∙ c.loop-index.invariant.same_length;
+  so_far = items_turn (parts_of c.args.selector.now) (g.P.Put.puts c.args.put.now) _ _ (item_list c.args.list) c.loop-index.items.items c.loop-index.index c.len-length.result _ _
+      c.redact_behind.new.value c.loop-index.invariant.so_far c.loop-index.invariant.path c.item_step-step.ensures (omega (arith, ap length c.into_vec-items.ensures)) (omega (arith, ap length c.into_vec-items.ensures)) c.index_mut.ensures.value c.in_ok-redact_behind.ensures.ok;
 }
 
 pub redact_items-returns-clause-ok : goal.redact_items-returns-clause-ok
-redact_items-returns-clause-ok t c = items_done _ _ _ _ _ _ c.loop-item.invariant.so_far (drop_all _ _ c.loop-item-test.false)
+redact_items-returns-clause-ok g t c =
+    items_end (parts_of c.args.selector.now) (g.P.Put.puts c.args.put.now) _ (item_list c.args.list) c.loop-index.items.items _ c.loop-index.index c.loop-index.invariant.so_far (omega (arith, ap length c.into_vec-items.ensures)) c.from_vec.ensures
 
-pub redact_pairs-loop-key-preserved : goal.redact_pairs-loop-key-preserved
-redact_pairs-loop-key-preserved t c = record {
-  path = c.in_ok-new_value.ensures.path ∙ c.in_ok-new_key.ensures.path ∙ c.loop-key.invariant.path;
-  so_far = pairs_step (parts_of c.args.selector.now) (put_of c.args.redaction.now) _ _ _ _ _ _ _ _ _ _ _ _ c.loop-key.invariant.path c.in_ok-new_key.ensures.path c.in_ok-from_ascii.ensures c.in_ok-try_clone.ensures c.in_ok-new_key.ensures.ok c.in_ok-new_value.ensures.ok
-      c.loop-key.invariant.so_far c.loop-key-test.true c.loop-key-item.is c.in_ok-push.ensures.ok;
+pub redact_items-returns-clause-path : goal.redact_items-returns-clause-path
+redact_items-returns-clause-path g t c = c.loop-index.invariant.path
+
+pub redact_pairs-loop-index-init : goal.redact_pairs-loop-index-init
+redact_pairs-loop-index-init g t c = record {
+  path = refl;
+  key_step = ap into_field c.in_ok-key_name.ensures;
+  left = ap (drop 0) c.into_vec-pairs.ensures;
+  same_length = ap length c.into_vec-pairs.ensures;
+  so_far = pairs_begin (parts_of c.args.selector.now) (g.P.Put.puts c.args.put.now) (map step_of c.args.path.now.items) _ _ c.into_vec-pairs.ensures;
+}
+
+pub redact_pairs-redact_pair-requires : goal.redact_pairs-redact_pair-requires
+redact_pairs-redact_pair-requires g t c κs within =
+    let k : count (tree c.index_mut.result.now.0) + count (tree c.index_mut.result.now.1) ≤ count_pairs (pair_trees (pair_list c.args.list))
+    = count_pairs_left _ c.loop-index.pairs.items c.loop-index.index _ c.loop-index.invariant.left (omega (arith, ap length c.into_vec-pairs.ensures)) c.index_mut.ensures.value in search rules
+
+pub redact_pairs-loop-index-preserved : goal.redact_pairs-loop-index-preserved
+redact_pairs-loop-index-preserved g t c = record {
+  path = c.in_ok-key_step.ensures.path ∙ c.loop-index.invariant.path;
+  key_step = ap step_of c.in_ok-key_step.ensures.step ∙ c.loop-index.invariant.key_step;
+  left = left_turn _ c.loop-index.pairs.items c.loop-index.index c.redact_pair.new.pair c.loop-index.invariant.left;
+  same_length = length-set c.loop-index.pairs.items c.loop-index.index c.redact_pair.new.pair ∙ c.loop-index.invariant.same_length;
+  so_far = pairs_turn (parts_of c.args.selector.now) (g.P.Put.puts c.args.put.now) _ _ (pair_list c.args.list) c.loop-index.pairs.items c.loop-index.index _ c.redact_pair.new.pair _
+      c.loop-index.invariant.so_far c.loop-index.invariant.path c.loop-index.invariant.key_step (omega (arith, ap length c.into_vec-pairs.ensures)) c.index_mut.ensures.value c.in_ok-key_step.ensures.key c.in_ok-key_step.ensures.value;
 }
 
 pub redact_pairs-returns-clause-ok : goal.redact_pairs-returns-clause-ok
-redact_pairs-returns-clause-ok t c = pairs_done _ _ _ _ _ _ _ c.loop-key.invariant.so_far c.loop-key-test.false c.as_slice-key-items.ensures
+redact_pairs-returns-clause-ok g t c =
+    pairs_end (parts_of c.args.selector.now) (g.P.Put.puts c.args.put.now) _ (pair_list c.args.list) c.loop-index.pairs.items _ c.loop-index.index c.loop-index.invariant.so_far (omega (arith, ap length c.into_vec-pairs.ensures)) c.from_vec.ensures
 
-pub redact_fields-loop-name-preserved : goal.redact_fields-loop-name-preserved
-redact_fields-loop-name-preserved t c = record {
-  path = c.in_ok-new_value.ensures.path ∙ c.loop-name.invariant.path;
-  so_far = fields_step (parts_of c.args.selector.now) (put_of c.args.redaction.now) _ _ _ _ _ _ _ _ _ _ c.loop-name.invariant.path c.in_ok-try_clone.ensures c.in_ok-try_clone-2.ensures c.in_ok-new_value.ensures.ok
-      c.loop-name.invariant.so_far c.loop-name-test.true c.loop-name-item.is c.in_ok-push.ensures.ok;
+pub redact_pairs-returns-clause-path : goal.redact_pairs-returns-clause-path
+redact_pairs-returns-clause-path g t c = c.loop-index.invariant.path
+
+pub redact_fields-loop-index-init : goal.redact_fields-loop-index-init
+redact_fields-loop-index-init g t c = record {
+  path = refl;
+  left = ap (drop 0) c.into_vec-fields.ensures;
+  same_length = ap length c.into_vec-fields.ensures;
+  so_far = fields_begin (parts_of c.args.selector.now) (g.P.Put.puts c.args.put.now) (map step_of c.args.path.now.items) _ _ c.into_vec-fields.ensures;
+}
+
+pub redact_fields-redact_field-requires : goal.redact_fields-redact_field-requires
+redact_fields-redact_field-requires g t c κs within =
+    let k : count (tree c.index_mut.result.now.1) ≤ count_fields (field_trees (field_list c.args.list))
+    = count_fields_left _ c.loop-index.fields.items c.loop-index.index _ c.loop-index.invariant.left (omega (arith, ap length c.into_vec-fields.ensures)) c.index_mut.ensures.value in search rules
+
+pub redact_fields-loop-index-preserved : goal.redact_fields-loop-index-preserved
+redact_fields-loop-index-preserved g t c = record {
+  path = c.in_ok-redact_field.ensures.path ∙ c.loop-index.invariant.path;
+  left = left_turn _ c.loop-index.fields.items c.loop-index.index c.redact_field.new.field c.loop-index.invariant.left;
+  same_length = length-set c.loop-index.fields.items c.loop-index.index c.redact_field.new.field ∙ c.loop-index.invariant.same_length;
+  so_far = fields_turn (parts_of c.args.selector.now) (g.P.Put.puts c.args.put.now) _ _ (field_list c.args.list) c.loop-index.fields.items c.loop-index.index _ c.redact_field.new.field
+      c.loop-index.invariant.so_far c.loop-index.invariant.path (omega (arith, ap length c.into_vec-fields.ensures)) c.index_mut.ensures.value c.in_ok-redact_field.ensures.name c.in_ok-redact_field.ensures.value;
 }
 
 pub redact_fields-returns-clause-ok : goal.redact_fields-returns-clause-ok
-redact_fields-returns-clause-ok t c = fields_done _ _ _ _ _ _ _ c.loop-name.invariant.so_far c.loop-name-test.false c.as_slice-name-items.ensures
+redact_fields-returns-clause-ok g t c =
+    fields_end (parts_of c.args.selector.now) (g.P.Put.puts c.args.put.now) _ (field_list c.args.list) c.loop-index.fields.items _ c.loop-index.index c.loop-index.invariant.so_far (omega (arith, ap length c.into_vec-fields.ensures)) c.from_vec.ensures
+
+pub redact_fields-returns-clause-path : goal.redact_fields-returns-clause-path
+redact_fields-returns-clause-path g t c = c.loop-index.invariant.path

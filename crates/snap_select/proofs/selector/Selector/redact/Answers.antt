@@ -1,28 +1,27 @@
-use Rattle.std.proofs.Common.{◌≡◌, [], sym, ap, ◌∙◌, subst}
 use Rattle.std.proofs.lemmas.Result.{IfOk-weaker}
-use Rattle.snap_content.specs.Tree.{Tree}
 use Rattle.snap_content.specs.View.{tree}
-use Rattle.snap_select.specs.Put.{put_of}
-use Rattle.snap_select.specs.Redacted.{redacted}
-use Rattle.snap_select.specs.Redacts.{Redacts}
+use Rattle.snap_select.specs.Put.{Puts}
 use Rattle.snap_select.specs.Selectors.{parts_of}
-use Rattle.snap_select.proofs.QuietTrees.{quiet_tree}
+use Rattle.snap_select.proofs.Answered.{moved}
+use Rattle.snap_select.proofs.OneRedacted.{weaker_redacted}
+use Rattle.snap_select.proofs.QuietTrees.{quiet_redacted}
 use Rattle.snap_select.proofs.RedactedParts.{redacted_redacts}
 use Rattle.snap_select.proofs.selector.Selector.redact.Goals as goal
 
+pub returns-clause-parts : goal.returns-clause-parts
+returns-clause-parts g c =
+    IfOk-weaker c.redact_tree.result _ _
+    (λ out p. weaker_redacted _ _ (Puts (λ v. (g.dyn-1.0.entry v).1.allows) c.args.redaction.now)
+    (λ t steps new q. moved (Puts (λ v. (g.dyn-1.0.entry v).1.allows) c.args.redaction.now) _ _ _ _ _ _ q.4 q.5 q.6 q.7.2) _ _ p)
+    c.redact_tree.ensures
+
 pub returns-clause-redacted : goal.returns-clause-redacted
-returns-clause-redacted c =
-    let ss = parts_of c.args.self.now in
-    let put = put_of c.args.redaction.now in
-    let value = tree c.args.value in
-    IfOk-weaker c.redact_tree.result _ _ (λ out e.
-    let same : tree out ≡ redacted ss put [] value = e in
-    let P : Tree → Type 0 = λ x. Redacts ss put value x in
-    subst P (sym same) (redacted_redacts ss put value)) c.redact_tree.ensures
+returns-clause-redacted g c =
+    IfOk-weaker c.redact_tree.result _ _
+    (λ out p. redacted_redacts (parts_of c.args.self.now) (Puts (λ v. (g.dyn-1.0.entry v).1.allows) c.args.redaction.now) (tree c.args.value) (tree out) p)
+    (returns-clause-parts g c)
 
 pub returns-clause-untouched : goal.returns-clause-untouched
-returns-clause-untouched c =
-    let ss = parts_of c.args.self.now in
-    let put = put_of c.args.redaction.now in
-    let value = tree c.args.value in
-    IfOk-weaker c.redact_tree.result _ _ (λ out e quiet. e ∙ quiet_tree ss put value [] quiet) c.redact_tree.ensures
+returns-clause-untouched g c =
+    IfOk-weaker c.redact_tree.result _ _
+    (λ out p quiet. quiet_redacted (parts_of c.args.self.now) _ (tree c.args.value) (tree out) quiet p) c.redact_tree.ensures

@@ -1,0 +1,112 @@
+-- Where the tree that is put follows from the value alone, one tree is redacted; and what one relation allows, a weaker one allows.
+use Rattle.std.proofs.Common.{◌≡◌, ℕ, suc, Bool, true, false, MatchBool, List, [], ◌∷◌, ◌++◌, cond, ap, ◌∙◌}
+use Rattle.std.specs.Prelude.{codes}
+use Rattle.snap_content.specs.Tree as t
+use Rattle.snap_select.specs.Matching.{Step, path_match, to_item, into_field, under_key}
+use Rattle.snap_select.specs.Parts.{Parts}
+use Rattle.snap_select.specs.Positions.{count_of}
+use Rattle.snap_select.specs.Put.{Allowed}
+use Rattle.snap_select.specs.Redacted.{inside, redacted, redacted_items, redacted_pairs, redacted_fields}
+use Rattle.snap_select.specs.Redacting.{Inside, ItemsRedacted, PairsRedacted, FieldsRedacted, RedactedAt, IsRedacted, only}
+
+cases : (b : Bool) (out now other : t.Tree) (Else : Type 0) → (Else → out ≡ other) → MatchBool b (out ≡ now) Else → out ≡ cond b now other
+cases true out now other Else f p = p
+cases false out now other Else f p = f p
+
+-- of a tree at a path, once it is so of its inside
+one_at : (ss : Parts) (put : t.Tree → t.Tree) (path : List Step) (c out : t.Tree) → (Inside ss (only put) path c out → out ≡ inside ss put path c)
+    → RedactedAt ss (only put) path c out → out ≡ redacted ss put path c
+one_at ss put path c out = cases (path_match ss path) out (put c) (inside ss put path c) (Inside ss (only put) path c out)
+
+mutual
+  one_inside : (ss : Parts) (put : t.Tree → t.Tree) (path : List Step) (c out : t.Tree) → Inside ss (only put) path c out → out ≡ inside ss put path c
+  one_inside ss put path (t.some inner) out p = p.1 ∙ ap t.some (one_at ss put path inner p.0 (one_inside ss put path inner p.0) p.2)
+  one_inside ss put path (t.newtype_struct name inner) out p = p.1 ∙ ap (λ x. t.newtype_struct name x) (one_at ss put path inner p.0 (one_inside ss put path inner p.0) p.2)
+  one_inside ss put path (t.newtype_variant name index variant inner) out p =
+      p.1 ∙ ap (λ x. t.newtype_variant name index variant x) (one_at ss put path inner p.0 (one_inside ss put path inner p.0) p.2)
+  one_inside ss put path (t.seq items) out p = p.1 ∙ ap t.seq (one_items ss put path (count_of items) 0 items p.0 p.2)
+  one_inside ss put path (t.tuple items) out p = p.1 ∙ ap t.tuple (one_items ss put path (count_of items) 0 items p.0 p.2)
+  one_inside ss put path (t.tuple_struct name items) out p =
+      p.1 ∙ ap (λ x. t.tuple_struct name x) (one_items ss put path (count_of items) 0 items p.0 p.2)
+  one_inside ss put path (t.tuple_variant name index variant items) out p =
+      p.1 ∙ ap (λ x. t.tuple_variant name index variant x) (one_items ss put path (count_of items) 0 items p.0 p.2)
+  one_inside ss put path (t.map pairs) out p = p.1 ∙ ap t.map (one_pairs ss put path pairs p.0 p.2)
+  one_inside ss put path (t.struct name fields) out p = p.1 ∙ ap (λ x. t.struct name x) (one_fields ss put path fields p.0 p.2)
+  one_inside ss put path (t.struct_variant name index variant fields) out p =
+      p.1 ∙ ap (λ x. t.struct_variant name index variant x) (one_fields ss put path fields p.0 p.2)
+  one_inside ss put path other out p = p
+
+  one_items : (ss : Parts) (put : t.Tree → t.Tree) (path : List Step) (total index : ℕ) (items out : t.Trees)
+      → ItemsRedacted ss (only put) path total index items out → out ≡ redacted_items ss put path total index items
+  one_items ss put path total index t.no_trees out p = p
+  one_items ss put path total index (t.tree first rest) out p =
+      p.2 ∙ ap (λ x. t.tree x p.1) (one_at ss put (path ++ to_item index total ∷ []) first p.0 (one_inside ss put (path ++ to_item index total ∷ []) first p.0) p.3)
+      ∙ ap (λ x. t.tree (redacted ss put (path ++ to_item index total ∷ []) first) x) (one_items ss put path total (suc index) rest p.1 p.4)
+
+  one_pairs : (ss : Parts) (put : t.Tree → t.Tree) (path : List Step) (pairs out : t.TreePairs)
+      → PairsRedacted ss (only put) path pairs out → out ≡ redacted_pairs ss put path pairs
+  one_pairs ss put path t.no_pairs out p = p
+  one_pairs ss put path (t.pair key value rest) out p =
+      let at_key = path ++ into_field (codes "$key") ∷ [] in
+      let at_value = path ++ under_key key ∷ [] in
+      p.3 ∙ ap (λ x. t.pair x p.1 p.2) (one_at ss put at_key key p.0 (one_inside ss put at_key key p.0) p.4)
+      ∙ ap (λ x. t.pair (redacted ss put at_key key) x p.2) (one_at ss put at_value value p.1 (one_inside ss put at_value value p.1) p.5)
+      ∙ ap (λ x. t.pair (redacted ss put at_key key) (redacted ss put at_value value) x) (one_pairs ss put path rest p.2 p.6)
+
+  one_fields : (ss : Parts) (put : t.Tree → t.Tree) (path : List Step) (fields out : t.TreeFields)
+      → FieldsRedacted ss (only put) path fields out → out ≡ redacted_fields ss put path fields
+  one_fields ss put path t.no_fields out p = p
+  one_fields ss put path (t.field name value rest) out p =
+      p.2 ∙ ap (λ x. t.field name x p.1) (one_at ss put (path ++ into_field name ∷ []) value p.0 (one_inside ss put (path ++ into_field name ∷ []) value p.0) p.3)
+      ∙ ap (λ x. t.field name (redacted ss put (path ++ into_field name ∷ []) value) x) (one_fields ss put path rest p.1 p.4)
+
+pub one_redacted : (ss : Parts) (put : t.Tree → t.Tree) (c out : t.Tree) → IsRedacted ss (only put) c out → out ≡ redacted ss put [] c
+one_redacted ss put c out p = one_at ss put [] c out (one_inside ss put [] c out) p.parts
+
+put_weaker : (m : Bool) (P Q R S : Type 0) → (P → Q) → (R → S) → MatchBool m P R → MatchBool m Q S
+put_weaker true P Q R S f g p = f p
+put_weaker false P Q R S f g r = g r
+
+module _ (ss : Parts) (a b : Allowed) (weaker : (c : t.Tree) (steps : List Step) (out : t.Tree) → a c steps out → b c steps out) where
+  at_weaker : (path : List Step) (c out : t.Tree) → (Inside ss a path c out → Inside ss b path c out) → RedactedAt ss a path c out → RedactedAt ss b path c out
+  at_weaker path c out =
+      put_weaker (path_match ss path) (a c path out) (b c path out) (Inside ss a path c out) (Inside ss b path c out) (weaker c path out)
+
+  mutual
+    inside_weaker : (path : List Step) (c out : t.Tree) → Inside ss a path c out → Inside ss b path c out
+    inside_weaker path (t.some inner) out p = (p.0, p.1, at_weaker path inner p.0 (inside_weaker path inner p.0) p.2)
+    inside_weaker path (t.newtype_struct name inner) out p = (p.0, p.1, at_weaker path inner p.0 (inside_weaker path inner p.0) p.2)
+    inside_weaker path (t.newtype_variant name index variant inner) out p = (p.0, p.1, at_weaker path inner p.0 (inside_weaker path inner p.0) p.2)
+    inside_weaker path (t.seq items) out p = (p.0, p.1, items_weaker path (count_of items) 0 items p.0 p.2)
+    inside_weaker path (t.tuple items) out p = (p.0, p.1, items_weaker path (count_of items) 0 items p.0 p.2)
+    inside_weaker path (t.tuple_struct name items) out p = (p.0, p.1, items_weaker path (count_of items) 0 items p.0 p.2)
+    inside_weaker path (t.tuple_variant name index variant items) out p = (p.0, p.1, items_weaker path (count_of items) 0 items p.0 p.2)
+    inside_weaker path (t.map pairs) out p = (p.0, p.1, pairs_weaker path pairs p.0 p.2)
+    inside_weaker path (t.struct name fields) out p = (p.0, p.1, fields_weaker path fields p.0 p.2)
+    inside_weaker path (t.struct_variant name index variant fields) out p = (p.0, p.1, fields_weaker path fields p.0 p.2)
+    inside_weaker path other out p = p
+
+    items_weaker : (path : List Step) (total index : ℕ) (items out : t.Trees) → ItemsRedacted ss a path total index items out → ItemsRedacted ss b path total index items out
+    items_weaker path total index t.no_trees out p = p
+    items_weaker path total index (t.tree first rest) out p =
+        (p.0, p.1, p.2, at_weaker (path ++ to_item index total ∷ []) first p.0 (inside_weaker (path ++ to_item index total ∷ []) first p.0) p.3, items_weaker path total (suc index) rest p.1 p.4)
+
+    pairs_weaker : (path : List Step) (pairs out : t.TreePairs) → PairsRedacted ss a path pairs out → PairsRedacted ss b path pairs out
+    pairs_weaker path t.no_pairs out p = p
+    pairs_weaker path (t.pair key value rest) out p = (
+      p.0,
+      p.1,
+      p.2,
+      p.3,
+      at_weaker (path ++ into_field (codes "$key") ∷ []) key p.0 (inside_weaker (path ++ into_field (codes "$key") ∷ []) key p.0) p.4,
+      at_weaker (path ++ under_key key ∷ []) value p.1 (inside_weaker (path ++ under_key key ∷ []) value p.1) p.5,
+      pairs_weaker path rest p.2 p.6,
+    )
+
+    fields_weaker : (path : List Step) (fields out : t.TreeFields) → FieldsRedacted ss a path fields out → FieldsRedacted ss b path fields out
+    fields_weaker path t.no_fields out p = p
+    fields_weaker path (t.field name value rest) out p =
+        (p.0, p.1, p.2, at_weaker (path ++ into_field name ∷ []) value p.0 (inside_weaker (path ++ into_field name ∷ []) value p.0) p.3, fields_weaker path rest p.1 p.4)
+
+  pub weaker_redacted : (c out : t.Tree) → IsRedacted ss a c out → IsRedacted ss b c out
+  weaker_redacted c out p = record { parts = at_weaker [] c out (inside_weaker [] c out) p.parts }

@@ -1,0 +1,128 @@
+-- Below a path that no match lies below a tree stays as it is.
+use Rattle.std.proofs.Common.{◌≡◌, ℕ, suc, ◌+◌, ◌≤◌, Bool, true, false, MatchBool, ◌&&◌, ◌||◌, nat_lt, List, [], ◌∷◌, ◌++◌, length, take, Option, None, Some, refl, sym, ap, ◌∙◌, append_assoc, append-nil, length-append, arith}
+use Rattle.std.specs.Option.{option_map_or}
+use Rattle.std.specs.Prelude.{position, drop, min, codes}
+use Rattle.std.proofs.lemmas.Bool.{ne_eqb, ltb-false}
+use Rattle.snap_content.specs.Tree as t
+use Rattle.snap_select.specs.Deep.{is_deep}
+use Rattle.snap_select.specs.Matching.{Step, to_item, into_field, under_key, fits_step, fit_each, matches_whole, last_of, matches_ends, segments_match, path_match}
+use Rattle.snap_select.specs.Parts.{Parts}
+use Rattle.snap_select.specs.Positions.{count_of}
+use Rattle.snap_select.specs.Put.{Allowed}
+use Rattle.snap_select.specs.Reaching.{segments_reach, reaches}
+use Rattle.snap_select.specs.Redacting.{Inside, ItemsRedacted, PairsRedacted, FieldsRedacted, RedactedAt}
+use Rattle.snap_select.specs.declared.segment.Segment.{Segment}
+
+no_more : (a b c : Bool) → (b ≡ false → c ≡ false) → (a && b) ≡ false → (a && c) ≡ false
+no_more true b c f e = f e
+no_more false b c f e = refl
+
+never : (a b : Bool) → b ≡ false → (a && b) ≡ false
+never true b e = e
+never false b e = refl
+
+-- what doesn't fit a path fits none that goes on from it
+fit_longer : (ss : List Segment) (path more : List Step) → fit_each ss path ≡ false → fit_each ss (path ++ more) ≡ false
+fit_longer [] path more e = absurd (cc)
+fit_longer (s ∷ ss) [] more e = absurd (cc)
+fit_longer (s ∷ ss) (x ∷ xs) more e = no_more (fits_step s x) (fit_each ss xs) (fit_each ss (xs ++ more)) (fit_longer ss xs more) e
+
+whole_cases : (b : Bool) (ss : List Segment) (path : List Step) (step : Step) (steps : List Step) → nat_lt (length path) (length ss) ≡ b → (b && fit_each ss path) ≡ false
+    → matches_whole ss (path ++ step ∷ steps) ≡ false
+whole_cases true ss path step steps lt e = never _ _ (fit_longer ss path (step ∷ steps) e)
+whole_cases false ss path step steps lt e =
+    let short : length ss ≤ length path = ltb-false (length path) (length ss) lt in
+    let longer : length (path ++ step ∷ steps) ≡ length path + suc (length steps) = length-append path (step ∷ steps) in
+    ap (λ b. b && fit_each ss (path ++ step ∷ steps)) (ne_eqb (length ss) (length (path ++ step ∷ steps)) (λ same. absurd (omega arith)))
+
+segments_unreached : (ss : List Segment) (path : List Step) (step : Step) (steps : List Step) → segments_reach ss path ≡ false → segments_match ss (path ++ step ∷ steps) ≡ false
+segments_unreached ss path step steps = by (position is_deep ss)
+  where
+    later : ℕ → Bool
+    later at =
+        let after = drop (suc at) ss in
+        let count = min (length after) (length (path ++ step ∷ steps)) in fit_each (last_of count after) (last_of count (path ++ step ∷ steps))
+
+    by : (o : Option ℕ) → option_map_or (λ at. fit_each (take at ss) path) o (nat_lt (length path) (length ss) && fit_each ss path) ≡ false
+        → option_map_or (λ at. matches_ends (take at ss) (drop (suc at) ss) (path ++ step ∷ steps)) o (matches_whole ss (path ++ step ∷ steps)) ≡ false
+    by None e = whole_cases (nat_lt (length path) (length ss)) ss path step steps refl e
+    by (Some at) e =
+        ap (λ b. b && later at)
+        (never (nat_lt (length (take at ss)) (length (path ++ step ∷ steps))) (fit_each (take at ss) (path ++ step ∷ steps)) (fit_longer (take at ss) path (step ∷ steps) e))
+
+parts_unreached : (ps : Parts) (path : List Step) (step : Step) (steps : List Step) → reaches ps path ≡ false → path_match ps (path ++ step ∷ steps) ≡ false
+parts_unreached [] path step steps e = refl
+parts_unreached (ss ∷ ps) path step steps e =
+    one_or_more (segments_reach ss path) (segments_match ss (path ++ step ∷ steps)) (reaches ps path) (path_match ps (path ++ step ∷ steps))
+    (segments_unreached ss path step steps) (parts_unreached ps path step steps) e
+  where
+    one_or_more : (a b c d : Bool) → (a ≡ false → b ≡ false) → (c ≡ false → d ≡ false) → (a || c) ≡ false → (b || d) ≡ false
+    one_or_more true b c d f g e = absurd (cc)
+    one_or_more false b c d f g e = ap (λ x. x || d) (f refl) ∙ g e
+
+-- no path that begins with these steps is matched
+abbrev IsCalm : Parts → List Step → Type 0
+IsCalm ss path = (more : List Step) → path_match ss (path ++ more) ≡ false
+
+calm : (ss : Parts) (path : List Step) → path_match ss path ≡ false → reaches ss path ≡ false → IsCalm ss path
+calm ss path here below [] = ap (path_match ss) (append-nil path) ∙ here
+calm ss path here below (step ∷ steps) = parts_unreached ss path step steps below
+
+calm_below : (ss : Parts) (path : List Step) (step : Step) → IsCalm ss path → IsCalm ss (path ++ step ∷ [])
+calm_below ss path step quiet more = ap (path_match ss) (append_assoc path (step ∷ []) more) ∙ quiet (step ∷ more)
+
+not_put : (m : Bool) (P R : Type 0) → m ≡ false → R → MatchBool m P R
+not_put true P R e r = absurd (cc)
+not_put false P R e r = r
+
+module _ (ss : Parts) (allows : Allowed) where
+  same_at : (path : List Step) (c : t.Tree) → IsCalm ss path → Inside ss allows path c c → RedactedAt ss allows path c c
+  same_at path c quiet = not_put (path_match ss path) (allows c path c) (Inside ss allows path c c) (ap (path_match ss) (sym (append-nil path)) ∙ quiet [])
+
+  mutual
+    same_inside : (path : List Step) (c : t.Tree) → IsCalm ss path → Inside ss allows path c c
+    same_inside path (t.some inner) quiet = (inner, refl, same_at path inner quiet (same_inside path inner quiet))
+    same_inside path (t.newtype_struct name inner) quiet = (inner, refl, same_at path inner quiet (same_inside path inner quiet))
+    same_inside path (t.newtype_variant name index variant inner) quiet = (inner, refl, same_at path inner quiet (same_inside path inner quiet))
+    same_inside path (t.seq items) quiet = (items, refl, same_items path (count_of items) 0 items quiet)
+    same_inside path (t.tuple items) quiet = (items, refl, same_items path (count_of items) 0 items quiet)
+    same_inside path (t.tuple_struct name items) quiet = (items, refl, same_items path (count_of items) 0 items quiet)
+    same_inside path (t.tuple_variant name index variant items) quiet = (items, refl, same_items path (count_of items) 0 items quiet)
+    same_inside path (t.map pairs) quiet = (pairs, refl, same_pairs path pairs quiet)
+    same_inside path (t.struct name fields) quiet = (fields, refl, same_fields path fields quiet)
+    same_inside path (t.struct_variant name index variant fields) quiet = (fields, refl, same_fields path fields quiet)
+    same_inside path other quiet = refl
+
+    same_items : (path : List Step) (total index : ℕ) (items : t.Trees) → IsCalm ss path → ItemsRedacted ss allows path total index items items
+    same_items path total index t.no_trees quiet = refl
+    same_items path total index (t.tree first rest) quiet =
+        let here = path ++ to_item index total ∷ [] in
+        let below = calm_below ss path (to_item index total) quiet in
+        (first, rest, refl, same_at here first below (same_inside here first below), same_items path total (suc index) rest quiet)
+
+    same_pairs : (path : List Step) (pairs : t.TreePairs) → IsCalm ss path → PairsRedacted ss allows path pairs pairs
+    same_pairs path t.no_pairs quiet = refl
+    same_pairs path (t.pair key value rest) quiet =
+        let at_key = path ++ into_field (codes "$key") ∷ [] in
+        let below_key = calm_below ss path (into_field (codes "$key")) quiet in
+        let at_value = path ++ under_key key ∷ [] in
+        let below_value = calm_below ss path (under_key key) quiet in (
+          key,
+          value,
+          rest,
+          refl,
+          same_at at_key key below_key (same_inside at_key key below_key),
+          same_at at_value value below_value (same_inside at_value value below_value),
+          same_pairs path rest quiet,
+        )
+
+    same_fields : (path : List Step) (fields : t.TreeFields) → IsCalm ss path → FieldsRedacted ss allows path fields fields
+    same_fields path t.no_fields quiet = refl
+    same_fields path (t.field name value rest) quiet =
+        let here = path ++ into_field name ∷ [] in
+        let below = calm_below ss path (into_field name) quiet in
+        (value, rest, refl, same_at here value below (same_inside here value below), same_fields path rest quiet)
+
+  -- where a path isn't matched, and none that goes on from it, the same tree is a redacted one
+  pub stays : (path : List Step) (c : t.Tree) → path_match ss path ≡ false → reaches ss path ≡ false → RedactedAt ss allows path c c
+  stays path c here below = let quiet = calm ss path here below in same_at path c quiet (same_inside path c quiet)

@@ -1,0 +1,10 @@
+use Rattle.std.proofs.Common.{IfOk, map}
+use Rattle.snap_content.specs.View.{tree}
+use Rattle.snap_select.specs.Matching.{step_of}
+use Rattle.snap_select.specs.Put.{Puts}
+use Rattle.snap_select.proofs.selector.fn.Selector.redact.put.Given as goal
+
+-- what `put` of a redaction ensures
+abbrev pub ensures : goal.ensures
+ensures g l r =
+    IfOk r (λ out. Puts (λ v. (g.dyn-1.0.entry v).1.allows) l.redaction.entry.now (tree l.value) (map step_of l.path.entry.now) (tree out))
