@@ -18,15 +18,15 @@ use Rattle.snap_assert.specs.declared.error.DuplicateKey.{DuplicateKey}
 use Rattle.snap_assert.specs.declared.error.DuplicateKey.TheVariants.{Named}
 use Rattle.snap_assert.specs.declared.outcome.Verdict.{Verdict}
 
--- what is asserted: a tree under a given name at a place, by settings
+-- what is asserted: the tree that is printed, under a given name at a place, by settings
 pub record Assertion : Type 0 where
   pub settings : SettingsView
   pub place : PlaceView
   pub given : List ℕ
-  pub content : Tree
+  pub printed : Tree
 
 abbrev pub assertion_of : SettingsView → PlaceView → List ℕ → Tree → Assertion
-assertion_of settings place given content = record { settings = settings; place = place; given = given; content = content }
+assertion_of settings place given printed = record { settings = settings; place = place; given = given; printed = printed }
 
 -- the files and what is remembered after an assertion, and how it ended
 pub record Left : Type 0 where
@@ -35,7 +35,7 @@ pub record Left : Type 0 where
   pub answer : Result Verdict AssertError
 
 abbrev pub asked_in : Assertion → SessionView → Asked
-asked_in a session = asked_as a.settings a.place (name_step a.settings session a.given).name a.content
+asked_in a session = asked_as a.settings a.place (name_step a.settings session a.given).name a.printed
 
 abbrev pub key_in : Assertion → SessionView → DuplicateKey
 key_in a session = Named a.place.module_name (name_step a.settings session a.given).name

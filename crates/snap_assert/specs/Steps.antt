@@ -7,7 +7,7 @@ use Rattle.snap_outside.specs.Files.{Files}
 use Rattle.snap_store.specs.Meta.{Meta, header_tree, without_line}
 pub use Rattle.snap_store.specs.Image.{pending_path}
 use Rattle.snap_store.specs.Image.{file_of}
-use Rattle.snap_settings.specs.Settings.{SettingsView, printed_tree}
+use Rattle.snap_settings.specs.Settings.{SettingsView}
 use Rattle.snap_path.specs.Names.{past_mark}
 use Rattle.snap_place.specs.Place.{PlaceView, holds_slash}
 use Rattle.snap_place.specs.SnapshotPath.{path_of, flat_module, new_meta}
@@ -25,19 +25,23 @@ pub record Asked : Type 0 where
   pub meta : Meta
   pub tree : Plain
 
--- under a name with its suffix: the tree is sorted and redacted, and its plain form is asked
+-- under a name with its suffix: the plain form of the tree that is printed is asked
 abbrev pub asked_as : SettingsView → PlaceView → List ℕ → Tree → Asked
-asked_as settings place name content = record {
+asked_as settings place name printed = record {
   path = path_of settings place name;
   module_name = flat_module place.module_name;
   name = name;
   meta = new_meta settings place;
-  tree = plain (printed_tree settings content);
+  tree = plain printed;
 }
 
 -- under a given name, which gets the suffix of the settings
 abbrev pub asked_of : SettingsView → PlaceView → List ℕ → Tree → Asked
-asked_of settings place name content = asked_as settings place (suffixed name settings.suffix) content
+asked_of settings place name printed = asked_as settings place (suffixed name settings.suffix) printed
+
+-- the path alone, which no tree changes
+abbrev pub asked_path : SettingsView → PlaceView → List ℕ → List ℕ
+asked_path settings place name = path_of settings place (suffixed name settings.suffix)
 
 -- what is left behind by payloads that wait: the pending path, a dot, and more without a slash
 abbrev pub stray_front : List ℕ → List ℕ

@@ -1,16 +1,17 @@
 //! One assertion over a store.
 ghost use Rattle.std.specs.Prelude.{◌≡◌, ◌&&◌, List, ℕ, false, not, Some, IsSome, IfOk, option_copied};
+ghost use Rattle.snap_content.specs.Tree.{Tree};
 ghost use Rattle.snap_content.specs.View.{tree};
 ghost use Rattle.snap_assert.specs.Outcomes.{IsAnswered, AssertCause};
 ghost use Rattle.snap_assert.specs.Assertions.{assertion_of};
 ghost use Rattle.snap_assert.specs.Kept.{KeptBy, NamesOwn};
 ghost use Rattle.snap_assert.specs.Session.{session_of, empty_session};
-ghost use Rattle.snap_settings.specs.Settings.{settings_of};
+ghost use Rattle.snap_settings.specs.Settings.{settings_of, PrintsAs};
 ghost use Rattle.snap_place.specs.Place.{place_of};
 ghost use Rattle.snap_outside.specs.Files.{Files};
 ghost use Rattle.snap_store.specs.Views.{contents_in, text_in};
 ghost use Rattle.snap_assert.specs.Prepared.{IsPrepared, IsSettled};
-ghost use Rattle.snap_assert.specs.Steps.{Asked, asked_of, verdict_of, is_failure};
+ghost use Rattle.snap_assert.specs.Steps.{Asked, asked_path, verdict_of, is_failure};
 
 use crate::error::AssertError;
 use crate::look::{Judged, look};
@@ -21,6 +22,7 @@ use crate::settle::settle;
 use snap_content::{Content, Text};
 use snap_outside::Store;
 use snap_place::place::Place;
+use snap_select::Redactor;
 use snap_settings::config::{Config, Update};
 use snap_settings::settings::Settings;
 use std::alloc::Global;
@@ -83,30 +85,29 @@ fn assert_prepared<S: Store>(
     }
 }
 
-/// Asserts the tree under this name where nothing is remembered, with all that is written printed before the store is
-/// touched.
-fn assert_named<S: Store>(
+/// Asserts the tree that is printed under this name where nothing is remembered, with all that is written printed
+/// before the store is touched.
+fn assert_printed<S: Store>(
     alloc: Global,
     store: &mut S,
     config: &Config,
     settings: &Settings,
     place: &Place,
     name: &Text,
-    content: Content,
+    printed: &Content,
 ) -> Result<Outcome, AssertError>
     ensures answered { IfOk result (λ outcome.
         IsAnswered config.now (assertion_of (settings_of settings.now) (place_of place.now) name.now
-        (tree content)) outcome
+        (tree printed.now)) outcome
         (S.files store.old) (S.files store.new) empty_session empty_session) }
     ensures kept { KeptBy config.now.update
-        (asked_of (settings_of settings.now) (place_of place.now) name.now (tree content)).path
+        (asked_path (settings_of settings.now) (place_of place.now) name.now)
         (S.files store.old) (S.files store.new) }
     ensures named { NamesOwn config.now.update
-        (asked_of (settings_of settings.now) (place_of place.now) name.now
-        (tree content)).path result }
+        (asked_path (settings_of settings.now) (place_of place.now) name.now) result }
     ensures cause { AssertCause (S.faults store.old) (S.faults store.new) result }
 {
-    let Ok(prepared) = prepare(alloc, settings, place, name, content) else {
+    let Ok(prepared) = prepare(alloc, settings, place, name, printed) else {
         return Err(AssertError::OutOfMemory);
     };
     match assert_prepared(alloc, store, config, &prepared) {
@@ -120,6 +121,34 @@ fn assert_named<S: Store>(
             })
         }
         Err(error) => Err(error),
+    }
+}
+
+/// The same of the tree that is given: it is sorted and redacted first.
+fn assert_named<S: Store>(
+    alloc: Global,
+    store: &mut S,
+    config: &Config,
+    settings: &Settings,
+    place: &Place,
+    name: &Text,
+    content: Content,
+) -> Result<Outcome, AssertError>
+    ensures answered { IfOk result (λ outcome. (printed : Tree)
+        × PrintsAs (λ v. (⟦<dyn Redactor as Redactor>⟧ v).allows) settings.now (tree content) printed
+        × IsAnswered config.now (assertion_of (settings_of settings.now) (place_of place.now) name.now
+        printed) outcome
+        (S.files store.old) (S.files store.new) empty_session empty_session) }
+    ensures kept { KeptBy config.now.update
+        (asked_path (settings_of settings.now) (place_of place.now) name.now)
+        (S.files store.old) (S.files store.new) }
+    ensures named { NamesOwn config.now.update
+        (asked_path (settings_of settings.now) (place_of place.now) name.now) result }
+    ensures cause { AssertCause (S.faults store.old) (S.faults store.new) result }
+{
+    match settings.printed_tree(alloc, content) {
+        Ok(printed) => assert_printed(alloc, store, config, settings, place, name, &printed),
+        Err(_) => Err(AssertError::OutOfMemory),
     }
 }
 
@@ -142,17 +171,19 @@ pub fn assert_content<S: Store>(
     requires no_blocks { config.now.literal ≡ false }
     requires named { IsSome name }
     ensures answered { IfOk result (λ outcome. (given : List ℕ)
-        → option_copied name.entry ≡ Some given
-        → IsAnswered config.now (assertion_of (settings_of settings.now) (place_of place.now) given
-        (tree content)) outcome
+        → option_copied name.entry ≡ Some given → (printed : Tree)
+        × PrintsAs (λ v. (⟦<dyn Redactor as Redactor>⟧ v).allows) settings.now (tree content) printed
+        × IsAnswered config.now (assertion_of (settings_of settings.now) (place_of place.now) given
+        printed) outcome
         (S.files store.old) (S.files store.new) (session_of session.old) (session_of session.new)) }
     // Whatever is answered: no file is written but the one of the mode, so the approved one only in place.
     ensures kept { (given : List ℕ) → option_copied name.entry ≡ Some given
-        → KeptBy config.now.update (asked_of (settings_of settings.now) (place_of place.now) given
-        (tree content)).path (S.files store.old) (S.files store.new) }
+        → KeptBy config.now.update
+        (asked_path (settings_of settings.now) (place_of place.now) given)
+        (S.files store.old) (S.files store.new) }
     ensures named { (given : List ℕ) → option_copied name.entry ≡ Some given
-        → NamesOwn config.now.update (asked_of (settings_of settings.now) (place_of place.now) given
-        (tree content)).path result }
+        → NamesOwn config.now.update
+        (asked_path (settings_of settings.now) (place_of place.now) given) result }
     ensures session { session_of session.new ≡ session_of session.old }
     ensures cause { AssertCause (S.faults store.old) (S.faults store.new) result }
 {

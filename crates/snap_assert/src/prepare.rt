@@ -59,23 +59,22 @@ fn new_snapshot(
     ))
 }
 
-/// All that an assertion needs: the tree is sorted, redacted and printed before anything is looked at.
+/// All that an assertion of the tree that is printed needs: it is printed before anything is looked at.
 pub fn prepare(
     alloc: Global,
     settings: &Settings,
     place: &Place,
     name: &Text,
-    content: Content,
+    printed: &Content,
 ) -> Result<Prepared, OutOfMemory>
     ensures { IfOk result (λ prepared. IsPrepared
         (asked_of (settings_of settings.now) (place_of place.now) name.now
-        (tree content)) prepared) }
+        (tree printed.now)) prepared) }
 {
-    let content = settings.printed_tree(alloc, content)?;
     let path = snapshot_path(alloc, settings, place, name)?;
     let mut pending = path.try_clone(alloc)?;
     pending.push_ascii(alloc, ".new")?;
-    let snapshot = new_snapshot(alloc, settings, place, name, &content)?;
+    let snapshot = new_snapshot(alloc, settings, place, name, printed)?;
     Ok(Prepared {
         path,
         pending,

@@ -8,7 +8,7 @@ use std::alloc::Global;
 use std::test::Fail;
 
 /// The file of the map of `id` to 42, asserted with these settings.
-fn saved_file(alloc: Global, settings: &Settings) -> Result<Text, Fail> {
+pub(crate) fn saved_file(alloc: Global, settings: &Settings) -> Result<Text, Fail> {
     let mut pairs = Pairs::new(alloc);
     pairs.push((Content::from_str(alloc, "id")?, Content::U8(42)))?;
     let mut store = SteadyStore::new(alloc);
@@ -84,6 +84,27 @@ fn a_refused_redaction_changes_nothing(rt: HostRuntime) -> Result<(), Fail> {
     };
     assert_eq!(rt; refusal.column(), 4);
     assert!(rt; refusal.kind() == SelectFault::BadToken);
+    assert_eq!(rt;
+        saved_file(alloc, &settings)?.as_str(),
+        "---\nsource: src/a.rs\nexpression: x\n---\nid: 42\n"
+    );
+    Ok(())
+}
+
+#[test]
+fn other_refusals_change_nothing(rt: HostRuntime) -> Result<(), Fail> {
+    let alloc = rt.alloc();
+    let mut settings = Settings::new(alloc)?;
+    let Err(SelectError::Parse(refusal)) = settings.sort_selector(".a[") else {
+        return Err(Fail::from("a refusal"));
+    };
+    assert_eq!(rt; refusal.column(), 4);
+    assert!(rt; refusal.kind() == SelectFault::BadToken);
+    let Err(SelectError::Parse(refusal)) = settings.set_redactions(list_of(alloc, ".a[", "y")?)
+    else {
+        return Err(Fail::from("a refusal"));
+    };
+    assert_eq!(rt; refusal.column(), 4);
     assert_eq!(rt;
         saved_file(alloc, &settings)?.as_str(),
         "---\nsource: src/a.rs\nexpression: x\n---\nid: 42\n"

@@ -10,7 +10,9 @@ use Rattle.snap_content.proofs.Views.{tree-Seq}
 use Rattle.snap_select.specs.Selected.{selected}
 use Rattle.snap_select.specs.Parts.{Parts}
 use Rattle.snap_store.specs.Fields.{last_value, text_value}
-use Rattle.snap_settings.specs.Redactions.{RedactionView}
+use Rattle.snap_select.specs.declared.replacement.Replacement.{Replacement}
+use Rattle.snap_select.specs.declared.selector.Selector.{Selector}
+use Rattle.snap_settings.specs.Replaced.{ReplacementView, replacement_of, replacements_of}
 use Rattle.snap_request.specs.Requests.{needed, is_keyed, redaction_keys, put_from, redaction_from, redaction_in, redactions_in}
 use Rattle.snap_request.proofs.RequestMade.{needed_by}
 
@@ -64,19 +66,19 @@ pub list_of : (content : Content) (items : Items) (plain : Plain) → content �
 list_of content items plain is made = list_made plain (item_list items) (sym (tree-Seq items) ∙ sym (ap tree is) ∙ made)
 
 -- what is made of a list so far goes on with what is made of its rest
-pub record IsReadOn (plains : Plains) (rest : List Content) (made : List RedactionView) : Type 0 where
+pub record IsReadOn (plains : Plains) (rest : List Content) (made : List ReplacementView) : Type 0 where
   pub held : Plains
   pub rest_is : item_trees rest ≡ p.trees_made held
   pub goes_on : redactions_in plains ≡ needed (redactions_in held) (λ later. Some (made ++ later))
 
-abbrev pub ReadsOn : List Content → List Content → List RedactionView → Type 0
+abbrev pub ReadsOn : List Content → List Content → List ReplacementView → Type 0
 ReadsOn whole rest made = (plains : Plains) → item_trees whole ≡ p.trees_made plains → IsReadOn plains rest made
 
-all_kept : (found : Option (List RedactionView)) → found ≡ needed found (λ later. Some ([] ++ later))
+all_kept : (found : Option (List ReplacementView)) → found ≡ needed found (λ later. Some ([] ++ later))
 all_kept None = refl
 all_kept (Some rs) = refl
 
-pub reads_begin : (whole : List Content) (made : List RedactionView) → made ≡ [] → ReadsOn whole whole made
+pub reads_begin : (whole : List Content) (made : List ReplacementView) → made ≡ [] → ReadsOn whole whole made
 reads_begin whole made none plains is = record {
   held = plains;
   rest_is = is;
@@ -95,12 +97,12 @@ first_item : (first : Content) (more : List Content) (held : Plains) → t.tree 
 first_item first more p.no_items e = absurd (cc)
 first_item first more (p.item q qs) e = record { plain = q; others = qs; held_is = refl; first_is = cc; more_is = cc }
 
-one_longer : (made : List RedactionView) (r : RedactionView) (found : Option (List RedactionView))
+one_longer : (made : List ReplacementView) (r : ReplacementView) (found : Option (List ReplacementView))
     → needed (needed found (λ rs. Some (r ∷ rs))) (λ later. Some (made ++ later)) ≡ needed found (λ later. Some ((made ++ r ∷ []) ++ later))
 one_longer made r None = refl
 one_longer made r (Some rs) = ap Some (sym (append_assoc made (r ∷ []) rs))
 
-pub reads_on : (whole rest more : List Content) (first : Content) (made made' : List RedactionView) (r : RedactionView) → ReadsOn whole rest made → rest ≡ first ∷ more
+pub reads_on : (whole rest more : List Content) (first : Content) (made made' : List ReplacementView) (r : ReplacementView) → ReadsOn whole rest made → rest ≡ first ∷ more
     → ((plain : Plain) → tree first ≡ p.content_of plain → Some r ≡ redaction_in plain) → made' ≡ made ++ r ∷ [] → ReadsOn whole more made'
 reads_on whole rest more first made made' r g is read next plains whole_is =
     let so_far = g plains whole_is in
@@ -116,7 +118,7 @@ reads_on whole rest more first made made' r g is read next plains whole_is =
     }
 
 -- where an item is no redaction, nothing is read
-pub reads_none : (whole rest more : List Content) (first : Content) (made : List RedactionView) → ReadsOn whole rest made → rest ≡ first ∷ more
+pub reads_none : (whole rest more : List Content) (first : Content) (made : List ReplacementView) → ReadsOn whole rest made → rest ≡ first ∷ more
     → ((plain : Plain) → tree first ≡ p.content_of plain → None ≡ redaction_in plain) → (plains : Plains) → item_trees whole ≡ p.trees_made plains → None ≡ redactions_in plains
 reads_none whole rest more first made g is read plains whole_is =
     let so_far = g plains whole_is in
@@ -130,9 +132,17 @@ no_item : (held : Plains) → t.no_trees ≡ p.trees_made held → held ≡ p.no
 no_item p.no_items e = refl
 no_item (p.item q qs) e = absurd (cc)
 
-pub reads_all : (whole rest : List Content) (made : List RedactionView) → ReadsOn whole rest made → rest ≡ [] → (plains : Plains) → item_trees whole ≡ p.trees_made plains
+pub reads_all : (whole rest : List Content) (made : List ReplacementView) → ReadsOn whole rest made → rest ≡ [] → (plains : Plains) → item_trees whole ≡ p.trees_made plains
     → Some made ≡ redactions_in plains
 reads_all whole rest made g none plains whole_is =
     let so_far = g plains whole_is in
     let nothing = no_item so_far.held (ap item_trees (sym none) ∙ so_far.rest_is) in
     sym (so_far.goes_on ∙ ap (λ h. needed (redactions_in h) (λ later. Some (made ++ later))) nothing ∙ ap Some (append-nil made))
+
+more_held : (ps : List (Selector × Replacement)) (p : Selector × Replacement) → replacements_of (ps ++ p ∷ []) ≡ replacements_of ps ++ replacement_of p ∷ []
+more_held [] p = refl
+more_held (x ∷ xs) p = ap (λ rs. replacement_of x ∷ rs) (more_held xs p)
+
+-- one more behind those that were read
+pub one_more_held : (ps qs : List (Selector × Replacement)) (p : Selector × Replacement) → qs ≡ ps ++ p ∷ [] → replacements_of qs ≡ replacements_of ps ++ replacement_of p ∷ []
+one_more_held ps qs p is = ap replacements_of is ∙ more_held ps p

@@ -11,7 +11,7 @@ use Rattle.std.specs.Str.{IsUtf8, chars}
 use Rattle.snap_content.specs.declared.error.Error.{Error}
 use Rattle.snap_content.specs.declared.error.Error.TheVariants.{FailedParsingYaml, UnexpectedDataType, MissingField, FileIo, FloatText, JsonKey, NotText, NoFile, OutOfMemory}
 use Rattle.snap_emit.specs.Parsed.{IsReadFrom, MayBeReadAs, RefusalEnd}
-use Rattle.snap_settings.specs.Redactions.{RedactionView}
+use Rattle.snap_settings.specs.Replaced.{ReplacementView}
 use Rattle.snap_request.specs.Requests.{RequestView, Spells, ReadsAs, needed, pair_count, request_keys, redactions_from, sort_from, request_from, request_in, is_keyed}
 use Rattle.snap_request.proofs.Requesting.{no_request_read}
 
@@ -40,7 +40,7 @@ pub needed_by : {A B : Type 0} (held : Option A) (made : A → Option B) (value 
 needed_by held made value e = ap (λ o. needed o made) e
 
 -- a map with these values at its keys, and no other key, is this request
-pub request_made : (es : Entries) (module_name file name expr : List ℕ) (line : ℕ) (made : t.Tree) (redactions : List RedactionView) (sort : Bool) → is_keyed request_keys es ≡ true
+pub request_made : (es : Entries) (module_name file name expr : List ℕ) (line : ℕ) (made : t.Tree) (redactions : List ReplacementView) (sort : Bool) → is_keyed request_keys es ≡ true
     → text_value (last_value (codes "module") es) ≡ Some module_name → text_value (last_value (codes "file") es) ≡ Some file
     → line_value (last_value (codes "line") es) ≡ Some line → text_value (last_value (codes "name") es) ≡ Some name
     → text_value (last_value (codes "expr") es) ≡ Some expr → Some made ≡ option_map p.content_of (last_value (codes "value") es)

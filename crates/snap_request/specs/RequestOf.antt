@@ -1,6 +1,6 @@
 -- What a request is seen as.
 use Rattle.snap_content.specs.View.{tree}
-use Rattle.snap_settings.specs.Redactions.{redactions_of}
+use Rattle.snap_settings.specs.Replaced.{replacements_of}
 use Rattle.snap_request.specs.Requests.{RequestView}
 use Rattle.snap_request.specs.declared.request.Request.{Request}
 
@@ -12,6 +12,6 @@ request_of request = record {
   name = request.name;
   expr = request.expr;
   value = tree request.value;
-  redactions = redactions_of request.redactions;
+  redactions = replacements_of request.redactions.items;
   sort = request.sort;
 }

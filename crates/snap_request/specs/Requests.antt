@@ -10,7 +10,7 @@ use Rattle.snap_content.specs.Readable.{IsWithin}
 use Rattle.snap_emit.specs.Parsed.{MayBeReadAs}
 use Rattle.snap_store.specs.Fields.{last_value, text_value, line_value}
 use Rattle.snap_place.specs.Place.{names_file}
-use Rattle.snap_settings.specs.Redactions.{RedactionView}
+use Rattle.snap_settings.specs.Replaced.{ReplacementView}
 
 pub record RequestView : Type 0 where
   pub module_name : List ℕ
@@ -19,7 +19,7 @@ pub record RequestView : Type 0 where
   pub name : List ℕ
   pub expr : List ℕ
   pub value : Tree
-  pub redactions : List RedactionView
+  pub redactions : List ReplacementView
   pub sort : Bool
 
 -- the keys of a request; all but the last two are needed
@@ -51,7 +51,7 @@ put_from (Some put) None = Some (λ _. content_of put)
 put_from None (Some (bool true)) = Some in_order
 put_from _ _ = None
 
-abbrev pub redaction_from : Entries → Option RedactionView
+abbrev pub redaction_from : Entries → Option ReplacementView
 redaction_from entries =
     needed (text_value (last_value (codes "at") entries)) (λ at.
     needed (selected at) (λ parts.
@@ -59,16 +59,16 @@ redaction_from entries =
     Some (record { parts = parts; put = put }))))
 
 -- the redaction that a tree is, if it is one
-abbrev pub redaction_in : Plain → Option RedactionView
+abbrev pub redaction_in : Plain → Option ReplacementView
 redaction_in (dict entries) = if is_keyed redaction_keys entries then redaction_from entries else None
 redaction_in _ = None
 
-abbrev pub redactions_in : Plains → Option (List RedactionView)
+abbrev pub redactions_in : Plains → Option (List ReplacementView)
 redactions_in no_items = Some []
 redactions_in (item first more) = needed (redaction_in first) (λ redaction. needed (redactions_in more) (λ redactions. Some (redaction ∷ redactions)))
 
 -- none where the key is not there
-abbrev pub redactions_from : Option Plain → Option (List RedactionView)
+abbrev pub redactions_from : Option Plain → Option (List ReplacementView)
 redactions_from None = Some []
 redactions_from (Some (list items)) = redactions_in items
 redactions_from (Some _) = None

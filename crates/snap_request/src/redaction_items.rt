@@ -3,17 +3,17 @@ ghost use Rattle.std.specs.Prelude.{◌≡◌, IfOk, codes, count_by, option_map
 ghost use Rattle.std.specs.Str.{chars};
 ghost use Rattle.snap_content.specs.Plain.{Plain, dict, Plains, Entries, content_of, trees_made, pairs_made};
 ghost use Rattle.snap_content.specs.View.{tree, item_trees, pair_trees};
-ghost use Rattle.snap_select.specs.Put.{put_of};
+ghost use Rattle.snap_select.specs.Replacements.{put_of};
 ghost use Rattle.snap_select.specs.Selected.{selected};
 ghost use Rattle.snap_select.specs.Selectors.{parts_of};
 ghost use Rattle.snap_store.specs.Fields.{last_value};
-ghost use Rattle.snap_settings.specs.Redactions.{redaction_of, redactions_of};
+ghost use Rattle.snap_settings.specs.Replaced.{replacement_of, replacements_of};
 ghost use Rattle.snap_request.specs.Requests.{is_keyed, holds_key, redaction_keys, put_from, redaction_from, redaction_in, redactions_in, redactions_from};
 
 use crate::request::count_of_key;
 use snap_content::{Content, OutOfMemory};
-use snap_select::{Redaction, SelectError, Selector};
-use snap_settings::redactions::Redactions;
+use snap_select::{Replacement, SelectError, Selector};
+use snap_settings::redactions::Replacements;
 use snap_store::fields::{text_named, value_named};
 use std::alloc::Global;
 
@@ -21,28 +21,29 @@ use std::alloc::Global;
 pub fn redactions_of_pairs(
     alloc: Global,
     pairs: &[(Content, Content)],
-) -> Result<Option<Redactions>, OutOfMemory>
+) -> Result<Option<Replacements>, OutOfMemory>
     ensures { (entries : Entries) → pair_trees pairs.now ≡ pairs_made entries
-        → IfOk result (λ found. option_map redactions_of found
+        → IfOk result (λ found. option_map (λ held. replacements_of held.items) found
         ≡ redactions_from (last_value (codes "redactions") entries)) }
 {
     match value_named(pairs, "redactions") {
-        None => Ok(Some(Redactions::new(alloc))),
+        None => Ok(Some(Vec::new(alloc))),
         Some(Content::Seq(items)) => read_redactions(alloc, items.as_slice()),
         Some(_) => Ok(None),
     }
 }
 
-fn read_redactions(alloc: Global, items: &[Content]) -> Result<Option<Redactions>, OutOfMemory>
+fn read_redactions(alloc: Global, items: &[Content]) -> Result<Option<Replacements>, OutOfMemory>
     ensures { (plains : Plains) → item_trees items.now ≡ trees_made plains
-        → IfOk result (λ found. option_map redactions_of found ≡ redactions_in plains) }
+        → IfOk result (λ found. option_map (λ held. replacements_of held.items) found
+        ≡ redactions_in plains) }
 {
-    let mut redactions = Redactions::new(alloc);
+    let mut redactions = Vec::new(alloc);
     for item in items {
         let Some((selector, redaction)) = read_redaction(alloc, item)? else {
             return Ok(None);
         };
-        redactions.push(selector, redaction)?;
+        redactions.push((selector, redaction))?;
     }
     Ok(Some(redactions))
 }
@@ -51,9 +52,9 @@ fn read_redactions(alloc: Global, items: &[Content]) -> Result<Option<Redactions
 fn read_redaction(
     alloc: Global,
     content: &Content,
-) -> Result<Option<(Selector<'static>, Redaction)>, OutOfMemory>
+) -> Result<Option<(Selector<'static>, Replacement)>, OutOfMemory>
     ensures { (plain : Plain) → tree content.now ≡ content_of plain
-        → IfOk result (λ found. option_map redaction_of found ≡ redaction_in plain) }
+        → IfOk result (λ found. option_map replacement_of found ≡ redaction_in plain) }
 {
     match content {
         Content::Map(pairs) => redaction_of_pairs(alloc, pairs.as_slice()),
@@ -64,9 +65,9 @@ fn read_redaction(
 fn redaction_of_pairs(
     alloc: Global,
     pairs: &[(Content, Content)],
-) -> Result<Option<(Selector<'static>, Redaction)>, OutOfMemory>
+) -> Result<Option<(Selector<'static>, Replacement)>, OutOfMemory>
     ensures { (entries : Entries) → pair_trees pairs.now ≡ pairs_made entries
-        → IfOk result (λ found. option_map redaction_of found ≡ redaction_in (dict entries)) }
+        → IfOk result (λ found. option_map replacement_of found ≡ redaction_in (dict entries)) }
 {
     if !are_keyed(pairs) {
         return Ok(None);
@@ -84,14 +85,14 @@ fn redaction_of_pairs(
 }
 
 /// What stands in place of a value: the tree at `put`, or, where `sort` is true, the value with its list in order.
-fn read_put(alloc: Global, pairs: &[(Content, Content)]) -> Result<Option<Redaction>, OutOfMemory>
+fn read_put(alloc: Global, pairs: &[(Content, Content)]) -> Result<Option<Replacement>, OutOfMemory>
     ensures { (entries : Entries) → pair_trees pairs.now ≡ pairs_made entries
         → IfOk result (λ found. option_map put_of found
         ≡ put_from (last_value (codes "put") entries) (last_value (codes "sort") entries)) }
 {
     match (value_named(pairs, "put"), value_named(pairs, "sort")) {
-        (Some(put), None) => Ok(Some(Redaction::from_content(put.try_clone(alloc)?))),
-        (None, Some(Content::Bool(true))) => Ok(Some(Redaction::Sorted)),
+        (Some(put), None) => Ok(Some(Replacement::from_content(put.try_clone(alloc)?))),
+        (None, Some(Content::Bool(true))) => Ok(Some(Replacement::Sorted)),
         _ => Ok(None),
     }
 }

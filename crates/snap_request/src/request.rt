@@ -13,7 +13,7 @@ use crate::redaction_items::redactions_of_pairs;
 use snap_content::{Content, Error, OutOfMemory, Text};
 use snap_emit::yaml;
 use snap_place::file_path::is_file_path;
-use snap_settings::redactions::Redactions;
+use snap_settings::redactions::Replacements;
 use snap_store::fields::{line_named, text_named, value_named};
 use std::alloc::Global;
 
@@ -26,7 +26,7 @@ pub struct Request {
     pub name: Text,
     pub expr: Text,
     pub value: Content,
-    pub redactions: Redactions,
+    pub redactions: Replacements,
     /// Whether the maps of the value are sorted.
     pub sort: bool,
 }

@@ -1,18 +1,25 @@
 -- What one document leaves.
-use Rattle.std.proofs.Common.{◌≡◌, ◌⊎◌, ◌&&◌, not, inl, inr, ℕ, List, [], ◌∷◌, ◌++◌, Option, Some, refl, sym, ap, ◌∙◌, subst, Result, Ok, Err, encode_utf8_all}
+use Rattle.std.proofs.Common.{◌≡◌, ◌⊎◌, ◌&&◌, not, inl, inr, ℕ, List, [], ◌∷◌, ◌++◌, map, Option, Some, refl, sym, ap, ◌∙◌, subst, Result, Ok, Err, encode_utf8_all}
 use Rattle.std.proofs.lemmas.List.{append-nil}
 use Rattle.std.specs.FinMap.{empty, get}
 use Rattle.snap_outside.specs.Causes.{Rose}
 use Rattle.snap_outside.specs.Files.{Files}
 use Rattle.snap_outside.specs.Streams.{HoldsFront}
-use Rattle.snap_settings.specs.Settings.{SettingsView}
+use Rattle.snap_content.specs.Tree.{Tree}
+use Rattle.snap_select.specs.Put.{Objects}
+use Rattle.snap_select.specs.declared.replacement.Replacement.{Replacement}
+use Rattle.snap_select.specs.declared.selector.Selector.{Selector}
+use Rattle.snap_settings.specs.Replaced.{replacements_of, redaction_for, redacted_by}
+use Rattle.snap_settings.specs.Settings.{SettingsView, settings_of, redactions_in, sorted_where, PrintsAs}
+use Rattle.snap_settings.specs.declared.settings.Settings.{Settings}
+use Rattle.snap_settings.proofs.PlainRedactions.{plain_prints}
 use Rattle.snap_place.specs.Place.{PlaceView}
 use Rattle.snap_assert.specs.Judging.{May}
 use Rattle.snap_assert.specs.Session.{empty_session}
-use Rattle.snap_assert.specs.Steps.{Asked, asked_of, verdict_of, is_failure}
+use Rattle.snap_assert.specs.Steps.{asked_path, verdict_of, is_failure}
 use Rattle.snap_assert.specs.Assertions.{Assertion, assertion_of, asked_in}
 use Rattle.snap_request.specs.Requests.{RequestView, ReadsAs}
-use Rattle.snap_run.specs.Answers.{RunWords, place_by, settings_by, asked_by, assertion_by, line_text, line_of}
+use Rattle.snap_run.specs.Answers.{RunWords, place_by, settings_by, printed_by, asked_by, assertion_by, line_text, line_of}
 use Rattle.snap_assert.specs.Kept.{KeptBy, IsOwn, FaultIsOwn}
 use Rattle.snap_assert.specs.Outcomes.{IsAnswered, ErrorCause, left_by}
 use Rattle.snap_run.specs.Runner.{words_of}
@@ -45,15 +52,25 @@ answered_in_work words document outcome f g d = inr (record {
   kept = λ m told. step_keeps words.update words.force_update (asked_by words.workspace d.answer.request) d.answer.passed m g (d.stands m told);
 })
 
--- what new settings and the place of a request ask is what the request asks
-pub asked_is : (settings : SettingsView) (place : PlaceView) (workspace : List ℕ) (r : RequestView) → settings ≡ settings_by r → place ≡ place_by workspace r
-    → asked_of settings place r.name r.value ≡ asked_by workspace r
-asked_is settings place workspace r new is = ap (λ s. asked_of s place r.name r.value) new ∙ ap (λ p. asked_of (settings_by r) p r.name r.value) is
+-- new settings and the place of a request ask at the path that the request asks at
+pub path_is : (settings : SettingsView) (place : PlaceView) (workspace : List ℕ) (r : RequestView) → settings ≡ settings_by r → place ≡ place_by workspace r
+    → asked_path settings place r.name ≡ (asked_by workspace r).path
+path_is settings place workspace r new is = ap (λ s. asked_path s place r.name) new ∙ ap (λ p. asked_path (settings_by r) p r.name) is
 
-pub assertion_is : (settings : SettingsView) (place : PlaceView) (workspace : List ℕ) (r : RequestView) → settings ≡ settings_by r → place ≡ place_by workspace r
-    → assertion_of settings place r.name r.value ≡ assertion_by workspace r
-assertion_is settings place workspace r new is =
-    ap (λ s. assertion_of s place r.name r.value) new ∙ ap (λ p. assertion_of (settings_by r) p r.name r.value) is
+-- what is printed with the redactions of a request is what the request prints
+pub printed_is : {X : Type 0} {P : X → Type 0} {Y : Type 0} {Q : Y → Type 0} {g : _} (objects : Objects X P) (settings : Settings X Y P Q g)
+    (ps : List (Selector × Replacement)) (r : RequestView) (out : Tree) → settings_of settings ≡ settings_by r → redactions_in settings ≡ map redaction_for ps
+    → r.redactions ≡ replacements_of ps → PrintsAs objects settings r.value out → out ≡ printed_by r
+printed_is objects settings ps r out new are same prints =
+    plain_prints objects settings ps r.value out are prints
+    ∙ ap (λ s. redacted_by (replacements_of ps) (sorted_where s.sort_maps r.value)) new
+    ∙ ap (λ rs. redacted_by rs (sorted_where r.sort r.value)) (sym same)
+
+pub assertion_is : (settings : SettingsView) (place : PlaceView) (workspace : List ℕ) (r : RequestView) (printed : Tree) → settings ≡ settings_by r
+    → place ≡ place_by workspace r → printed ≡ printed_by r → assertion_of settings place r.name printed ≡ assertion_by workspace r
+assertion_is settings place workspace r printed new is same =
+    ap (λ s. assertion_of s place r.name printed) new ∙ ap (λ p. assertion_of (settings_by r) p r.name printed) is
+    ∙ ap (λ t. assertion_of (settings_by r) (place_by workspace r) r.name t) same
 
 one_verdict : (answer : Result Verdict AssertError) (a b : Verdict) → answer ≡ Ok a → answer ≡ Ok b → a ≡ b
 one_verdict answer a b is also = cc
@@ -74,10 +91,10 @@ document_answered runner document r assertion outcome f g reads is x =
       stands = λ m e. x.stands m e ∙ ap (λ a. Some (left_by runner.config a x.passed m empty_session).files) is;
     }
 
-pub document_in_work : (runner : Runner) (document : List ℕ) (r : RequestView) (asked : Asked) (f g : Option Files)
-    → ReadsAs document r → asked ≡ asked_by runner.workspace r → KeptBy runner.config.update asked.path f g → IsInWork (words_of runner) document f g
-document_in_work runner document r asked f g reads is kept =
-    record { request = r; reads = reads; kept = subst (λ a. KeptBy runner.config.update a.path f g) is kept }
+pub document_in_work : (runner : Runner) (document : List ℕ) (r : RequestView) (path : List ℕ) (f g : Option Files)
+    → ReadsAs document r → path ≡ (asked_by runner.workspace r).path → KeptBy runner.config.update path f g → IsInWork (words_of runner) document f g
+document_in_work runner document r path f g reads is kept =
+    record { request = r; reads = reads; kept = subst (λ p. KeptBy runner.config.update p f g) is kept }
 
 line_is : (words : RunWords) (document : List ℕ) (outcome : Outcome) (line bytes : List ℕ) (f g : Option Files) (d : IsDocumentAnswered words document outcome f g)
     → line ≡ line_text outcome.verdict outcome.path → bytes ≡ encode_utf8_all line → bytes ≡ line_of words d.answer
@@ -129,19 +146,19 @@ refused_by before now mode path refusal.BadExtension error cause own file memory
 refused_by before now mode path refusal.JsonKey error cause own file memory = absurd cause
 
 -- a document whose assertion is refused
-pub refused_stops : (runner : Runner) (document : List ℕ) (r : RequestView) (asked : Asked) (f g : Option Files) (before now : ℕ) (refused : AssertError) (error : DocumentError)
-    → ErrorCause before now refused → FaultIsOwn runner.config.update asked.path refused
+pub refused_stops : (runner : Runner) (document : List ℕ) (r : RequestView) (at : List ℕ) (f g : Option Files) (before now : ℕ) (refused : AssertError) (error : DocumentError)
+    → ErrorCause before now refused → FaultIsOwn runner.config.update at refused
     → ((path : List ℕ) → refused ≡ refusal.FileIo path → error ≡ FileIo path) → (refused ≡ refusal.OutOfMemory → error ≡ OutOfMemory)
-    → ReadsAs document r → asked ≡ asked_by runner.workspace r → KeptBy runner.config.update asked.path f g → AssertionStops (words_of runner) error document f g
+    → ReadsAs document r → at ≡ (asked_by runner.workspace r).path → KeptBy runner.config.update at f g → AssertionStops (words_of runner) error document f g
 unfolding document_in_work
-refused_stops runner document r asked f g before now refused error cause own file memory reads is kept = ends (refused_by before now runner.config.update asked.path refused error cause own file memory)
+refused_stops runner document r at f g before now refused error cause own file memory reads is kept = ends (refused_by before now runner.config.update at refused error cause own file memory)
   where
     work : IsInWork (words_of runner) document f g
-    work = document_in_work runner document r asked f g reads is kept
+    work = document_in_work runner document r at f g reads is kept
 
-    ends : IsFault before now runner.config.update asked.path error ⊎ IsWant before now error → AssertionStops (words_of runner) error document f g
+    ends : IsFault before now runner.config.update at error ⊎ IsWant before now error → AssertionStops (words_of runner) error document f g
     ends (inl h) = subst (λ e. AssertionStops (words_of runner) e document f g) (sym h.is)
-        (record { work = work; own = subst (λ a. IsOwn runner.config.update a.path h.named) is h.own })
+        (record { work = work; own = subst (λ p. IsOwn runner.config.update p h.named) is h.own })
     ends (inr h) = subst (λ e. AssertionStops (words_of runner) e document f g) (sym h.is) (inr work)
 
 pub refused_count : (T : Type 0) (before now : ℕ) (mode : Update) (path : List ℕ) (refused : AssertError) (error : DocumentError)

@@ -3,8 +3,10 @@ use Rattle.std.specs.Prelude.{◌&&◌, ◌||◌, ℕ, Bool, true, false, not, L
 use Rattle.std.specs.Str.{bytes_eq}
 use Rattle.std.specs.FinMap.{get}
 use Rattle.snap_content.specs.Spell.{spell_text}
+use Rattle.snap_content.specs.Tree.{Tree}
 use Rattle.snap_outside.specs.Files.{Files}
-use Rattle.snap_settings.specs.Settings.{SettingsView, new_settings}
+use Rattle.snap_settings.specs.Replaced.{redacted_by}
+use Rattle.snap_settings.specs.Settings.{SettingsView, new_settings, sorted_where}
 use Rattle.snap_place.specs.Place.{PlaceView}
 use Rattle.snap_assert.specs.Judging.{May}
 use Rattle.snap_assert.specs.Session.{empty_session}
@@ -84,13 +86,17 @@ place_by workspace request = record {
 
 -- and with new settings but for its sorting and its redactions
 abbrev pub settings_by : RequestView → SettingsView
-settings_by request = record new_settings { sort_maps = request.sort; redactions = request.redactions }
+settings_by request = record new_settings { sort_maps = request.sort }
+
+-- the tree that is printed: its maps sorted where that is asked, and then each redaction in turn
+abbrev pub printed_by : RequestView → Tree
+printed_by request = redacted_by request.redactions (sorted_where request.sort request.value)
 
 abbrev pub asked_by : List ℕ → RequestView → Asked
-asked_by workspace request = asked_of (settings_by request) (place_by workspace request) request.name request.value
+asked_by workspace request = asked_of (settings_by request) (place_by workspace request) request.name (printed_by request)
 
 abbrev pub assertion_by : List ℕ → RequestView → Assertion
-assertion_by workspace request = assertion_of (settings_by request) (place_by workspace request) request.name request.value
+assertion_by workspace request = assertion_of (settings_by request) (place_by workspace request) request.name (printed_by request)
 
 -- a request, and whether it passed
 pub record Answer : Type 0 where

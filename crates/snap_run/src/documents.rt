@@ -19,6 +19,7 @@ use snap_outside::{Sink, Store};
 use snap_place::place::Place;
 use snap_request::cut::first_document_end;
 use snap_request::request::{Request, RequestError, read_request};
+use snap_settings::redactions::Redactions;
 use snap_settings::settings::Settings;
 use snap_stream::streams::write_all;
 use std::alloc::Global;
@@ -129,7 +130,10 @@ fn assert_document<F: Store>(
         Ok(place) => place,
         Err(_) => return Err(DocumentError::OutOfMemory),
     };
-    let Ok(settings) = Settings::of_parts(alloc, request.sort, request.redactions) else {
+    let Ok(redactions) = Redactions::from_replacements(alloc, request.redactions) else {
+        return Err(DocumentError::OutOfMemory);
+    };
+    let Ok(settings) = Settings::of_parts(alloc, request.sort, redactions) else {
         return Err(DocumentError::OutOfMemory);
     };
     let value = request.value;

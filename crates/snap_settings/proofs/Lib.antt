@@ -1,1 +1,2 @@
 mod RedactionLists
+pub mod PlainRedactions

@@ -1,2 +1,3 @@
 pub mod Redactions
 pub mod Settings
+pub mod Replaced

@@ -1,10 +1,13 @@
 -- What the settings of an assertion say.
-use Rattle.std.specs.Prelude.{ℕ, Bool, true, false, List, [], Option, None, codes}
+use Rattle.std.specs.Prelude.{ℕ, Bool, true, false, List, Option, None, codes}
 use Rattle.snap_content.specs.Tree.{Tree}
+use Rattle.snap_select.specs.Put.{Objects}
 use Rattle.snap_select.specs.SortedTree.{sorted_tree}
-use Rattle.snap_settings.specs.Redactions.{RedactionView, redactions_of, redacted_by}
+use Rattle.snap_select.specs.declared.redaction.Redaction.{Redaction}
+use Rattle.snap_settings.specs.Redactions.{RedactionView, redactions_of, RedactedBy}
 use Rattle.snap_settings.specs.declared.settings.Settings.{Settings}
 
+-- all but the redactions
 pub record SettingsView : Type 0 where
   pub sort_maps : Bool
   pub snapshot_path : List ℕ
@@ -14,7 +17,6 @@ pub record SettingsView : Type 0 where
   pub description : Option (List ℕ)
   pub info : Option Tree
   pub input_file : Option (List ℕ)
-  pub redactions : List RedactionView
 
 -- the settings that nobody changed
 abbrev pub new_settings : SettingsView
@@ -27,18 +29,20 @@ new_settings = record {
   description = None;
   info = None;
   input_file = None;
-  redactions = [];
 }
 
 -- no call changes settings yet but for sorting and the redactions
-abbrev pub settings_of : Settings → SettingsView
-settings_of settings =
-    record new_settings { sort_maps = settings.sort_maps; snapshot_path = settings.snapshot_path; redactions = redactions_of settings.redactions }
+abbrev pub settings_of : {X : Type 0} {P : X → Type 0} {Y : Type 0} {Q : Y → Type 0} {g : _} → Settings X Y P Q g → SettingsView
+settings_of settings = record new_settings { sort_maps = settings.sort_maps; snapshot_path = settings.snapshot_path }
 
--- the tree that is printed: its maps sorted where that is set, and then each redaction in turn
+abbrev pub redactions_in : {X : Type 0} {P : X → Type 0} {Y : Type 0} {Q : Y → Type 0} {g : _} → Settings X Y P Q g → List (RedactionView (Redaction X Y P Q g))
+redactions_in settings = redactions_of settings.redactions
+
+-- the tree with its maps sorted, where that is set
 abbrev pub sorted_where : Bool → Tree → Tree
 sorted_where true c = sorted_tree c
 sorted_where false c = c
 
-abbrev pub printed_tree : SettingsView → Tree → Tree
-printed_tree settings c = redacted_by settings.redactions (sorted_where settings.sort_maps c)
+-- the tree that is printed: its maps sorted where that is set, and then each redaction in turn
+pub record PrintsAs {X : Type 0} {P : X → Type 0} {Y : Type 0} {Q : Y → Type 0} {g : _} (objects : Objects X P) (settings : Settings X Y P Q g) (c out : Tree) : Type 0 where
+  pub redacted : RedactedBy objects (redactions_in settings) (sorted_where (settings_of settings).sort_maps c) out

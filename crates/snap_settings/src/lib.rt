@@ -8,5 +8,5 @@ pub mod redactions;
 pub mod settings;
 
 pub use config::{Config, Flags, Update};
-pub use redactions::Redactions;
+pub use redactions::{Redactions, Replacements};
 pub use settings::Settings;

@@ -1,17 +1,22 @@
 //! Redactions, one after another.
-ghost use Rattle.std.specs.Prelude.{◌≡◌, [], ◌∷◌, ◌++◌, IfOk, IfErr, OnOk, OnErr};
+ghost use Rattle.std.specs.Prelude.{◌≡◌, [], ◌∷◌, ◌++◌, IfOk, IfErr, OnOk, OnErr, map};
 ghost use Rattle.std.specs.Str.{chars};
 ghost use Rattle.snap_content.specs.View.{tree};
-ghost use Rattle.snap_select.specs.Put.{put_of};
+ghost use Rattle.snap_select.specs.Grammar.{IsSelector};
+ghost use Rattle.snap_select.specs.Parts.{Parts};
 ghost use Rattle.snap_select.specs.Refusal.{IsRefused};
-ghost use Rattle.snap_settings.specs.Redactions.{RedactionView, IsRedaction, AreRedactions, AreRefused, redaction_of, redacted_by};
+ghost use Rattle.snap_settings.specs.Redactions.{AreRedactions, AreRefused, RedactedBy, redaction_at, redaction_of};
+ghost use Rattle.snap_settings.specs.Replaced.{redaction_for};
 
 use snap_content::{Content, OutOfMemory, Text};
-use snap_select::{Redaction, SelectError, Selector};
+use snap_select::{Redaction, Redactor, Replacement, SelectError, Selector};
 use std::alloc::Global;
 
+/// What a document asks for: selectors, each with what stands in place of what it hits.
+pub type Replacements = Vec<(Selector<'static>, Replacement)>;
+
 /// Redactions, each with the selector of what it replaces. They are applied in turn.
-#[derive(Debug, Drop)]
+#[derive(Drop)]
 pub struct Redactions {
     items: Vec<(Selector<'static>, Redaction)>,
 }
@@ -40,6 +45,25 @@ impl Redactions {
         Ok(made)
     }
 
+    /// The redactions that a document asks for, in their order.
+    pub fn from_replacements(
+        alloc: Global,
+        replacements: Replacements,
+    ) -> Result<Redactions, OutOfMemory>
+        ensures { IfOk result (λ made.
+            redactions_of made ≡ map redaction_for replacements.entry.items) }
+    {
+        let mut made = Redactions::new(alloc);
+        for (selector, replacement) in replacements {
+            let redaction = match replacement {
+                Replacement::Static(content) => Redaction::Static(content),
+                Replacement::Sorted => Redaction::Sorted,
+            };
+            made.push(selector, redaction)?;
+        }
+        Ok(made)
+    }
+
     /// Adds a redaction at the end. After a refusal and after want of memory the redactions are as they were.
     pub fn add(
         &mut self,
@@ -47,9 +71,9 @@ impl Redactions {
         selector: &str,
         redaction: Redaction,
     ) -> Result<(), SelectError>
-        ensures ok { OnOk result ((made : RedactionView)
-            × IsRedaction (chars selector.now) (put_of redaction) made
-            × (redactions_of self.new ≡ redactions_of self.old ++ made ∷ [])) }
+        ensures ok { OnOk result ((parts : Parts) × IsSelector (chars selector.now) parts
+            × (redactions_of self.new
+            ≡ redactions_of self.old ++ redaction_at parts redaction ∷ [])) }
         ensures refused { IfErr result (λ e. IsRefused (chars selector.now) e) }
         ensures err { OnErr result (redactions_of self.new ≡ redactions_of self.old) }
     {
@@ -74,8 +98,8 @@ impl Redactions {
 
     /// The tree with each redaction applied to it in turn. The one error is want of memory.
     pub fn apply(&self, alloc: Global, content: Content) -> Result<Content, OutOfMemory>
-        ensures { IfOk result (λ made. tree made
-            ≡ redacted_by (redactions_of self.now) (tree content)) }
+        ensures { IfOk result (λ made. RedactedBy (λ v. (⟦<dyn Redactor as Redactor>⟧ v).allows)
+            (redactions_of self.now) (tree content) (tree made)) }
     {
         let mut made = content;
         for (selector, redaction) in self.items.as_slice() {

@@ -1,17 +1,19 @@
 //! The settings of an assertion.
-ghost use Rattle.std.specs.Prelude.{◌≡◌, List, [], ◌∷◌, ◌++◌, IfOk, IfErr, OnOk, OnErr, is_some, option_map};
+ghost use Rattle.std.specs.Prelude.{◌≡◌, [], ◌∷◌, ◌++◌, IfOk, IfErr, OnOk, OnErr, is_some, option_map};
 ghost use Rattle.std.specs.Str.{chars};
 ghost use Rattle.snap_content.specs.View.{tree};
+ghost use Rattle.snap_select.specs.Grammar.{IsSelector};
+ghost use Rattle.snap_select.specs.Parts.{Parts};
 ghost use Rattle.snap_settings.specs.Settings.{sorted_where};
 ghost use Rattle.snap_store.specs.Meta.{shown_text};
 
 use crate::redactions::Redactions;
 use snap_content::{Content, OutOfMemory, Text};
-use snap_select::{Redaction, SelectError};
+use snap_select::{FnRedactor, Redaction, Redactor, SelectError};
 use std::alloc::Global;
 
 /// The settings of an assertion. Calls change sorting and the redactions; the rest stays as it is yet.
-#[derive(Debug, Drop)]
+#[derive(Drop)]
 pub struct Settings {
     sort_maps: bool,
     snapshot_path: Text,
@@ -19,16 +21,15 @@ pub struct Settings {
 }
 
 impl Settings {
-    ghost use Rattle.snap_select.specs.InOrder.{in_order};
-    ghost use Rattle.snap_select.specs.Put.{put_of};
     ghost use Rattle.snap_select.specs.Refusal.{IsRefused};
-    ghost use Rattle.snap_settings.specs.Redactions.{RedactionView, IsRedaction, AreRedactions, AreRefused, redactions_of};
-    ghost use Rattle.snap_settings.specs.Settings.{settings_of, new_settings, printed_tree};
+    ghost use Rattle.snap_settings.specs.Redactions.{AreRedactions, AreRefused, redaction_at, redactions_of};
+    ghost use Rattle.snap_settings.specs.Settings.{settings_of, redactions_in, new_settings, PrintsAs};
 
     /// Trees as they are, snapshots in the folder `snapshots`, no suffix, the expression kept and the
     /// module in front of the name.
     pub fn new(alloc: Global) -> Result<Settings, OutOfMemory>
-        ensures { IfOk result (λ settings. settings_of settings ≡ new_settings) }
+        ensures settings { IfOk result (λ settings. settings_of settings ≡ new_settings) }
+        ensures redactions { IfOk result (λ settings. redactions_in settings ≡ []) }
     {
         Settings::of_parts(alloc, false, Redactions::new(alloc))
     }
@@ -42,7 +43,9 @@ impl Settings {
 
     /// Says whether the entries of maps are sorted before they are printed.
     pub fn set_sort_maps(&mut self, value: bool)
-        ensures { settings_of self.new ≡ record (settings_of self.old) { sort_maps = value } }
+        ensures settings { settings_of self.new
+            ≡ record (settings_of self.old) { sort_maps = value } }
+        ensures redactions { redactions_in self.new ≡ redactions_in self.old }
     {
         self.sort_maps = value;
     }
@@ -103,32 +106,43 @@ impl Settings {
         selector: &str,
         replacement: Redaction,
     ) -> Result<(), SelectError>
-        ensures ok { OnOk result ((made : RedactionView)
-            × IsRedaction (chars selector.now) (put_of replacement) made
-            × (settings_of self.new ≡ record
-            (settings_of self.old) {
-              redactions = (settings_of self.old).redactions
-                  ++ made ∷ [];
-            })) }
+        ensures ok { OnOk result ((parts : Parts) × IsSelector (chars selector.now) parts
+            × (redactions_in self.new
+            ≡ redactions_in self.old ++ redaction_at parts replacement ∷ [])) }
         ensures refused { IfErr result (λ e. IsRefused (chars selector.now) e) }
-        ensures err { OnErr result (settings_of self.new ≡ settings_of self.old) }
+        ensures err { OnErr result (redactions_in self.new ≡ redactions_in self.old) }
+        ensures others { settings_of self.new ≡ settings_of self.old }
     {
         let alloc = self.redactions.allocator();
         self.redactions.add(alloc, selector, replacement)
     }
 
+    /// Adds a redaction by a stored function at the end: in place of each value that the selector hits stands what the
+    /// function answers. After a refusal and after want of memory the settings are as they were.
+    pub fn add_dynamic_redaction(
+        &mut self,
+        selector: &str,
+        function: FnRedactor,
+    ) -> Result<(), SelectError>
+        ensures ok { OnOk result ((parts : Parts) × IsSelector (chars selector.now) parts
+            × (redactions_in self.new
+            ≡ redactions_in self.old ++ redaction_at parts (Redaction.Function function) ∷ [])) }
+        ensures refused { IfErr result (λ e. IsRefused (chars selector.now) e) }
+        ensures err { OnErr result (redactions_in self.new ≡ redactions_in self.old) }
+        ensures others { settings_of self.new ≡ settings_of self.old }
+    {
+        self.add_redaction(selector, Redaction::Function(function))
+    }
+
     /// Has the lists that the selector hits put in order, behind the redactions so far.
     /// After a refusal and after want of memory the settings are as they were.
     pub fn sort_selector(&mut self, selector: &str) -> Result<(), SelectError>
-        ensures ok { OnOk result ((made : RedactionView)
-            × IsRedaction (chars selector.now) in_order made
-            × (settings_of self.new ≡ record
-            (settings_of self.old) {
-              redactions = (settings_of self.old).redactions
-                  ++ made ∷ [];
-            })) }
+        ensures ok { OnOk result ((parts : Parts) × IsSelector (chars selector.now) parts
+            × (redactions_in self.new
+            ≡ redactions_in self.old ++ redaction_at parts Redaction.Sorted ∷ [])) }
         ensures refused { IfErr result (λ e. IsRefused (chars selector.now) e) }
-        ensures err { OnErr result (settings_of self.new ≡ settings_of self.old) }
+        ensures err { OnErr result (redactions_in self.new ≡ redactions_in self.old) }
+        ensures others { settings_of self.new ≡ settings_of self.old }
     {
         self.add_redaction(selector, Redaction::Sorted)
     }
@@ -136,10 +150,10 @@ impl Settings {
     /// Takes these redactions in place of all. The first text that is no selector is refused.
     /// After a refusal and after want of memory the settings are as they were.
     pub fn set_redactions(&mut self, redactions: Vec<(Text, Redaction)>) -> Result<(), SelectError>
-        ensures ok { OnOk result ((made : List RedactionView) × AreRedactions redactions.items made
-            × (settings_of self.new ≡ record (settings_of self.old) { redactions = made })) }
+        ensures ok { OnOk result (AreRedactions redactions.items (redactions_in self.new)) }
         ensures refused { IfErr result (λ e. AreRefused redactions.items e) }
-        ensures err { OnErr result (settings_of self.new ≡ settings_of self.old) }
+        ensures err { OnErr result (redactions_in self.new ≡ redactions_in self.old) }
+        ensures others { settings_of self.new ≡ settings_of self.old }
     {
         let alloc = self.redactions.allocator();
         self.redactions = Redactions::from_list(alloc, redactions)?;
@@ -148,14 +162,15 @@ impl Settings {
 
     /// Takes all redactions away.
     pub fn clear_redactions(&mut self)
-        ensures { settings_of self.new ≡ record (settings_of self.old) { redactions = [] } }
+        ensures cleared { redactions_in self.new ≡ [] }
+        ensures others { settings_of self.new ≡ settings_of self.old }
     {
         self.redactions = Redactions::new(self.redactions.allocator());
     }
 
     /// What is replaced before a tree is printed.
     pub fn redactions(&self) -> &Redactions
-        ensures { redactions_of result.now ≡ (settings_of self.now).redactions }
+        ensures { redactions_of result.now ≡ redactions_in self.now }
     {
         &self.redactions
     }
@@ -163,8 +178,8 @@ impl Settings {
     /// The tree that is printed: its maps sorted where that is set, and then each redaction in turn. The one error is
     /// want of memory.
     pub fn printed_tree(&self, alloc: Global, content: Content) -> Result<Content, OutOfMemory>
-        ensures printed { IfOk result (λ made. tree made
-            ≡ printed_tree (settings_of self.now) (tree content)) }
+        ensures printed { IfOk result (λ made. PrintsAs (λ v. (⟦<dyn Redactor as Redactor>⟧ v).allows)
+            self.now (tree content) (tree made)) }
     {
         let content = sorted_where(self.sort_maps, alloc, content)?;
         self.redactions.apply(alloc, content)
@@ -176,8 +191,10 @@ impl Settings {
         sort_maps: bool,
         redactions: Redactions,
     ) -> Result<Settings, OutOfMemory>
-        ensures { IfOk result (λ settings. settings_of settings
-            ≡ record new_settings { sort_maps = sort_maps; redactions = redactions_of redactions }) }
+        ensures settings { IfOk result (λ settings. settings_of settings
+            ≡ record new_settings { sort_maps = sort_maps }) }
+        ensures redactions { IfOk result (λ settings.
+            redactions_in settings ≡ redactions_of redactions) }
     {
         let snapshot_path = Text::from_ascii(alloc, "snapshots")?;
         Ok(Settings {

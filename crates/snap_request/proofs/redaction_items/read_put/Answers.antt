@@ -1,10 +1,11 @@
-use Rattle.std.proofs.Common.{◌≡◌, Some, ap, ◌∙◌}
+use Rattle.std.proofs.Common.{Some, ap, ◌∙◌}
 use Rattle.snap_content.specs.Tree.{Tree}
+use Rattle.snap_select.specs.Replacements.{put_of}
 use Rattle.snap_request.proofs.RedactionsRead.{put_made}
 use Rattle.snap_request.proofs.redaction_items.read_put.Goals as goal
 
 pub returns-in_ok-try_clone-in-Some-None : goal.returns-in_ok-try_clone-in-Some-None
 returns-in_ok-try_clone-in-Some-None c = λ entries made.
     let always : Tree → Tree → Tree = λ tree _. tree in
-    ap Some (c.from_content.ensures ∙ ap always c.in_ok-try_clone-in-Some-None.ensures)
+    ap Some (ap put_of c.from_content.ensures ∙ ap always c.in_ok-try_clone-in-Some-None.ensures)
     ∙ put_made _ _ _ (c.in-Some-None.ensures entries made) (c.in-Some-None.ensures' entries made)

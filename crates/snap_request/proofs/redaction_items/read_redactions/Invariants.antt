@@ -1,7 +1,7 @@
 use Rattle.std.proofs.Common.{drop}
-use Rattle.snap_settings.specs.Redactions.{redactions_of}
+use Rattle.snap_settings.specs.Replaced.{replacements_of}
 use Rattle.snap_request.proofs.RedactionsRead.{ReadsOn}
 use Rattle.snap_request.proofs.redaction_items.read_redactions.Given as goal
 
 abbrev pub invariant-loop-item : goal.invariant-loop-item
-invariant-loop-item l = ReadsOn l.fn.items (drop l.item-index l.items) (redactions_of l.redactions)
+invariant-loop-item l = ReadsOn l.fn.items (drop l.item-index l.items) (replacements_of l.redactions.items)

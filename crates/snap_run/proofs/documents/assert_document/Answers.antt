@@ -1,6 +1,6 @@
 use Rattle.std.proofs.Common.{refl, ap, ◌∙◌, Err}
 use Rattle.snap_request.proofs.Requesting.{file_named}
-use Rattle.snap_run.proofs.DocumentEnds.{unchanged_before, asked_is, assertion_is, document_answered, refused_stops, refused_count}
+use Rattle.snap_run.proofs.DocumentEnds.{unchanged_before, path_is, printed_is, assertion_is, document_answered, refused_stops, refused_count}
 use Rattle.snap_assert.specs.declared.outcome.Outcome.{Outcome}
 use Rattle.snap_request.specs.RequestOf.{request_of}
 use Rattle.snap_run.specs.Runner.{words_of}
@@ -21,17 +21,24 @@ returns-in-Err-clause-err g c = unchanged_before (words_of c.args.runner.now) c.
 pub returns-in_default-clause-err : goal.returns-in_default-clause-err
 returns-in_default-clause-err g c = unchanged_before (words_of c.args.runner.now) c.args.document.now _ _ refl
 
+pub returns-in_default-of_parts-clause-err : goal.returns-in_default-of_parts-clause-err
+returns-in_default-of_parts-clause-err g c = unchanged_before (words_of c.args.runner.now) c.args.document.now _ _ refl
+
 pub returns-in-Ok-assert_content-clause-ok : goal.returns-in-Ok-assert_content-clause-ok
 returns-in-Ok-assert_content-clause-ok g c =
-    document_answered c.args.runner.now c.args.document.now (request_of c.in-Ok.request) _ _ _ _ c.in-Ok.ensures.ok
-    (assertion_is _ _ _ (request_of c.in-Ok.request) c.in-Ok-of_parts.ensures c.in-Ok-place_of_request.ensures.place)
-    (c.in-Ok-assert_content.ensures.answered _ refl)
+    let request = request_of c.in-Ok.request in
+    let settings = c.in-Ok-of_parts.ensures in
+    let answered = c.in-Ok-assert_content.ensures.answered _ refl in
+    let printed = printed_is _ c.in-Ok-of_parts.settings c.in-Ok.request.redactions.items request answered.0 settings.settings
+    (settings.redactions ∙ c.in-Ok-from_replacements.ensures) refl answered.1 in
+    document_answered c.args.runner.now c.args.document.now request _ _ _ _ c.in-Ok.ensures.ok
+    (assertion_is _ _ _ request answered.0 settings.settings c.in-Ok-place_of_request.ensures.place printed) answered.2
 
 pub returns-clause-err : goal.returns-clause-err
 returns-clause-err g c =
     refused_stops c.args.runner.now c.args.document.now (request_of c.in-Ok.request) _ _ _ _ _ _ _ c.in-Err-assert_content.ensures.cause (c.in-Err-assert_content.ensures.named _ refl)
     c.error_of.ensures.file c.error_of.ensures.memory c.in-Ok.ensures.ok
-    (asked_is _ _ _ (request_of c.in-Ok.request) c.in-Ok-of_parts.ensures c.in-Ok-place_of_request.ensures.place)
+    (path_is _ _ _ (request_of c.in-Ok.request) c.in-Ok-of_parts.ensures.settings c.in-Ok-place_of_request.ensures.place)
     (c.in-Err-assert_content.ensures.kept _ refl)
 
 pub returns-clause-store_count : goal.returns-clause-store_count

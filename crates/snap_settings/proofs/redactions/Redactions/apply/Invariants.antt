@@ -1,7 +1,8 @@
-use Rattle.std.proofs.Common.{◌≡◌, map, take}
+use Rattle.std.proofs.Common.{map, take}
 use Rattle.snap_content.specs.View.{tree}
-use Rattle.snap_settings.specs.Redactions.{redaction_of, redacted_by}
+use Rattle.snap_settings.specs.Redactions.{redaction_of, RedactedBy}
 use Rattle.snap_settings.proofs.redactions.Redactions.apply.Given as goal
 
 abbrev pub invariant-loop-selector : goal.invariant-loop-selector
-invariant-loop-selector l = tree l.made ≡ redacted_by (map redaction_of (take l.selector-index l.selector-items)) (tree l.fn.content)
+invariant-loop-selector g l =
+    RedactedBy (λ v p. (goal.Redactor-dyn g (v, p)).allows p) (map redaction_of (take l.selector-index l.selector-items)) (tree l.fn.content) (tree l.made)

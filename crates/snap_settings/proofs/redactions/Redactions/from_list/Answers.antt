@@ -5,7 +5,7 @@ use Rattle.snap_settings.proofs.RedactionLists.{all_made, nothing_left}
 use Rattle.snap_settings.proofs.redactions.Redactions.from_list.Goals as goal
 
 pub returns-clause-ok : goal.returns-clause-ok
-returns-clause-ok c =
+returns-clause-ok g c =
     let at = c.loop-selector in
     let rest = into_iter_items at.selector-iterator in
     let empty : rest ≡ [] = nothing_left rest (sym at.invariant.left ∙ c.in-None.ensures.steps.0) in
