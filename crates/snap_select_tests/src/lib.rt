@@ -6,3 +6,5 @@
 mod redacting;
 #[cfg(test)]
 mod texts;
+#[cfg(test)]
+mod users;
