@@ -12,5 +12,3 @@ mod legacy;
 mod parts;
 #[cfg(test)]
 mod split;
-#[cfg(test)]
-mod tree;
