@@ -1,0 +1,4 @@
+mod FileLines
+mod Ends
+mod Records
+mod Batches

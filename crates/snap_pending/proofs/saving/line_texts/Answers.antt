@@ -1,0 +1,25 @@
+use Rattle.std.proofs.Common.{◌∙◌, ap, sym, ◌∷◌, [], ◌++◌}
+use Rattle.snap_pending.specs.Pending.{pending_of}
+use Rattle.snap_pending.specs.Record.{is_refused, record_line}
+use Rattle.snap_pending.proofs.Batches.{mapped_more, none_more, mapped_all, none_at_all, any_here, refused_in}
+use Rattle.snap_pending.proofs.saving.line_texts.Goals as goal
+
+pub loop-pending-preserved : goal.loop-pending-preserved
+loop-pending-preserved c = record {
+  printed = c.in_ok-push_line.ensures ∙ ap (λ ls. ls ++ c.in-Ok.line ∷ []) c.loop-pending.invariant.printed
+      ∙ ap (λ t. _ ++ t ∷ []) c.in-Ok.ensures.printed
+      ∙ sym (mapped_more (λ pending. record_line (pending_of pending)) c.args.batch.now c.loop-pending.pending-index c.pending-item.result c.loop-pending-test.true c.pending-item.is);
+  accepted = none_more (λ pending. is_refused (pending_of pending)) c.args.batch.now c.loop-pending.pending-index c.pending-item.result c.loop-pending-test.true c.pending-item.is
+      c.loop-pending.invariant.accepted c.in-Ok.ensures.end;
+}
+
+pub returns-in-Err-clause-end : goal.returns-in-Err-clause-end
+returns-in-Err-clause-end c =
+    refused_in _ _ c.in-Err.error (any_here (λ pending. is_refused (pending_of pending)) c.args.batch.now c.loop-pending.pending-index c.pending-item.result c.loop-pending-test.true c.pending-item.is)
+    c.in-Err.ensures.end
+
+pub returns-clause-printed : goal.returns-clause-printed
+returns-clause-printed c = c.loop-pending.invariant.printed ∙ mapped_all _ c.args.batch.now _ c.loop-pending-test.false
+
+pub returns-clause-end : goal.returns-clause-end
+returns-clause-end c = none_at_all _ c.args.batch.now _ c.loop-pending-test.false c.loop-pending.invariant.accepted

@@ -1,0 +1,8 @@
+//! Tests of `snap_pending` through its public calls: records that are saved.
+//! They stand apart, since a crate with tests is proved twice.
+#![tactic(auto)]
+
+#[cfg(test)]
+mod records;
+#[cfg(test)]
+mod saving;
