@@ -2,3 +2,5 @@ mod FileLines
 mod Ends
 mod Records
 mod Batches
+mod Parts
+mod Loading

@@ -1,6 +1,6 @@
 //! A literal that changed.
 ghost use Rattle.std.specs.Prelude.{◌≡◌, option_map};
-ghost use Rattle.std.specs.Str.{chars};
+ghost use Rattle.std.specs.Str.{chars, bytes_eq};
 
 use snap_content::Text;
 use snap_store::Snapshot;
@@ -64,5 +64,12 @@ impl PendingInlineSnapshot {
             ≡ (pending_of self.now).old_snapshot }
     {
         self.old_snapshot.as_ref()
+    }
+
+    /// Whether that run found it.
+    pub(crate) fn is_of_run(&self, run_id: &Text) -> bool
+        ensures { result ≡ bytes_eq (pending_of self.now).run_id run_id.now }
+    {
+        self.run_id == *run_id
     }
 }

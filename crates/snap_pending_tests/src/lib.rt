@@ -1,7 +1,9 @@
-//! Tests of `snap_pending` through its public calls: records that are saved.
+//! Tests of `snap_pending` through its public calls: records that are saved and loaded.
 //! They stand apart, since a crate with tests is proved twice.
 #![tactic(auto)]
 
+#[cfg(test)]
+mod loading;
 #[cfg(test)]
 mod records;
 #[cfg(test)]
