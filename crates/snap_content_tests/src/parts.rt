@@ -134,15 +134,25 @@ fn trees_of_numbers(rt: HostRuntime) -> Result<(), Fail> {
 }
 
 #[test]
-fn trees_of_what_holds_values(rt: HostRuntime) -> Result<(), Fail> {
+fn trees_of_what_may_be_absent(rt: HostRuntime) -> Result<(), Fail> {
     let absent: Option<bool> = None;
     assert!(rt; made(rt.alloc(), &absent)? == Content::None);
     let inner = Box::new(rt.alloc(), Content::U8(3))?;
     assert!(rt; made(rt.alloc(), &Some(3u8))? == Content::Some(inner));
-    let list = Content::Seq(one_item(rt.alloc(), "a")?);
-    assert!(rt; made(rt.alloc(), &vec![in rt.alloc(); "a"]?)? == list);
-    assert!(rt; made(rt.alloc(), &["a"].as_slice())? == list);
     Ok(())
+}
+
+/// That the tree of the value is a list of one text.
+fn is_one_item<T: ToContent>(rt: &impl Abort, alloc: Global, value: &T) -> Result<(), Fail> {
+    assert!(rt; made(alloc, value)? == Content::Seq(one_item(alloc, "a")?));
+    Ok(())
+}
+
+#[test]
+fn trees_of_lists(rt: HostRuntime) -> Result<(), Fail> {
+    let list = vec![in rt.alloc(); "a"]?;
+    is_one_item(&rt, rt.alloc(), &list)?;
+    is_one_item(&rt, rt.alloc(), &list.as_slice())
 }
 
 /// The tree in a wrapper of each kind, from the outermost: `Some`, a newtype struct, a newtype variant.
