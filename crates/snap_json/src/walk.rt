@@ -185,7 +185,9 @@ fn write_newtype_variant(
     variant: &Text,
     value: &Content,
 ) -> Result<(), JsonError>
-    ensures { Wrote result out.old out.new (variant_written format column (column + 2) variant.now (value_written format (column + 2) value.now)) }
+    ensures { Wrote result out.old out.new
+        (variant_written format column (column + 2) variant.now
+        (value_written format (column + 2) value.now)) }
 {
     let inner = deeper(column)?;
     write_variant(out, alloc, format, inner, variant)?;
