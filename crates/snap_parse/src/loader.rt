@@ -1,6 +1,8 @@
 //! The receiver that makes documents of events.
 ghost use Rattle.std.specs.Prelude.{◌≡◌, [], OnOk, IfOk, IfErr, true, false};
 ghost use Rattle.snap_yaml.specs.View.{value_of};
+ghost use Rattle.snap_parse.specs.Loader.{held_of};
+ghost use Rattle.snap_parse.specs.Steps.{put_in};
 
 use crate::scalar::scalar;
 use snap_content::OutOfMemory;
@@ -16,6 +18,34 @@ pub(crate) enum Frame {
     List(Array),
     /// With the key whose value is due.
     Dict(Hash, Option<Yaml>),
+}
+
+/// Puts a value into a mapping: a key, or the value that its key is waiting for. A key without a node is left out.
+fn put_in_dict(pairs: &mut Hash, due: &mut Option<Yaml>, made: Yaml) -> Result<(), OutOfMemory>
+    ensures { OnOk result (held_of (Frame.Dict pairs.new due.new)
+        ≡ put_in (value_of made) (held_of (Frame.Dict pairs.old due.old))) }
+{
+    match due.take() {
+        Some(key) => pairs.push((key, made)),
+        None => {
+            if !made.is_badvalue() {
+                *due = Some(made);
+            }
+            Ok(())
+        }
+    }
+}
+
+impl Frame {
+    /// Puts a value where it belongs.
+    fn put(&mut self, made: Yaml) -> Result<(), OutOfMemory>
+        ensures { OnOk result (held_of self.new ≡ put_in (value_of made) (held_of self.old)) }
+    {
+        match self {
+            Frame::List(items) => items.push(made),
+            Frame::Dict(pairs, due) => put_in_dict(pairs, due, made),
+        }
+    }
 }
 
 /// Makes documents of events, in place of a recursion by what is open.
@@ -62,24 +92,9 @@ impl Loader {
     fn put(&mut self, made: Yaml) -> Result<(), OutOfMemory>
         ensures { OnOk result (state_of self.new ≡ put (value_of made) (state_of self.old)) }
     {
-        match self.open.pop_front() {
+        match self.open.front_mut() {
             None => self.node = Some(made),
-            Some(Frame::List(items)) => {
-                let mut items = items;
-                items.push(made)?;
-                self.open.push_front(Frame::List(items))?;
-            }
-            Some(Frame::Dict(pairs, due)) => match due {
-                None => {
-                    let key = if made.is_badvalue() { None } else { Some(made) };
-                    self.open.push_front(Frame::Dict(pairs, key))?;
-                }
-                Some(key) => {
-                    let mut pairs = pairs;
-                    pairs.push((key, made))?;
-                    self.open.push_front(Frame::Dict(pairs, None))?;
-                }
-            },
+            Some(frame) => frame.put(made)?,
         }
         Ok(())
     }

@@ -1,5 +1,5 @@
 //! Simple keys: held tokens that a `:` may still make a key, at most one for each flow level.
-ghost use Rattle.std.specs.Prelude.{◌≡◌, IfErr, OnOk, None, Some, length, map};
+ghost use Rattle.std.specs.Prelude.{◌≡◌, if◌then◌else◌, IfErr, OnOk, None, Some, length, map};
 ghost use Rattle.std.specs.List.{list_any};
 ghost use Rattle.snap_token.specs.declared.info.ScanError.TheVariants.{OutOfMemory as WantOfMemory};
 ghost use Rattle.snap_scan.specs.Keys.{is_past, fresh, is_overdue, is_required, names_first, lowered, no_keys, has_levels, any_overdue, still_fresh, any_names_first, all_lowered, deeper, shallower};
@@ -121,8 +121,8 @@ impl Keys {
     pub fn give_up_stale(&mut self, mark: Marker)
         ensures { self.new ≡ still_fresh mark self.old }
     {
-        self.key = fresh(&self.key, mark);
-        keep_fresh(&mut self.outer, mark);
+        give_up_if_stale(&mut self.key, mark);
+        give_up_all_stale(&mut self.outer, mark);
     }
 
     /// Whether the first held token may still become a key.
@@ -136,7 +136,7 @@ impl Keys {
     pub fn lower(&mut self)
         ensures { self.new ≡ all_lowered self.old }
     {
-        self.key = lowered(&self.key);
+        lower(&mut self.key);
         lower_all(&mut self.outer);
     }
 }
@@ -157,12 +157,21 @@ fn is_overdue(key: &Option<SimpleKey>, mark: Marker) -> bool
     }
 }
 
-fn fresh(key: &Option<SimpleKey>, mark: Marker) -> Option<SimpleKey>
-    ensures { result ≡ fresh mark key.now }
+/// Whether there is a key, and it can be none at this place.
+fn is_stale(key: &Option<SimpleKey>, mark: Marker) -> bool
+    ensures { fresh mark key.now ≡ (if result then None else key.now) }
 {
     match key {
-        None => None,
-        Some(key) => { if is_past(key, mark) { None } else { Some(*key) } }
+        None => false,
+        Some(key) => is_past(key, mark),
+    }
+}
+
+fn give_up_if_stale(key: &mut Option<SimpleKey>, mark: Marker)
+    ensures { key.new ≡ fresh mark key.old }
+{
+    if is_stale(key, mark) {
+        *key = None;
     }
 }
 
@@ -175,16 +184,11 @@ fn names_first(key: &Option<SimpleKey>) -> bool
     }
 }
 
-fn lowered(key: &Option<SimpleKey>) -> Option<SimpleKey>
-    ensures { result ≡ lowered key.now }
+fn lower(key: &mut Option<SimpleKey>)
+    ensures { key.new ≡ lowered key.old }
 {
-    match key {
-        None => None,
-        Some(key) => Some(SimpleKey {
-            place: key.place.saturating_sub(1),
-            required: key.required,
-            mark: key.mark,
-        }),
+    if let Some(held) = key {
+        held.place = held.place.saturating_sub(1);
     }
 }
 
@@ -200,11 +204,11 @@ fn one_names_first(keys: &[Option<SimpleKey>]) -> bool
     keys.iter().any(|key| names_first(key))
 }
 
-fn keep_fresh(keys: &mut [Option<SimpleKey>], mark: Marker)
+fn give_up_all_stale(keys: &mut [Option<SimpleKey>], mark: Marker)
     ensures { keys.new ≡ map (fresh mark) keys.old }
 {
     for key in keys.iter_mut() {
-        *key = fresh(key, mark);
+        give_up_if_stale(key, mark);
     }
 }
 
@@ -212,6 +216,6 @@ fn lower_all(keys: &mut [Option<SimpleKey>])
     ensures { keys.new ≡ map lowered keys.old }
 {
     for key in keys.iter_mut() {
-        *key = lowered(key);
+        lower(key);
     }
 }

@@ -1,6 +1,6 @@
 use Rattle.std.proofs.Common.{◌≡◌, ◌++◌, map, take, drop}
 use Rattle.snap_scan.specs.Keys.{fresh}
-use Rattle.snap_scan.proofs.keys.keep_fresh.Given as goal
+use Rattle.snap_scan.proofs.keys.give_up_all_stale.Given as goal
 
 abbrev pub invariant-loop-key : goal.invariant-loop-key
 invariant-loop-key l = take l.key-index l.keys ++ map (fresh l.mark) (drop l.key-index l.keys) ≡ map (fresh l.mark) l.fn.keys
