@@ -35,7 +35,7 @@ plain-colon indent cs i l j text blank = rw blank refl
 abbrev with_at : List ℕ → List ℕ → ℕ → ℕ → ℕ → Plain
 with_at text rest i l j = record { text = text; is_broken = false; place = here (58 ∷ rest) i l j }
 
-insert-at : (b x : List Token) (t : Token) → insert (b ++ x) (min (length b) (length (b ++ x))) t ≡ b ++ (t ∷ x)
+pub insert-at : (b x : List Token) (t : Token) → insert (b ++ x) (min (length b) (length (b ++ x))) t ≡ b ++ (t ∷ x)
 insert-at b x t =
     let e : min (length b) (length (b ++ x)) ≡ length b = simp length-append (omega arith) in
     rw (e, take-append_seam b x, drop-append_seam b x) refl

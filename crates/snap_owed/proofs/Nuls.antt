@@ -31,10 +31,10 @@ without-nul (c ∷ cs) h =
     let some : (c == 0) ≡ false = not-nul (c == 0) two.0 in
     rw some (ap (λ (x : List ℕ). c ∷ x) (without-nul cs two.1))
 
-no-nul-more : (c : ℕ) (cs : List ℕ) → (c == 0) ≡ false → has_no_nul cs ≡ true → has_no_nul (c ∷ cs) ≡ true
+pub no-nul-more : (c : ℕ) (cs : List ℕ) → (c == 0) ≡ false → has_no_nul cs ≡ true → has_no_nul (c ∷ cs) ≡ true
 no-nul-more c cs e h = rw (e, h) refl
 
-no-nul-append : (xs ys : List ℕ) → has_no_nul xs ≡ true → has_no_nul ys ≡ true → has_no_nul (xs ++ ys) ≡ true
+pub no-nul-append : (xs ys : List ℕ) → has_no_nul xs ≡ true → has_no_nul ys ≡ true → has_no_nul (xs ++ ys) ≡ true
 no-nul-append [] ys h k = k
 no-nul-append (x ∷ xs) ys h k =
     let two = both_of (is_no_nul x) (has_no_nul xs) h in
@@ -50,14 +50,14 @@ glyph-some n small =
     let known : P (digit_glyph false n) ≡ true = rw (glyph n small).value refl in
     apart P 0 (digit_glyph false n) refl known
 
-no-nul-code : (c : ℕ) → c < 128 → has_no_nul (escaped_code c) ≡ true
+pub no-nul-code : (c : ℕ) → c < 128 → has_no_nul (escaped_code c) ≡ true
 no-nul-code c small = rw (glyph-some (c / 16) (omega arith), glyph-some (c % 16) (omega arith)) refl
 
-pick : (P : List ℕ → Type 0) (b : Bool) (e f : List ℕ) → P e → (b ≡ false → P f) → P (if b then e else f)
+pub pick : (P : List ℕ → Type 0) (b : Bool) (e f : List ℕ) → P e → (b ≡ false → P f) → P (if b then e else f)
 pick P true e f yes_ no_ = yes_
 pick P false e f yes_ no_ = no_ refl
 
-pick-small : (P : List ℕ → Type 0) (b : Bool) (e f : List ℕ) → (b ≡ true → P e) → (b ≡ false → P f) → P (if b then e else f)
+pub pick-small : (P : List ℕ → Type 0) (b : Bool) (e f : List ℕ) → (b ≡ true → P e) → (b ≡ false → P f) → P (if b then e else f)
 pick-small P true e f yes_ no_ = yes_ refl
 pick-small P false e f yes_ no_ = no_ refl
 
@@ -108,7 +108,7 @@ start-some c cs true d e f h = (word_character c (both_of _ (is_word_character c
 start-some c cs false true e f h = let same : c ≡ 45 = grind (arith, nat_tests) in rw same refl
 start-some c cs false false e f h = absurd (cc)
 
-no-nul-scalar : (v : Scalar) → is_scalar v ≡ true → has_no_nul (spelled v) ≡ true
+pub no-nul-scalar : (v : Scalar) → is_scalar v ≡ true → has_no_nul (spelled v) ≡ true
 no-nul-scalar (quote s) h = no-nul-quoted s
 no-nul-scalar (bare []) h = refl
 no-nul-scalar (bare (c ∷ w)) h =

@@ -108,12 +108,12 @@ bare-text (c ∷ x ∷ cs) h =
     starts-goes c (x ∷ cs) (word-start c two.0 a.0) (goes-on (x ∷ cs) false two.1 a.1 (λ h. refl))
 
 -- a text of digits, at least one
-record AreDigits (ds : List ℕ) : Type 0 where
-  first : ℕ
-  rest : List ℕ
-  is : ds ≡ first ∷ rest
-  digit : is_digit first ≡ true
-  digits : list_all is_digit rest ≡ true
+pub record AreDigits (ds : List ℕ) : Type 0 where
+  pub first : ℕ
+  pub rest : List ℕ
+  pub is : ds ≡ first ∷ rest
+  pub digit : is_digit first ≡ true
+  pub digits : list_all is_digit rest ≡ true
 
 glyph-digit : (d : ℕ) → d < 10 → is_digit (digit_glyph false d) ≡ true
 glyph-digit d small = let e : nat_lt d 10 ≡ true = grind (arith, nat_tests) in rw e (grind (arith, nat_tests))
@@ -134,7 +134,7 @@ onto (suc k) n acc h =
     let here : AreDigits (digit_glyph false (n % 10) ∷ acc) = record { first = digit_glyph false (n % 10); rest = acc; is = refl; digit = d; digits = h } in
     if-digits (n / 10 == 0) _ _ here (onto k (n / 10) (digit_glyph false (n % 10) ∷ acc) (digits-more (digit_glyph false (n % 10)) acc d h))
 
-decimal-digits : (n : ℕ) → AreDigits (decimal n)
+pub decimal-digits : (n : ℕ) → AreDigits (decimal n)
 unfolding digits
 decimal-digits n = onto 63 n [] refl
 
@@ -180,11 +180,11 @@ bare-negative ds are =
     let tail : form.is_tail false (are.first ∷ are.rest) ≡ true = digits-tail (are.first ∷ are.rest) (digits-more are.first are.rest are.digit are.digits) in
     rw are.is (rw (are.digit, tail) refl)
 
-bare-int : (z : ℤ) → form.is_bare (signed_decimal z) ≡ true
+pub bare-int : (z : ℤ) → form.is_bare (signed_decimal z) ≡ true
 bare-int (pos n) = bare-digits (decimal n) (decimal-digits n)
 bare-int (negsuc n) = bare-negative (decimal (suc n)) (decimal-digits (suc n))
 
-bare-bool : (b : Bool) → form.is_bare (spell_bool b) ≡ true
+pub bare-bool : (b : Bool) → form.is_bare (spell_bool b) ≡ true
 bare-bool true = refl
 bare-bool false = refl
 

@@ -41,22 +41,22 @@ advance-append [] ys i = refl
 advance-append (x ∷ xs) ys i = advance-append xs ys (i + 1)
 
 -- what is written of a character c is passed, and c is read
-record Passed (c : ℕ) (e gap text rest : List ℕ) (i l j : ℕ) : Type 0 where
-  gap_then : List ℕ
-  text_then : List ℕ
-  reads : double (gap_in_line gap) text (e ++ rest) (here (e ++ rest) i l j) ≡ double (gap_in_line gap_then) text_then rest (here rest (advance e i) l (advance e j))
-  joins : text_then ++ gap_then ≡ text ++ gap ++ c ∷ []
+pub record Passed (c : ℕ) (e gap text rest : List ℕ) (i l j : ℕ) : Type 0 where
+  pub gap_then : List ℕ
+  pub text_then : List ℕ
+  pub reads : double (gap_in_line gap) text (e ++ rest) (here (e ++ rest) i l j) ≡ double (gap_in_line gap_then) text_then rest (here rest (advance e i) l (advance e j))
+  pub joins : text_then ++ gap_then ≡ text ++ gap ++ c ∷ []
 
-abbrev Passes : ℕ → List ℕ → Type 0
+abbrev pub Passes : ℕ → List ℕ → Type 0
 Passes c e = (gap text rest : List ℕ) (i l j : ℕ) → (j == 0) ≡ false → Passed c e gap text rest i l j
 
-passes-letter : (c : ℕ) (e : List ℕ)
+pub passes-letter : (c : ℕ) (e : List ℕ)
     → ((gap text rest : List ℕ) (i l j : ℕ) → (j == 0) ≡ false → double (gap_in_line gap) text (e ++ rest) (here (e ++ rest) i l j)
     ≡ double no_gap (text ++ gap ++ c ∷ []) rest (here rest (advance e i) l (advance e j))) → Passes c e
 passes-letter c e reads = λ gap text rest i l j right.
     record { gap_then = []; text_then = text ++ gap ++ c ∷ []; reads = reads gap text rest i l j right; joins = append-nil (text ++ gap ++ c ∷ []) }
 
-passes-same : (c : ℕ) (e : List ℕ) (a : ℕ) → Passes a e → (c == a) ≡ true → Passes c e
+pub passes-same : (c : ℕ) (e : List ℕ) (a : ℕ) → Passes a e → (c == a) ≡ true → Passes c e
 passes-same c e a passes same = let f : c ≡ a = grind (arith, nat_tests) in let C : ℕ → Type 0 = λ x. Passes x e in subst C (sym f) passes
 
 code-value : (c : ℕ) → (0 * 16 + c / 16) * 16 + c % 16 ≡ c
@@ -66,7 +66,7 @@ code-value c = omega arith
 all-code : (p q : Bool) → p ≡ true → p || q ≡ true
 all-code p q h = rw h refl
 
-passes-code : (c : ℕ) → c < 128 → Passes c (escaped_code c)
+pub passes-code : (c : ℕ) → c < 128 → Passes c (escaped_code c)
 passes-code c small =
     let a : ℕ = digit_glyph false (c / 16) in
     let b : ℕ = digit_glyph false (c % 16) in
@@ -84,15 +84,15 @@ five : (a b d e f : Bool) (x y z u v w : Option Quoted) → a ≡ false → b �
     → (if a then x else (if b then y else (if d then z else (if e then u else (if f then v else w))))) ≡ w
 five a b d e f x y z u v w p q r s t = rw (p, q, r, s, t) refl
 
-record IsOther (c : ℕ) : Type 0 where
-  quotes : (c == 34) ≡ false
-  slash : (c == 92) ≡ false
-  tab : (c == 9) ≡ false
-  line : (c == 10) ≡ false
-  return : (c == 13) ≡ false
-  nul : (c == 0) ≡ false
+pub record IsOther (c : ℕ) : Type 0 where
+  pub quotes : (c == 34) ≡ false
+  pub slash : (c == 92) ≡ false
+  pub tab : (c == 9) ≡ false
+  pub line : (c == 10) ≡ false
+  pub return : (c == 13) ≡ false
+  pub nul : (c == 0) ≡ false
 
-passes-other-by : (c : ℕ) → IsOther c → (b : Bool) → (c == 32) ≡ b → Passes c (c ∷ [])
+pub passes-other-by : (c : ℕ) → IsOther c → (b : Bool) → (c == 32) ≡ b → Passes c (c ∷ [])
 passes-other-by c is true e =
     let f : Passes 32 (32 ∷ []) = λ gap text rest i l j right. record { gap_then = gap ++ 32 ∷ []; text_then = text; reads = refl; joins = sym (append_assoc text gap (32 ∷ [])) } in
     let same : c ≡ 32 = grind (arith, nat_tests) in
@@ -110,7 +110,7 @@ passes-other-by c is false e =
     five (is_blank c) (is_break c) (is_document_indicator p || c == 0) (c == 34) (c == 92) _ _ _ _ _ (double no_gap full rest (skipped p)) blank break_ stands is.quotes is.slash
     ∙ ap at (passed c rest i l j is.line))
 
-pick : (P : List ℕ → Type 0) (b : Bool) (e f : List ℕ) → (b ≡ true → P e) → (b ≡ false → P f) → P (if b then e else f)
+pub pick : (P : List ℕ → Type 0) (b : Bool) (e f : List ℕ) → (b ≡ true → P e) → (b ≡ false → P f) → P (if b then e else f)
 pick P true e f yes_ no_ = yes_ refl
 pick P false e f yes_ no_ = no_ refl
 
@@ -132,33 +132,46 @@ passes c =
     let nul : (c == 0) ≡ false = grind (arith, nat_tests) in
     passes-other-by c (record { quotes = quotes; slash = slash; tab = tab; line = line; return = return; nul = nul }) (c == 32) refl))))))))
 
--- a text with its quotes, of which the first is passed
-abbrev pub between_quotes : List ℕ → List ℕ
-between_quotes s = flat_map escaped s ++ 34 ∷ []
+-- a text as it is written by a rule for each character, with the quote behind it
+abbrev pub closed_by : (ℕ → List ℕ) → List ℕ → List ℕ
+closed_by write s = flat_map write s ++ 34 ∷ []
 
-quoted-rest : (s gap text tail : List ℕ) (i l j : ℕ) → (j == 0) ≡ false
-    → double (gap_in_line gap) text (between_quotes s ++ tail) (here (between_quotes s ++ tail) i l j)
-    ≡ Some (record { text = text ++ gap ++ s; place = here tail (advance (between_quotes s) i) l (advance (between_quotes s) j) })
-quoted-rest [] gap text tail i l j right = rw (right, append-nil) refl
-quoted-rest (c ∷ s) gap text tail i l j right =
-    let e : List ℕ = escaped c in
-    let u : List ℕ = between_quotes s in
-    let one = passes c gap text (u ++ tail) i l j right in
-    let two = quoted-rest s one.gap_then one.text_then tail (advance e i) l (advance e j) (advance-right e j right) in
-    let split : e ++ flat_map escaped s ++ 34 ∷ [] ++ tail ≡ e ++ (u ++ tail) = simp append_assoc in
-    let again : e ++ flat_map escaped s ++ 34 ∷ [] ≡ e ++ u = append_assoc e (flat_map escaped s) (34 ∷ []) in
+-- what is read of such a text with both its quotes, before a tail
+abbrev pub read_of : (ℕ → List ℕ) → List ℕ → List ℕ → ℕ → ℕ → ℕ → Quoted
+read_of write s tail i l j = record { text = s; place = here tail (i + length (34 ∷ closed_by write s)) l (j + length (34 ∷ closed_by write s)) }
+
+quoted-rest : (write : ℕ → List ℕ) → ((c : ℕ) → Passes c (write c)) → (s gap text tail : List ℕ) (i l j : ℕ) → (j == 0) ≡ false
+    → double (gap_in_line gap) text (closed_by write s ++ tail) (here (closed_by write s ++ tail) i l j)
+    ≡ Some (record { text = text ++ gap ++ s; place = here tail (advance (closed_by write s) i) l (advance (closed_by write s) j) })
+quoted-rest write holds [] gap text tail i l j right = rw (right, append-nil) refl
+quoted-rest write holds (c ∷ s) gap text tail i l j right =
+    let e : List ℕ = write c in
+    let u : List ℕ = closed_by write s in
+    let one = holds c gap text (u ++ tail) i l j right in
+    let two = quoted-rest write holds s one.gap_then one.text_then tail (advance e i) l (advance e j) (advance-right e j right) in
+    let split : e ++ flat_map write s ++ 34 ∷ [] ++ tail ≡ e ++ (u ++ tail) = simp append_assoc in
+    let again : e ++ flat_map write s ++ 34 ∷ [] ≡ e ++ u = append_assoc e (flat_map write s) (34 ∷ []) in
     let at : List ℕ → Option Quoted = λ x. double (gap_in_line gap) text x (here x i l j) in
     let then_ : List ℕ → Option Quoted = λ x. Some (record { text = x; place = here tail (advance u (advance e i)) l (advance u (advance e j)) }) in
     let joins : one.text_then ++ one.gap_then ++ s ≡ text ++ gap ++ (c ∷ s) =
     let after : List ℕ → List ℕ = λ x. x ++ s in ap after one.joins ∙ simp append_assoc in
     ap at split ∙ one.reads ∙ two ∙ ap then_ joins ∙ rw (again, advance-append e u i, advance-append e u j) refl
 
-abbrev pub read_quote : List ℕ → List ℕ → ℕ → ℕ → ℕ → Quoted
-read_quote s tail i l j = record { text = s; place = here tail (i + length (spelled (quote s))) l (j + length (spelled (quote s))) }
-
-pub quoted-whole : (s tail : List ℕ) (i l j : ℕ) → double_from (here (spelled (quote s) ++ tail) i l j) ≡ Some (read_quote s tail i l j)
-quoted-whole s tail i l j =
-    let u : List ℕ = between_quotes s in
+-- what such a rule writes is read as the text
+pub quoted-by : (write : ℕ → List ℕ) → ((c : ℕ) → Passes c (write c)) → (s tail : List ℕ) (i l j : ℕ)
+    → double_from (here (34 ∷ (closed_by write s ++ tail)) i l j) ≡ Some (read_of write s tail i l j)
+quoted-by write holds s tail i l j =
+    let u : List ℕ = closed_by write s in
     let e : i + 1 + length u ≡ i + suc (length u) = omega arith in
     let f : j + 1 + length u ≡ j + suc (length u) = omega arith in
-    quoted-rest s [] [] tail (i + 1) l (j + 1) (not-zero j) ∙ rw (advance-length u (i + 1), advance-length u (j + 1), e, f) refl
+    quoted-rest write holds s [] [] tail (i + 1) l (j + 1) (not-zero j) ∙ rw (advance-length u (i + 1), advance-length u (j + 1), e, f) refl
+
+-- a text with its quotes, of which the first is passed
+abbrev pub between_quotes : List ℕ → List ℕ
+between_quotes s = closed_by escaped s
+
+abbrev pub read_quote : List ℕ → List ℕ → ℕ → ℕ → ℕ → Quoted
+read_quote s tail i l j = read_of escaped s tail i l j
+
+pub quoted-whole : (s tail : List ℕ) (i l j : ℕ) → double_from (here (spelled (quote s) ++ tail) i l j) ≡ Some (read_quote s tail i l j)
+quoted-whole s tail i l j = quoted-by escaped passes s tail i l j
