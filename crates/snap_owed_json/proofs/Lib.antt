@@ -6,3 +6,4 @@ pub mod Scalars
 pub mod Values
 pub mod Nuls
 pub mod Texts
+pub mod Events

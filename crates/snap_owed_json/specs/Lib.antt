@@ -1,3 +1,4 @@
 pub mod Bounded
 pub mod Tokens
 pub mod Examples
+pub mod Nodes

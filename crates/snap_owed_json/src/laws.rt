@@ -1,13 +1,17 @@
 //! Laws of JSON texts.
-ghost use Rattle.std.specs.Prelude.{◌≡◌, true, false};
+ghost use Rattle.std.specs.Prelude.{◌≡◌, true, false, [], ◌∷◌};
 ghost use Rattle.snap_content.specs.Plain.{Plain};
 ghost use Rattle.snap_token.specs.Place.{before_nul};
 ghost use Rattle.snap_scan.specs.Owed.{Owes};
 ghost use Rattle.snap_scan.specs.Scan.{start_scan};
+ghost use Rattle.snap_event.specs.Nodes.{stream_events};
+ghost use Rattle.snap_parser.specs.Place.{start_spot};
+ghost use Rattle.snap_parser.specs.Twin.{Yields};
 ghost use Rattle.snap_json.specs.JsonText.{text_at, has_refused};
 ghost use Rattle.snap_json.specs.declared.format.Format.TheVariants.{Condensed};
 ghost use Rattle.snap_owed_json.specs.Bounded.{is_bounded};
 ghost use Rattle.snap_owed_json.specs.Examples.{AreTokens, AreBounds};
+ghost use Rattle.snap_owed_json.specs.Nodes.{json_node};
 ghost use Rattle.snap_owed_json.specs.Tokens.{json_stream_tokens};
 
 /// A new scanner of the condensed JSON text of a bounded tree owes the tree's tokens, whatever texts and numbers stand in it:
@@ -15,6 +19,12 @@ ghost use Rattle.snap_owed_json.specs.Tokens.{json_stream_tokens};
 pub const fn json_texts_owe_their_tokens()
     ensures { (p : Plain) → has_refused p ≡ false → is_bounded p ≡ true
         → Owes (start_scan (before_nul (text_at Condensed 0 p))).state (json_stream_tokens p) }
+{}
+
+/// These tokens yield the events of one document of the tree's node.
+pub const fn json_tokens_yield_their_events()
+    ensures { (p : Plain) → has_refused p ≡ false
+        → Yields start_spot (json_stream_tokens p) (stream_events (json_node p ∷ [])) }
 {}
 
 /// Trees and their tokens, and where the bounds lie, worked out by hand.
