@@ -17,14 +17,13 @@ use Rattle.snap_scan.specs.State.{State, at, pushed, keyless}
 use Rattle.snap_scan.specs.declared.keys.SimpleKey.{SimpleKey}
 use Rattle.snap_scan.specs.declared.kind.TokenKind.{TokenKind}
 use Rattle.snap_scan.specs.declared.kind.TokenKind.TheVariants as k
-use Rattle.snap_json.specs.Strings.{json_string}
+use Rattle.snap_json.specs.Strings.{json_escaped, json_string}
 use Rattle.snap_owed.specs.Stands.{here}
 use Rattle.snap_owed.proofs.Beginnings.{quote-kind}
 use Rattle.snap_owed.proofs.Keys.{key_at, insert-at}
 use Rattle.snap_owed.proofs.Quotes.{closed_by}
 use Rattle.snap_owed.proofs.Skips.{stops_at, and_false}
 use Rattle.snap_owed.proofs.Words.{second-false}
-use Rattle.snap_json.specs.Strings.{json_escaped}
 use Rattle.snap_owed_json.specs.Tokens.{quoted_token, plain_token}
 use Rattle.snap_owed_json.proofs.Escapes.{read_string, string-whole}
 use Rattle.snap_owed_json.proofs.Signs.{key_from, free-from, saved-is, otherwise}
