@@ -1,14 +1,17 @@
--- The entries of a header, pair by pair.
-use Rattle.std.proofs.Common.{◌≡◌, ℕ, List, [], ◌∷◌, ◌++◌, Option, Some, refl, ap, sym, ◌∙◌, rules}
-use Rattle.std.specs.Prelude.{codes}
-use Rattle.snap_content.specs.Plain.{plain, text, dict, Entries, entry, no_entries, pair_entries}
+-- The pairs of a header, one by one, and their plain form.
+use Rattle.std.proofs.Common.{◌≡◌, ℕ, List, [], ◌∷◌, ◌++◌, Option, None, Some, refl, ap, sym, ◌∙◌, rules}
+use Rattle.std.specs.Prelude.{pos, codes}
+use Rattle.snap_content.specs.Plain.{plain, text, int, dict, Entries, entry, no_entries, pair_entries}
 use Rattle.snap_content.specs.Tree as t
 use Rattle.snap_content.specs.View.{tree, pair_list, pair_trees}
 use Rattle.snap_content.specs.declared.content.Content.{Content, String, U32, Map, the_lemmas}
 use Rattle.snap_content.specs.declared.lists.Pairs.{Pairs}
 use Rattle.snap_content.proofs.Views.{tree-Map}
 use Rattle.snap_store.specs.Header.{in_front}
-use Rattle.snap_store.specs.Meta.{line_field}
+use Rattle.snap_store.specs.Meta.{Meta, text_field, line_field, info_field, kind_fields, header_tree}
+use Rattle.snap_store.specs.MetaTree.{text_pair, line_pair, info_pair, kind_pairs, meta_tree}
+use Rattle.snap_store.specs.declared.metadata.SnapshotKind.{SnapshotKind}
+use Rattle.snap_store.specs.declared.metadata.SnapshotKind.TheVariants.{Text, Binary}
 
 pub tree-String : (s : List ℕ) → tree (String s) ≡ t.string s
 tree-String s = search (rules, the_lemmas)
@@ -16,33 +19,56 @@ tree-String s = search (rules, the_lemmas)
 pub tree-U32 : (n : ℕ) → tree (U32 n) ≡ t.u32 n
 tree-U32 n = search (rules, the_lemmas)
 
-pub in_front-push : (ps : List (Content × Content)) (p : Content × Content) (rest : Entries)
-    → in_front (ps ++ p ∷ []) rest ≡ in_front ps (entry (plain (tree p.0)) (plain (tree p.1)) rest)
+pub in_front-push : (ps : List (Content × Content)) (p : Content × Content) (rest : t.TreePairs)
+    → in_front (ps ++ p ∷ []) rest ≡ in_front ps (t.pair (tree p.0) (tree p.1) rest)
 in_front-push [] p rest = refl
-in_front-push (q ∷ ps) p rest = ap (entry (plain (tree q.0)) (plain (tree q.1))) (in_front-push ps p rest)
+in_front-push (q ∷ ps) p rest = ap (t.pair (tree q.0) (tree q.1)) (in_front-push ps p rest)
 
 -- a name's pair at the end
-pub in_front-named : (before now : List (Content × Content)) (name own : List ℕ) (key value : Content) (rest : Entries)
+pub in_front-named : (before now : List (Content × Content)) (name own : List ℕ) (key value : Content) (rest : t.TreePairs)
     → now ≡ before ++ (key, value) ∷ [] → key ≡ String own → own ≡ name
-    → in_front now rest ≡ in_front before (entry (text name) (plain (tree value)) rest)
+    → in_front now rest ≡ in_front before (t.pair (t.string name) (tree value) rest)
 in_front-named before now name own key value rest is key_is own_is =
     ap (λ ps. in_front ps rest) is ∙ in_front-push before (key, value) rest
-    ∙ ap (λ k. in_front before (entry (plain k) (plain (tree value)) rest)) (ap tree key_is ∙ tree-String own)
-    ∙ ap (λ k. in_front before (entry (text k) (plain (tree value)) rest)) own_is
+    ∙ ap (λ k. in_front before (t.pair k (tree value) rest)) (ap tree key_is ∙ tree-String own ∙ ap t.string own_is)
 
-entries_of : (ps : List (Content × Content)) → pair_entries (pair_trees ps) ≡ in_front ps no_entries
-entries_of [] = refl
-entries_of (p ∷ ps) = ap (entry (plain (tree p.0)) (plain (tree p.1))) (entries_of ps)
+all_in_front : (ps : List (Content × Content)) → pair_trees ps ≡ in_front ps t.no_pairs
+all_in_front [] = refl
+all_in_front (p ∷ ps) = ap (t.pair (tree p.0) (tree p.1)) (all_in_front ps)
 
-pub plain-Map : (pairs : Pairs) → plain (tree (Map pairs)) ≡ dict (in_front (pair_list pairs) no_entries)
-plain-Map pairs = ap plain (tree-Map pairs) ∙ ap dict (entries_of (pair_list pairs))
+pub tree-pairs : (pairs : Pairs) → tree (Map pairs) ≡ t.map (in_front (pair_list pairs) t.no_pairs)
+tree-pairs pairs = tree-Map pairs ∙ ap t.map (all_in_front (pair_list pairs))
 
-pub in_front-none : (ps : List (Content × Content)) (rest : Entries) → ps ≡ [] → in_front ps rest ≡ rest
+pub in_front-none : (ps : List (Content × Content)) (rest : t.TreePairs) → ps ≡ [] → in_front ps rest ≡ rest
 in_front-none ps rest is = ap (λ l. in_front l rest) is
 
-pub line_pushed : (before now : List (Content × Content)) (whole : Option ℕ) (line : ℕ) (rest : Entries) → whole ≡ Some line
-    → in_front now rest ≡ in_front before (entry (text (codes "assertion_line")) (plain (tree (U32 line))) rest)
-    → in_front now rest ≡ in_front before (line_field whole rest)
+pub line_pushed : (before now : List (Content × Content)) (whole : Option ℕ) (line : ℕ) (rest : t.TreePairs) → whole ≡ Some line
+    → in_front now rest ≡ in_front before (t.pair (t.string (codes "assertion_line")) (tree (U32 line)) rest)
+    → in_front now rest ≡ in_front before (line_pair whole rest)
 line_pushed before now whole line rest is e =
-    e ∙ ap (λ v. in_front before (entry (text (codes "assertion_line")) (plain v) rest)) (tree-U32 line)
-    ∙ ap (λ w. in_front before (line_field w rest)) (sym is)
+    e ∙ ap (λ v. in_front before (t.pair (t.string (codes "assertion_line")) v rest)) (tree-U32 line)
+    ∙ ap (λ w. in_front before (line_pair w rest)) (sym is)
+
+-- the plain form, field by field
+
+text_plain : (name : List ℕ) (value : Option (List ℕ)) (rest : t.TreePairs) (es : Entries) → pair_entries rest ≡ es
+    → pair_entries (text_pair name value rest) ≡ text_field name value es
+text_plain name None rest es e = e
+text_plain name (Some value) rest es e = ap (entry (text name) (text value)) e
+
+line_plain : (line : Option ℕ) (rest : t.TreePairs) (es : Entries) → pair_entries rest ≡ es → pair_entries (line_pair line rest) ≡ line_field line es
+line_plain None rest es e = e
+line_plain (Some line) rest es e = ap (entry (text (codes "assertion_line")) (int (pos line))) e
+
+info_plain : (info : Option t.Tree) (rest : t.TreePairs) (es : Entries) → pair_entries rest ≡ es → pair_entries (info_pair info rest) ≡ info_field info es
+info_plain None rest es e = e
+info_plain (Some info) rest es e = ap (entry (text (codes "info")) (plain info)) e
+
+kind_plain : (kind : SnapshotKind) → pair_entries (kind_pairs kind) ≡ kind_fields kind
+kind_plain Text = refl
+kind_plain (Binary extension) = refl
+
+pub plain-meta_tree : (meta : Meta) → plain (meta_tree meta) ≡ header_tree meta
+plain-meta_tree meta =
+    ap dict (text_plain (codes "source") meta.source _ _ (line_plain meta.assertion_line _ _ (text_plain (codes "description") meta.description _ _ (
+    text_plain (codes "expression") meta.expression _ _ (info_plain meta.info _ _ (text_plain (codes "input_file") meta.input_file _ _ (kind_plain meta.kind)))))))

@@ -5,8 +5,10 @@ pub mod Splitting
 pub mod Told
 pub mod Images
 pub mod Agreeing
-mod Headers
+pub mod Headers
 mod LegacyFields
 mod Lookups
+pub mod TreesMade
+pub mod MetaTrees
 mod Outcomes
 mod Written

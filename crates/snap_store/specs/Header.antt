@@ -1,8 +1,7 @@
--- The tree of a header, as it is made and as it is read.
-use Rattle.std.specs.Prelude.{◌≡◌, ℕ, Bool, false, List, [], ◌∷◌, None, Some, Result, Ok, Err}
-use Rattle.std.specs.Str.{bytes_eq}
-use Rattle.snap_content.specs.Plain.{Plain, plain, dict, Entries, entry}
-use Rattle.snap_content.specs.Tree.{Tree, string}
+-- The pairs that a header is made of, and what the tree of one is read as.
+use Rattle.std.specs.Prelude.{◌≡◌, List, [], ◌∷◌, None, Some, Result, Ok, Err}
+use Rattle.snap_content.specs.Plain.{Plain, dict, Entries}
+use Rattle.snap_content.specs.Tree.{TreePairs, pair}
 use Rattle.snap_content.specs.View.{tree}
 use Rattle.snap_content.specs.declared.content.Content.{Content}
 use Rattle.snap_content.specs.declared.error.Error.{Error}
@@ -12,15 +11,10 @@ use Rattle.snap_store.specs.Views.{meta_of}
 use Rattle.snap_store.specs.declared.metadata.SnapshotKind.{SnapshotKind}
 use Rattle.snap_store.specs.declared.metadata.MetaData.{MetaData}
 
--- the entries of these pairs, in front of others
-abbrev pub in_front : List (Content × Content) → Entries → Entries
+-- the trees of these pairs, in front of others
+abbrev pub in_front : List (Content × Content) → TreePairs → TreePairs
 in_front [] rest = rest
-in_front (p ∷ ps) rest = entry (plain (tree p.0)) (plain (tree p.1)) (in_front ps rest)
-
--- a key is this name
-abbrev pub is_key : List ℕ → Tree → Bool
-is_key name (string key) = bytes_eq key name
-is_key name _ = false
+in_front (p ∷ ps) rest = pair (tree p.0) (tree p.1) (in_front ps rest)
 
 -- the metadata are the fields of the header
 pub record HasFields (header : Plain) (metadata : MetaData) : Type 0 where

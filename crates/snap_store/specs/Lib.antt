@@ -2,6 +2,8 @@ pub mod FileSplit
 pub mod Split
 pub mod Meta
 pub mod Fields
+pub mod TreeFields
+pub mod MetaTree
 pub mod Views
 pub mod Header
 pub mod Agreement

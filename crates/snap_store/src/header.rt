@@ -2,9 +2,11 @@
 ghost use Rattle.std.specs.Prelude.{◌≡◌, IfOk, OnOk, IsTrue, option_map};
 ghost use Rattle.std.specs.Char.{is_ascii};
 ghost use Rattle.std.specs.List.{list_all};
-ghost use Rattle.snap_content.specs.Plain.{plain, text, Entries, entry, no_entries};
+ghost use Rattle.snap_content.specs.Plain.{plain};
+ghost use Rattle.snap_content.specs.Tree.{string, TreePairs, no_pairs, pair};
 ghost use Rattle.snap_content.specs.View.{tree, pair_list};
-ghost use Rattle.snap_store.specs.Meta.{text_field, line_field, info_field, kind_fields, header_tree};
+ghost use Rattle.snap_store.specs.Meta.{header_tree};
+ghost use Rattle.snap_store.specs.MetaTree.{text_pair, line_pair, info_pair, kind_pairs, meta_tree};
 ghost use Rattle.snap_store.specs.Views.{meta_of};
 ghost use Rattle.snap_store.specs.Header.{in_front};
 
@@ -18,7 +20,9 @@ pub(crate) fn header_content(
     metadata: &MetaData,
     line: Option<u32>,
 ) -> Result<Content, OutOfMemory>
-    ensures { IfOk result (λ made. plain (tree made)
+    ensures tree { IfOk result (λ made. tree made
+        ≡ meta_tree (record (meta_of metadata.now) { assertion_line = line })) }
+    ensures plain { IfOk result (λ made. plain (tree made)
         ≡ header_tree (record (meta_of metadata.now) { assertion_line = line })) }
 {
     let mut pairs = Pairs::new(alloc);
@@ -32,16 +36,17 @@ pub(crate) fn header_content(
     Ok(Content::Map(pairs))
 }
 
-fn push_field(
+/// Adds a pair of this name at the end.
+pub fn push_field(
     alloc: Global,
     pairs: &mut Pairs,
     name: &str,
     value: Content,
 ) -> Result<(), OutOfMemory>
     requires { IsTrue (list_all is_ascii name.now) }
-    ensures { OnOk result ((rest : Entries)
+    ensures { OnOk result ((rest : TreePairs)
         → in_front (pair_list pairs.new) rest
-        ≡ in_front (pair_list pairs.old) (entry (text name.now) (plain (tree value)) rest)) }
+        ≡ in_front (pair_list pairs.old) (pair (string name.now) (tree value) rest)) }
 {
     let key = Content::String(Text::from_ascii(alloc, name)?);
     pairs.push((key, value))?;
@@ -55,9 +60,9 @@ fn push_text(
     value: &Option<Text>,
 ) -> Result<(), OutOfMemory>
     requires { IsTrue (list_all is_ascii name.now) }
-    ensures { OnOk result ((rest : Entries)
+    ensures { OnOk result ((rest : TreePairs)
         → in_front (pair_list pairs.new) rest
-        ≡ in_front (pair_list pairs.old) (text_field name.now value.now rest)) }
+        ≡ in_front (pair_list pairs.old) (text_pair name.now value.now rest)) }
 {
     if let Some(value) = value {
         push_field(alloc, pairs, name, Content::String(value.try_clone(alloc)?))?;
@@ -66,9 +71,9 @@ fn push_text(
 }
 
 fn push_line(alloc: Global, pairs: &mut Pairs, line: Option<u32>) -> Result<(), OutOfMemory>
-    ensures { OnOk result ((rest : Entries)
+    ensures { OnOk result ((rest : TreePairs)
         → in_front (pair_list pairs.new) rest
-        ≡ in_front (pair_list pairs.old) (line_field line rest)) }
+        ≡ in_front (pair_list pairs.old) (line_pair line rest)) }
 {
     if let Some(line) = line {
         push_field(alloc, pairs, "assertion_line", Content::U32(line))?;
@@ -77,9 +82,9 @@ fn push_line(alloc: Global, pairs: &mut Pairs, line: Option<u32>) -> Result<(), 
 }
 
 fn push_info(alloc: Global, pairs: &mut Pairs, info: &Option<Content>) -> Result<(), OutOfMemory>
-    ensures { OnOk result ((rest : Entries)
+    ensures { OnOk result ((rest : TreePairs)
         → in_front (pair_list pairs.new) rest
-        ≡ in_front (pair_list pairs.old) (info_field (option_map tree info.now) rest)) }
+        ≡ in_front (pair_list pairs.old) (info_pair (option_map tree info.now) rest)) }
 {
     if let Some(info) = info {
         push_field(alloc, pairs, "info", info.try_clone(alloc)?)?;
@@ -88,8 +93,8 @@ fn push_info(alloc: Global, pairs: &mut Pairs, info: &Option<Content>) -> Result
 }
 
 fn push_kind(alloc: Global, pairs: &mut Pairs, kind: &SnapshotKind) -> Result<(), OutOfMemory>
-    ensures { OnOk result (in_front (pair_list pairs.new) no_entries
-        ≡ in_front (pair_list pairs.old) (kind_fields kind.now)) }
+    ensures { OnOk result (in_front (pair_list pairs.new) no_pairs
+        ≡ in_front (pair_list pairs.old) (kind_pairs kind.now)) }
 {
     if let SnapshotKind::Binary { extension } = kind {
         let extension = Content::String(extension.try_clone(alloc)?);

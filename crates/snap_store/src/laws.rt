@@ -1,12 +1,13 @@
 //! Laws of snapshots.
-ghost use Rattle.std.specs.Prelude.{◌≡◌, ℕ, List};
+ghost use Rattle.std.specs.Prelude.{◌≡◌, ◌<◌, ◌^◌, ℕ, List, IfSome};
 ghost use Rattle.snap_content.specs.Lines.{text_of};
-ghost use Rattle.snap_content.specs.Plain.{Plain};
+ghost use Rattle.snap_content.specs.Plain.{Plain, plain};
 ghost use Rattle.snap_content.specs.Readable.{IsWithin};
 ghost use Rattle.snap_text.specs.Normal.{normal};
 ghost use Rattle.snap_store.specs.Agreement.{Agree};
 ghost use Rattle.snap_store.specs.Image.{file_of, saved_text};
 ghost use Rattle.snap_store.specs.Meta.{Meta, header_tree, without_line};
+ghost use Rattle.snap_store.specs.MetaTree.{TellsFields, meta_tree, without_nil_info};
 ghost use Rattle.snap_store.specs.declared.contents.SnapshotContents.{SnapshotContents};
 
 /// Contents agree with themselves, and where they agree with others, these agree with them.
@@ -20,4 +21,15 @@ pub const fn an_agreeing_text_is_saved_as_the_tree()
     ensures { (meta : Meta) (raw : List ℕ) (p : Plain) → IsWithin p
         → normal raw ≡ normal (text_of p)
         → saved_text meta raw ≡ file_of (header_tree (without_line meta)) p }
+{}
+
+/// The tree that metadata are made as tells them again, but for a nil info.
+pub const fn metadata_are_read_back()
+    ensures { (meta : Meta) → IfSome meta.assertion_line (λ line. line < 2 ^ 32)
+        → TellsFields (meta_tree meta) (without_nil_info meta) }
+{}
+
+/// A header is printed of the plain form of that tree.
+pub const fn a_header_is_the_plain_form()
+    ensures { (meta : Meta) → plain (meta_tree meta) ≡ header_tree meta }
 {}

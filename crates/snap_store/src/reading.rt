@@ -8,7 +8,6 @@ ghost use Rattle.snap_store.specs.Reading.{IsTextFile, HoldsBody, FileEnd, IsRea
 ghost use Rattle.snap_store.specs.Split.{IsSplit};
 
 use crate::contents::SnapshotContents;
-use crate::fields::metadata_in;
 use crate::legacy::{legacy_metadata, legacy_text};
 use crate::metadata::{MetaData, SnapshotKind};
 use crate::snapshot::Snapshot;
@@ -77,7 +76,7 @@ fn headed_snapshot(alloc: Global, headed: Headed, path: Text) -> Result<Snapshot
         Ok(header) => header,
         Err(error) => return Err(error),
     };
-    let metadata = match metadata_in(alloc, &header.content) {
+    let metadata = match MetaData::from_content(alloc, &header.content) {
         Ok(metadata) => metadata,
         Err(error) => return Err(error),
     };

@@ -12,3 +12,5 @@ mod legacy;
 mod parts;
 #[cfg(test)]
 mod split;
+#[cfg(test)]
+mod tree;

@@ -1,15 +1,6 @@
-use Rattle.std.proofs.Common.{sym, ◌∙◌}
-use Rattle.snap_store.proofs.Lookups.{filled, filled_found, new_found, none_found, all_seen}
+use Rattle.std.proofs.Common.{◌∙◌}
+use Rattle.snap_store.proofs.TreesMade.{filled-made}
 use Rattle.snap_store.proofs.fields.filled_named.Goals as goal
-use Rattle.snap_store.proofs.fields.filled_named.Goals.{then-is_filled, else-is_filled}
-
-pub loop-key-preserved : goal.loop-key-preserved
-loop-key-preserved c =
-    elim c.if-is_filled.branch [
-      | then-is_filled w ↦ rw w.found-is (new_found (filled c.args.name.now) _ _ c.loop-key-item.result c.loop-key-test.true c.loop-key-item.is (sym c.is_filled.ensures ∙ w.if-is_filled.true))
-      | else-is_filled w ↦ rw w.found-is (none_found (filled c.args.name.now) _ _ c.loop-key-item.result _ c.loop-key-test.true c.loop-key-item.is (sym c.is_filled.ensures ∙ w.if-is_filled.false) c.loop-key.invariant)
-    ]
 
 pub returns : goal.returns
-returns c = λ entries made.
-    all_seen (filled c.args.name.now) c.args.pairs.now _ _ c.loop-key-test.false c.loop-key.invariant ∙ filled_found c.args.name.now c.args.pairs.now entries made
+returns c = λ entries made. c.last_filled.ensures ∙ filled-made c.args.name.now _ entries made

@@ -1,0 +1,191 @@
+-- Metadata are read from the tree that they are made as.
+use Rattle.std.proofs.Common.{◌≡◌, ℕ, ◌^◌, ◌<◌, Bool, true, false, not, ◌&&◌, List, Option, None, Some, refl, ap, sym, ◌∙◌}
+use Rattle.std.proofs.lemmas.Bool.{lt-ltb}
+use Rattle.std.specs.Option.{option_or}
+use Rattle.std.specs.Prelude.{IfSome, codes, option_and_then, if◌then◌else◌}
+use Rattle.snap_content.specs.Tree.{Tree, string, u32, map, TreePairs, no_pairs, pair}
+use Rattle.snap_store.specs.Fields.{is_text, binary_kind}
+use Rattle.snap_store.specs.Meta.{Meta}
+use Rattle.snap_store.specs.MetaTree.{text_pair, line_pair, info_pair, kind_pairs, meta_pairs, meta_tree, filled_info, without_nil_info, TellsFields}
+use Rattle.snap_store.specs.TreeFields.{tree_text, tree_line, is_key, is_nil, last_by, last_in, last_filled_in, text_at, line_at, kind_told, fields_told}
+use Rattle.snap_store.specs.declared.metadata.SnapshotKind.{SnapshotKind}
+use Rattle.snap_store.specs.declared.metadata.SnapshotKind.TheVariants.{Text, Binary}
+use Rattle.snap_store.proofs.Lookups.{named, filled}
+use Rattle.snap_store.proofs.TreesMade.{same_meta}
+
+pub tells : (t : Tree) (pairs : TreePairs) (kind : SnapshotKind) (meta : Meta) → t ≡ map pairs → kind_told pairs ≡ Some kind
+    → meta ≡ fields_told pairs kind → TellsFields t meta
+tells t pairs kind meta is kind_is fields_are =
+    let same = ap (λ m. m.kind) fields_are in
+    record { pairs = pairs; is_map = is; kind_is = kind_is ∙ ap Some (sym same); fields_are = fields_are ∙ ap (fields_told pairs) (sym same) }
+
+or_none : (o : Option Tree) → option_or o None ≡ o
+or_none None = refl
+or_none (Some t) = refl
+
+-- a pair that fails the test is passed over
+skip : (passes : Tree → Tree → Bool) (key value : Tree) (rest : TreePairs) → passes key value ≡ false → last_by passes (pair key value rest) ≡ last_by passes rest
+skip passes key value rest e = ap (λ b. option_or (last_by passes rest) (if b then Some value else None)) e ∙ or_none (last_by passes rest)
+
+-- one that passes is found where no later one does
+found : (passes : Tree → Tree → Bool) (key value : Tree) (rest : TreePairs) → passes key value ≡ true → last_by passes rest ≡ None
+    → last_by passes (pair key value rest) ≡ Some value
+found passes key value rest e none =
+    ap (λ b. option_or (last_by passes rest) (if b then Some value else None)) e ∙ ap (λ o. option_or o (Some value)) none
+
+skip_text : (passes : Tree → Tree → Bool) (name : List ℕ) (value : Option (List ℕ)) (rest : TreePairs)
+    → ((s : List ℕ) → passes (string name) (string s) ≡ false) → last_by passes (text_pair name value rest) ≡ last_by passes rest
+skip_text passes name None rest e = refl
+skip_text passes name (Some s) rest e = skip passes (string name) (string s) rest (e s)
+
+skip_line : (passes : Tree → Tree → Bool) (line : Option ℕ) (rest : TreePairs)
+    → ((n : ℕ) → passes (string (codes "assertion_line")) (u32 n) ≡ false) → last_by passes (line_pair line rest) ≡ last_by passes rest
+skip_line passes None rest e = refl
+skip_line passes (Some n) rest e = skip passes (string (codes "assertion_line")) (u32 n) rest (e n)
+
+skip_info : (passes : Tree → Tree → Bool) (info : Option Tree) (rest : TreePairs)
+    → ((t : Tree) → passes (string (codes "info")) t ≡ false) → last_by passes (info_pair info rest) ≡ last_by passes rest
+skip_info passes None rest e = refl
+skip_info passes (Some t) rest e = skip passes (string (codes "info")) t rest (e t)
+
+no_kind : (passes : Tree → Tree → Bool) (kind : SnapshotKind) → ((t : Tree) → passes (string (codes "extension")) t ≡ false)
+    → ((t : Tree) → passes (string (codes "snapshot_kind")) t ≡ false) → last_by passes (kind_pairs kind) ≡ None
+no_kind passes Text e k = refl
+no_kind passes (Binary extension) e k =
+    skip passes (string (codes "extension")) (string extension) (pair (string (codes "snapshot_kind")) (string (codes "binary")) no_pairs) (e (string extension))
+    ∙ skip passes (string (codes "snapshot_kind")) (string (codes "binary")) no_pairs (k (string (codes "binary")))
+
+-- a field is found where no later pair has its name
+
+found_text : (name : List ℕ) (value : Option (List ℕ)) (rest : TreePairs) → is_text name (Some name) ≡ true → last_in name rest ≡ None
+    → text_at name (text_pair name value rest) ≡ value
+found_text name None rest e none = ap (option_and_then tree_text) none
+found_text name (Some s) rest e none = ap (option_and_then tree_text) (found (named name) (string name) (string s) rest e none)
+
+found_line : (line : Option ℕ) (rest : TreePairs) → IfSome line (λ n. n < 2 ^ 32) → last_in (codes "assertion_line") rest ≡ None
+    → line_at (codes "assertion_line") (line_pair line rest) ≡ line
+found_line None rest fits none = ap (option_and_then tree_line) none
+found_line (Some n) rest fits none =
+    ap (option_and_then tree_line) (found (named (codes "assertion_line")) (string (codes "assertion_line")) (u32 n) rest refl none)
+    ∙ ap (λ b. if b then Some n else None) (lt-ltb n (2 ^ 32) fits)
+
+nil_or_not : (info : Tree) (rest : TreePairs) (nil : Bool) → is_nil info ≡ nil → last_filled_in (codes "info") rest ≡ None
+    → last_filled_in (codes "info") (pair (string (codes "info")) info rest) ≡ (if nil then None else Some info)
+nil_or_not info rest true is none =
+    skip (filled (codes "info")) (string (codes "info")) info rest (ap (λ b. is_key (codes "info") (string (codes "info")) && not b) is) ∙ none
+nil_or_not info rest false is none =
+    found (filled (codes "info")) (string (codes "info")) info rest (ap (λ b. is_key (codes "info") (string (codes "info")) && not b) is) none
+
+found_info : (info : Option Tree) (rest : TreePairs) → last_filled_in (codes "info") rest ≡ None
+    → last_filled_in (codes "info") (info_pair info rest) ≡ filled_info info
+found_info None rest none = none
+found_info (Some info) rest none = nil_or_not info rest (is_nil info) refl none
+
+-- the fields from one on
+
+abbrev from_input : Meta → TreePairs
+from_input m = text_pair (codes "input_file") m.input_file (kind_pairs m.kind)
+
+abbrev from_info : Meta → TreePairs
+from_info m = info_pair m.info (from_input m)
+
+abbrev from_expression : Meta → TreePairs
+from_expression m = text_pair (codes "expression") m.expression (from_info m)
+
+abbrev from_description : Meta → TreePairs
+from_description m = text_pair (codes "description") m.description (from_expression m)
+
+abbrev from_line : Meta → TreePairs
+from_line m = line_pair m.assertion_line (from_description m)
+
+-- a test that a pair passes by its key alone, and which of the keys it passes over
+
+abbrev Misses : (Tree → Tree → Bool) → List ℕ → Type 0
+Misses passes name = (value : Tree) → passes (string name) value ≡ false
+
+none_input : (passes : Tree → Tree → Bool) (m : Meta) → Misses passes (codes "input_file") → Misses passes (codes "extension") → Misses passes (codes "snapshot_kind") → last_by passes (from_input m) ≡ None
+none_input passes m i x k = skip_text passes (codes "input_file") m.input_file (kind_pairs m.kind) (λ s. i (string s)) ∙ no_kind passes m.kind x k
+
+none_info : (passes : Tree → Tree → Bool) (m : Meta) → Misses passes (codes "info") → Misses passes (codes "input_file") → Misses passes (codes "extension") → Misses passes (codes "snapshot_kind") → last_by passes (from_info m) ≡ None
+none_info passes m f i x k = skip_info passes m.info (from_input m) f ∙ none_input passes m i x k
+
+none_expression : (passes : Tree → Tree → Bool) (m : Meta) → Misses passes (codes "expression") → Misses passes (codes "info") → Misses passes (codes "input_file") → Misses passes (codes "extension") → Misses passes (codes "snapshot_kind")
+    → last_by passes (from_expression m) ≡ None
+none_expression passes m e f i x k = skip_text passes (codes "expression") m.expression (from_info m) (λ s. e (string s)) ∙ none_info passes m f i x k
+
+none_description : (passes : Tree → Tree → Bool) (m : Meta) → Misses passes (codes "description") → Misses passes (codes "expression") → Misses passes (codes "info") → Misses passes (codes "input_file") → Misses passes (codes "extension") → Misses passes (codes "snapshot_kind")
+    → last_by passes (from_description m) ≡ None
+none_description passes m d e f i x k =
+    skip_text passes (codes "description") m.description (from_expression m) (λ s. d (string s)) ∙ none_expression passes m e f i x k
+
+none_line : (passes : Tree → Tree → Bool) (m : Meta) → Misses passes (codes "assertion_line") → Misses passes (codes "description") → Misses passes (codes "expression") → Misses passes (codes "info") → Misses passes (codes "input_file") → Misses passes (codes "extension") → Misses passes (codes "snapshot_kind")
+    → last_by passes (from_line m) ≡ None
+none_line passes m l d e f i x k = skip_line passes m.assertion_line (from_description m) (λ n. l (u32 n)) ∙ none_description passes m d e f i x k
+
+to_line : (passes : Tree → Tree → Bool) (m : Meta) → Misses passes (codes "source") → last_by passes (meta_pairs m) ≡ last_by passes (from_line m)
+to_line passes m a = skip_text passes (codes "source") m.source (from_line m) (λ s. a (string s))
+
+to_description : (passes : Tree → Tree → Bool) (m : Meta) → Misses passes (codes "source") → Misses passes (codes "assertion_line") → last_by passes (meta_pairs m) ≡ last_by passes (from_description m)
+to_description passes m a l = to_line passes m a ∙ skip_line passes m.assertion_line (from_description m) (λ n. l (u32 n))
+
+to_expression : (passes : Tree → Tree → Bool) (m : Meta) → Misses passes (codes "source") → Misses passes (codes "assertion_line") → Misses passes (codes "description") → last_by passes (meta_pairs m) ≡ last_by passes (from_expression m)
+to_expression passes m a l d = to_description passes m a l ∙ skip_text passes (codes "description") m.description (from_expression m) (λ s. d (string s))
+
+to_info : (passes : Tree → Tree → Bool) (m : Meta) → Misses passes (codes "source") → Misses passes (codes "assertion_line") → Misses passes (codes "description") → Misses passes (codes "expression") → last_by passes (meta_pairs m) ≡ last_by passes (from_info m)
+to_info passes m a l d e = to_expression passes m a l d ∙ skip_text passes (codes "expression") m.expression (from_info m) (λ s. e (string s))
+
+to_input : (passes : Tree → Tree → Bool) (m : Meta) → Misses passes (codes "source") → Misses passes (codes "assertion_line") → Misses passes (codes "description") → Misses passes (codes "expression") → Misses passes (codes "info")
+    → last_by passes (meta_pairs m) ≡ last_by passes (from_input m)
+to_input passes m a l d e f = to_info passes m a l d e ∙ skip_info passes m.info (from_input m) f
+
+to_kind : (passes : Tree → Tree → Bool) (m : Meta) → Misses passes (codes "source") → Misses passes (codes "assertion_line") → Misses passes (codes "description") → Misses passes (codes "expression") → Misses passes (codes "info") → Misses passes (codes "input_file")
+    → last_by passes (meta_pairs m) ≡ last_by passes (kind_pairs m.kind)
+to_kind passes m a l d e f i = to_input passes m a l d e f ∙ skip_text passes (codes "input_file") m.input_file (kind_pairs m.kind) (λ s. i (string s))
+
+-- each field is found
+
+source_read : (m : Meta) → text_at (codes "source") (meta_pairs m) ≡ m.source
+source_read m = found_text (codes "source") m.source (from_line m) refl (none_line (named (codes "source")) m (λ t. refl) (λ t. refl) (λ t. refl) (λ t. refl) (λ t. refl) (λ t. refl) (λ t. refl))
+
+line_read : (m : Meta) → IfSome m.assertion_line (λ n. n < 2 ^ 32) → line_at (codes "assertion_line") (meta_pairs m) ≡ m.assertion_line
+line_read m fits =
+    ap (option_and_then tree_line) (to_line (named (codes "assertion_line")) m (λ t. refl))
+    ∙ found_line m.assertion_line (from_description m) fits (none_description (named (codes "assertion_line")) m (λ t. refl) (λ t. refl) (λ t. refl) (λ t. refl) (λ t. refl) (λ t. refl))
+
+description_read : (m : Meta) → text_at (codes "description") (meta_pairs m) ≡ m.description
+description_read m =
+    ap (option_and_then tree_text) (to_description (named (codes "description")) m (λ t. refl) (λ t. refl))
+    ∙ found_text (codes "description") m.description (from_expression m) refl (none_expression (named (codes "description")) m (λ t. refl) (λ t. refl) (λ t. refl) (λ t. refl) (λ t. refl))
+
+expression_read : (m : Meta) → text_at (codes "expression") (meta_pairs m) ≡ m.expression
+expression_read m =
+    ap (option_and_then tree_text) (to_expression (named (codes "expression")) m (λ t. refl) (λ t. refl) (λ t. refl))
+    ∙ found_text (codes "expression") m.expression (from_info m) refl (none_info (named (codes "expression")) m (λ t. refl) (λ t. refl) (λ t. refl) (λ t. refl))
+
+info_read : (m : Meta) → last_filled_in (codes "info") (meta_pairs m) ≡ filled_info m.info
+info_read m =
+    to_info (filled (codes "info")) m (λ t. refl) (λ t. refl) (λ t. refl) (λ t. refl)
+    ∙ found_info m.info (from_input m) (none_input (filled (codes "info")) m (λ t. refl) (λ t. refl) (λ t. refl))
+
+input_read : (m : Meta) → text_at (codes "input_file") (meta_pairs m) ≡ m.input_file
+input_read m =
+    ap (option_and_then tree_text) (to_input (named (codes "input_file")) m (λ t. refl) (λ t. refl) (λ t. refl) (λ t. refl) (λ t. refl))
+    ∙ found_text (codes "input_file") m.input_file (kind_pairs m.kind) refl (no_kind (named (codes "input_file")) m.kind (λ t. refl) (λ t. refl))
+
+kind_alone : (kind : SnapshotKind) → kind_told (kind_pairs kind) ≡ Some kind
+kind_alone Text = refl
+kind_alone (Binary extension) = refl
+
+kind_read : (m : Meta) → kind_told (meta_pairs m) ≡ Some m.kind
+kind_read m =
+    ap (λ o. if is_text (codes "binary") (option_and_then tree_text o) then binary_kind (text_at (codes "extension") (meta_pairs m)) else Some Text) (to_kind (named (codes "snapshot_kind")) m (λ t. refl) (λ t. refl) (λ t. refl) (λ t. refl) (λ t. refl) (λ t. refl))
+    ∙ ap (λ o. if is_text (codes "binary") (text_at (codes "snapshot_kind") (kind_pairs m.kind)) then binary_kind (option_and_then tree_text o) else Some Text) (to_kind (named (codes "extension")) m (λ t. refl) (λ t. refl) (λ t. refl) (λ t. refl) (λ t. refl) (λ t. refl))
+    ∙ kind_alone m.kind
+
+fields_read : (m : Meta) → IfSome m.assertion_line (λ n. n < 2 ^ 32) → without_nil_info m ≡ fields_told (meta_pairs m) m.kind
+fields_read m fits =
+    same_meta _ _ _ _ _ _ _ _ _ _ _ _ m.kind (sym (source_read m)) (sym (line_read m fits)) (sym (description_read m)) (sym (expression_read m))
+    (sym (info_read m)) (sym (input_read m))
+
+pub meta_tree-tells : (m : Meta) → IfSome m.assertion_line (λ n. n < 2 ^ 32) → TellsFields (meta_tree m) (without_nil_info m)
+meta_tree-tells m fits = record { pairs = meta_pairs m; is_map = refl; kind_is = kind_read m; fields_are = fields_read m fits }

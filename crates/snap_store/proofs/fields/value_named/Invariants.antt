@@ -1,8 +1,0 @@
-use Rattle.std.proofs.Common.{◌≡◌, take}
-use Rattle.std.specs.Prelude.{option_map}
-use Rattle.snap_content.specs.View.{tree}
-use Rattle.snap_store.proofs.Lookups.{last_where, named}
-use Rattle.snap_store.proofs.fields.value_named.Given as goal
-
-abbrev pub invariant-loop-key : goal.invariant-loop-key
-invariant-loop-key l = option_map (λ value. tree value.now) l.found ≡ option_map tree (last_where (named l.name) (take l.key-index l.pairs))
