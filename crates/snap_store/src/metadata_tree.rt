@@ -22,7 +22,8 @@ impl MetaData {
     /// a binary without a text `extension`.
     pub fn from_content(alloc: Global, content: &Content) -> Result<MetaData, Error>
         ensures end { TreeEnd (tree content.now) result }
-        ensures read { (plain : Plain) → tree content.now ≡ content_of plain → FieldsEnd plain result }
+        ensures read { (plain : Plain) → tree content.now ≡ content_of plain
+            → FieldsEnd plain result }
     {
         let Content::Map(pairs) = content else {
             return Err(Error::UnexpectedDataType);

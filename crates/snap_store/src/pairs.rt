@@ -12,7 +12,8 @@ use snap_content::characters::is_same;
 /// The value of the last pair of this name.
 pub(crate) fn last_named<'a>(pairs: &'a [(Content, Content)], name: &str) -> Option<&'a Content>
     requires { IsTrue (list_all is_ascii name.now) }
-    ensures { option_map (λ value. tree value.now) result ≡ last_in name.now (pair_trees pairs.now) }
+    ensures { option_map (λ value. tree value.now) result
+        ≡ last_in name.now (pair_trees pairs.now) }
 {
     let mut found = None;
     for (key, value) in pairs {

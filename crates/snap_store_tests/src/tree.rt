@@ -38,9 +38,15 @@ fn a_map_tells_metadata(rt: HostRuntime) -> Result<(), Fail> {
 fn lines_beyond_32_bits_are_absent(rt: HostRuntime) -> Result<(), Fail> {
     let alloc = rt.alloc();
     let last = placed(alloc, Content::U128(4_294_967_295))?;
-    assert_eq!(rt; MetaData::from_content(alloc, &last)?.assertion_line(), Some(u32::MAX));
+    assert_eq!(rt;
+        MetaData::from_content(alloc, &last)?.assertion_line(),
+        Some(u32::MAX)
+    );
     let beyond = placed(alloc, Content::U64(4_294_967_296))?;
-    assert_eq!(rt; MetaData::from_content(alloc, &beyond)?.assertion_line(), None);
+    assert_eq!(rt;
+        MetaData::from_content(alloc, &beyond)?.assertion_line(),
+        None
+    );
     Ok(())
 }
 
