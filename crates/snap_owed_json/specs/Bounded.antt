@@ -1,7 +1,8 @@
 -- The plain trees whose JSON text a scanner accepts: not too deep, and with keys that are not too long.
-use Rattle.std.specs.Prelude.{ℕ, suc, max, nat_le, nat_lt, length, Bool, false, not, ◌&&◌, ◌||◌}
+use Rattle.std.specs.Prelude.{◌≡◌, ℕ, suc, max, nat_le, nat_lt, length, List, Bool, true, false, not, ◌&&◌, ◌||◌}
 use Rattle.snap_content.specs.Plain.{Plain, list, dict, Plains, no_items, item, Entries, no_entries, entry}
-use Rattle.snap_json.specs.JsonText.{key_text}
+use Rattle.snap_json.specs.JsonText.{text_at, key_text, has_refused}
+use Rattle.snap_json.specs.declared.format.Format.TheVariants.{Condensed}
 
 abbrev mutual
   -- how many lists and dicts stand in one another at most
@@ -40,3 +41,7 @@ abbrev mutual
 -- lists and dicts nest at most 255 levels, and no key is long
 abbrev pub is_bounded : Plain → Bool
 is_bounded p = nat_le (levels p) 255 && not (has_long p)
+
+-- the text is the condensed JSON of a bounded tree, all of whose keys are texts
+abbrev pub IsJsonOf : Plain → List ℕ → Type 0
+IsJsonOf p text = (has_refused p ≡ false) × (is_bounded p ≡ true) × (text ≡ text_at Condensed 0 p)

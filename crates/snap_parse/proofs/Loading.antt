@@ -4,6 +4,11 @@ use Rattle.snap_content.specs.Lines.{document_of}
 use Rattle.snap_content.specs.Plain.{Plain}
 use Rattle.snap_owed.specs.Tokens.{document_tokens}
 use Rattle.snap_owed.proofs.Documents.{plain-source}
+use Rattle.snap_owed_json.specs.Bounded.{IsJsonOf}
+use Rattle.snap_owed_json.specs.Nodes.{json_node}
+use Rattle.snap_owed_json.specs.Tokens.{json_stream_tokens}
+use Rattle.snap_owed_json.proofs.Events.{json-events}
+use Rattle.snap_owed_json.proofs.Texts.{text-source}
 use Rattle.snap_scan.specs.Owed.{Owes}
 use Rattle.snap_scan.specs.Scan.{start_scan}
 use Rattle.snap_token.specs.Place.{before_nul}
@@ -14,7 +19,7 @@ use Rattle.snap_parser.specs.Twin.{Yields}
 use Rattle.snap_parse.specs.PrintedEvents.{node_of}
 use Rattle.snap_parse.proofs.PrintedRuns.{printed-events}
 use Rattle.snap_event.specs.declared.event.Event.{Event}
-use Rattle.snap_event.specs.Nodes.{stream_events}
+use Rattle.snap_event.specs.Nodes.{Node, stream_events}
 use Rattle.snap_event.specs.Streams.{IsStream}
 use Rattle.snap_event.proofs.Documents.{whole-streams}
 use Rattle.std.proofs.lemmas.Result.{IfOk-weaker}
@@ -67,9 +72,17 @@ printed-given source p parser is gives =
     let P : List ℕ → Type 0 = λ v. Owes (start_scan (before_nul v)).state (document_tokens p) in
     gives (document_tokens p) (stream_events (node_of p ∷ [])) (subst P (sym is) (plain-source p)) (printed-events p)
 
+-- the same of the JSON text of a bounded tree
+pub json-given : (source : List ℕ) (p : Plain) (parser : Parsing) → IsJsonOf p source
+    → ((tokens : List TokenType) (events : List Event) → Owes (start_scan (before_nul source)).state tokens → Yields start_spot tokens events → WillGive parser events)
+    → WillGive parser (stream_events (json_node p ∷ []))
+json-given source p parser is gives =
+    let P : List ℕ → Type 0 = λ v. Owes (start_scan (before_nul v)).state (json_stream_tokens p) in
+    gives (json_stream_tokens p) (stream_events (json_node p ∷ [])) (subst P (sym is.2) (text-source p is.0 is.1)) (json-events p is.0)
+
 -- the documents of a loader that got the events of one document
-pub made-one : (l : Loader) (r : Result Array ScanError) (p : Plain) → HasLoaded l (stream_events (node_of p ∷ [])) → IfOk r (λ list. HoldsDocuments l list)
-    → IfOk r (λ list. map value_of (array_list list) ≡ document_value (node_of p) ∷ [])
-made-one l r p told h =
-    IfOk-weaker r (λ list. HoldsDocuments l list) (λ list. map value_of (array_list list) ≡ document_value (node_of p) ∷ [])
-    (λ list holds. holds (stream_events (node_of p ∷ [])) told ∙ stream-steps (node_of p ∷ [])) h
+pub made-one : (l : Loader) (r : Result Array ScanError) (n : Node) → HasLoaded l (stream_events (n ∷ [])) → IfOk r (λ list. HoldsDocuments l list)
+    → IfOk r (λ list. map value_of (array_list list) ≡ document_value n ∷ [])
+made-one l r n told h =
+    IfOk-weaker r (λ list. HoldsDocuments l list) (λ list. map value_of (array_list list) ≡ document_value n ∷ [])
+    (λ list holds. holds (stream_events (n ∷ [])) told ∙ stream-steps (n ∷ [])) h

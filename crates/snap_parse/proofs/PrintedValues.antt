@@ -160,7 +160,7 @@ read-numeral z w x (kept is isnt) h =
     read-if (t.has_64_bits z) z w x (λ yes. absurd (clash (t.has_64_bits z) yes wide)) (λ _. is)
 read-numeral z w x (other never) h = absurd (never z h)
 
-number-read : (z : ℤ) → IsNumber z → typed_yaml (signed_decimal z) ≡ read_number z
+pub number-read : (z : ℤ) → IsNumber z → typed_yaml (signed_decimal z) ≡ read_number z
 number-read z within = read-numeral z (signed_decimal z) (typed_yaml (signed_decimal z)) (numeral (signed_decimal z)) (sym (typed_through (signed_decimal z)) ∙ words.typed_word (p.int z) refl within)
 
 -- nothing that is read is bad
@@ -168,7 +168,7 @@ bad-if : (b : Bool) (z : ℤ) (w : List ℕ) → is_bad (if b then v.integer z e
 bad-if true z w = refl
 bad-if false z w = refl
 
-never-bad : (x : p.Plain) → is_bad (read_value x) ≡ false
+pub never-bad : (x : p.Plain) → is_bad (read_value x) ≡ false
 never-bad p.null = refl
 never-bad (p.bool b) = refl
 never-bad (p.int z) = bad-if (t.has_64_bits z) z (signed_decimal z)
@@ -181,10 +181,10 @@ key-kept true k x vs h = absurd (cc)
 key-kept false k x vs h = refl
 
 -- a key that is not bad takes the value behind it
-pair-read : (a b : Option v.Value) (k x : v.Value) (vs : List v.Value) → a ≡ Some k → b ≡ Some x → is_bad k ≡ false → v.pairs_of (paired (and_some a (and_some b vs))) ≡ v.pair k x (v.pairs_of (paired vs))
+pub pair-read : (a b : Option v.Value) (k x : v.Value) (vs : List v.Value) → a ≡ Some k → b ≡ Some x → is_bad k ≡ false → v.pairs_of (paired (and_some a (and_some b vs))) ≡ v.pair k x (v.pairs_of (paired vs))
 pair-read a b k x vs e f h = let g : List (v.Value × v.Value) → v.ValuePairs = λ ps. v.pairs_of ps in rw (e, f) (ap g (key-kept (is_bad k) k x vs h))
 
-item-read : (a : Option v.Value) (x : v.Value) (vs : List v.Value) → a ≡ Some x → v.values_of (and_some a vs) ≡ v.value x (v.values_of vs)
+pub item-read : (a : Option v.Value) (x : v.Value) (vs : List v.Value) → a ≡ Some x → v.values_of (and_some a vs) ≡ v.value x (v.values_of vs)
 item-read a x vs e = rw e refl
 
 mutual
@@ -210,7 +210,7 @@ mutual
       pair-read (node_value (node_of k)) (node_value (node_of x)) (read_value k) (read_value x) (values_in_pairs (pairs_of es)) (value-read k within.0) (value-read x within.1.0) (never-bad k)
       ∙ ap f (pairs-read es within.1.1)
 
-value-of : (a : Option v.Value) (x : v.Value) → a ≡ Some x → unwrap_or a v.bad_value ≡ x
+pub value-of : (a : Option v.Value) (x : v.Value) → a ≡ Some x → unwrap_or a v.bad_value ≡ x
 value-of a x e = rw e refl
 
 pub document-read : (x : p.Plain) → IsWithin x → document_value (node_of x) ≡ read_value x

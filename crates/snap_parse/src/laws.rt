@@ -4,6 +4,7 @@ ghost use Rattle.snap_content.specs.Plain.{Plain};
 ghost use Rattle.snap_content.specs.Readable.{IsWithin};
 ghost use Rattle.snap_owed.specs.Tokens.{document_tokens};
 ghost use Rattle.snap_event.specs.Nodes.{Node, stream_events};
+ghost use Rattle.snap_owed_json.specs.Nodes.{json_node};
 ghost use Rattle.snap_parser.specs.Place.{start_spot};
 ghost use Rattle.snap_parser.specs.Twin.{Yields};
 ghost use Rattle.snap_parse.specs.Documents.{document_value};
@@ -26,4 +27,10 @@ pub const fn printed_tokens_yield_their_events()
 /// not, and a whole number that has more than 64 bits is kept as its digits.
 pub const fn printed_trees_are_read_as_they_are()
     ensures { (p : Plain) → IsWithin p → document_value (node_of p) ≡ read_value p }
+{}
+
+/// The JSON text of a plain tree is read as that tree, where its numbers have 128 bits: a text stays a text, since all of them
+/// stand in quotes, and a whole number that has more than 64 bits is kept as its digits.
+pub const fn json_trees_are_read_as_they_are()
+    ensures { (p : Plain) → IsWithin p → document_value (json_node p) ≡ read_value p }
 {}

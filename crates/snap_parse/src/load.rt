@@ -5,6 +5,8 @@ ghost use Rattle.snap_content.specs.Lines.{document_of};
 ghost use Rattle.snap_content.specs.Plain.{Plain};
 ghost use Rattle.snap_token.specs.Place.{before_nul};
 ghost use Rattle.snap_scan.specs.Sound.{IsFounded};
+ghost use Rattle.snap_owed_json.specs.Bounded.{IsJsonOf};
+ghost use Rattle.snap_owed_json.specs.Nodes.{json_node};
 ghost use Rattle.snap_yaml.specs.View.{value_of, array_list};
 ghost use Rattle.snap_parse.specs.Documents.{document_value};
 ghost use Rattle.snap_parse.specs.Loaded.{AreLoaded, scan_error};
@@ -28,6 +30,11 @@ impl YamlLoader {
             → IfOk result (λ made. map value_of (array_list made)
             ≡ document_value (node_of p) ∷ []) }
         ensures memory { (p : Plain) → chars source.now ≡ document_of p
+            → IfErr result (λ e. e ≡ ScanError.OutOfMemory) }
+        ensures json { (p : Plain) → IsJsonOf p (chars source.now)
+            → IfOk result (λ made. map value_of (array_list made)
+            ≡ document_value (json_node p) ∷ []) }
+        ensures json_memory { (p : Plain) → IsJsonOf p (chars source.now)
             → IfErr result (λ e. e ≡ ScanError.OutOfMemory) }
         ensures cause { IfErr result (λ e. IsFounded (before_nul (chars source.now)) e) }
     {

@@ -3,8 +3,10 @@ use Rattle.std.specs.Str.{chars}
 use Rattle.snap_event.specs.Meaning.{ahead, is_inside}
 use Rattle.snap_parser.specs.declared.error.LoadError.TheVariants.{OutOfMemory}
 use Rattle.snap_parser.specs.Parsing.{Parsing, meaning}
+use Rattle.snap_owed_json.specs.Nodes.{json_node}
+use Rattle.snap_parse.specs.PrintedEvents.{node_of}
 use Rattle.snap_parse.specs.Loaded.{scan_error}
-use Rattle.snap_parse.proofs.Loading.{made, made-one, printed-given}
+use Rattle.snap_parse.proofs.Loading.{made, made-one, printed-given, json-given}
 use Rattle.snap_parse.proofs.load.YamlLoader.load_from_str.Goals as goal
 
 pub returns-in-Ok-clause-documents : goal.returns-in-Ok-clause-documents
@@ -17,12 +19,26 @@ pub returns-in-Ok-clause-printed : goal.returns-in-Ok-clause-printed
 returns-in-Ok-clause-printed c =
     λ p is.
     let will = printed-given (chars c.args.source.now) p c.new-parser.result is c.new-parser.ensures.gives in
-    made-one c.load.new.receiver c.into_documents.result p (c.in-Ok.ensures.gives _ _ refl will [] c.new-loader.ensures) c.into_documents.ensures.ok
+    made-one c.load.new.receiver c.into_documents.result (node_of p) (c.in-Ok.ensures.gives _ _ refl will [] c.new-loader.ensures) c.into_documents.ensures.ok
 
 pub returns-clause-memory : goal.returns-clause-memory
 returns-clause-memory c =
     λ p is.
     let will = printed-given (chars c.args.source.now) p c.new-parser.result is c.new-parser.ensures.gives in
+    let f : Parsing → Bool = λ v. is_inside (meaning v) in
+    let e : c.in-Err.error ≡ OutOfMemory = c.in-Err.ensures.memory _ (ap f c.new-parser.ensures.start) will in
+    c.refusal.ensures ∙ ap scan_error e
+
+pub returns-in-Ok-clause-json : goal.returns-in-Ok-clause-json
+returns-in-Ok-clause-json c =
+    λ p is.
+    let will = json-given (chars c.args.source.now) p c.new-parser.result is c.new-parser.ensures.gives in
+    made-one c.load.new.receiver c.into_documents.result (json_node p) (c.in-Ok.ensures.gives _ _ refl will [] c.new-loader.ensures) c.into_documents.ensures.ok
+
+pub returns-clause-json_memory : goal.returns-clause-json_memory
+returns-clause-json_memory c =
+    λ p is.
+    let will = json-given (chars c.args.source.now) p c.new-parser.result is c.new-parser.ensures.gives in
     let f : Parsing → Bool = λ v. is_inside (meaning v) in
     let e : c.in-Err.error ≡ OutOfMemory = c.in-Err.ensures.memory _ (ap f c.new-parser.ensures.start) will in
     c.refusal.ensures ∙ ap scan_error e
