@@ -11,7 +11,10 @@ use Rattle.snap_content.proofs.PlainMade.{plain_made}
 use Rattle.snap_yaml.specs.Value.{Value}
 use Rattle.snap_parse.specs.Documents.{document_value}
 use Rattle.snap_parse.specs.PrintedEvents.{node_of}
+use Rattle.snap_parse.specs.PrintedValues.{read_value}
 use Rattle.snap_parse.proofs.PrintedValues.{document-read}
+use Rattle.snap_parse.proofs.JsonValues.{json-read}
+use Rattle.snap_owed_json.specs.Nodes.{json_node}
 use Rattle.snap_emit.specs.Parsed.{IsReadFrom}
 use Rattle.snap_emit.specs.PlainRead.{IsPlain, plain_read, has_number_text}
 use Rattle.snap_emit.specs.declared.loaded.Loaded.{Loaded}
@@ -30,12 +33,19 @@ number-known : (o : Option Content) (p : Plain) (found known : Bool) → IsSomeA
 number-known None p found known some is = absurd some
 number-known (Some made) p found known some is = is
 
--- the value of a printed document
-document-back : (value : Value) (p : Plain) → IsWithin p → value ≡ document_value (node_of p) → plain_read value ≡ Some p
-document-back value p within is = ap plain_read (is ∙ document-read p within) ∙ read-back p within
+-- the value of a document that is read as a tree
+document-back : (value : Value) (p : Plain) → IsWithin p → value ≡ read_value p → plain_read value ≡ Some p
+document-back value p within is = ap plain_read is ∙ read-back p within
 
-document-clear : (value : Value) (p : Plain) → IsWithin p → value ≡ document_value (node_of p) → has_number_text value ≡ false
-document-clear value p within is = ap has_number_text (is ∙ document-read p within) ∙ no-number-text p within
+document-clear : (value : Value) (p : Plain) → IsWithin p → value ≡ read_value p → has_number_text value ≡ false
+document-clear value p within is = ap has_number_text is ∙ no-number-text p within
+
+-- of a printed text, and of a JSON text
+pub printed-read : (value : Value) (p : Plain) → IsWithin p → value ≡ document_value (node_of p) → value ≡ read_value p
+printed-read value p within is = is ∙ document-read p within
+
+pub json-text-read : (value : Value) (p : Plain) → IsWithin p → value ≡ document_value (json_node p) → value ≡ read_value p
+json-text-read value p within is = is ∙ json-read p within
 
 -- what is made of a document's value
 abbrev IsMade : Value → Loaded → Type 0
@@ -48,13 +58,13 @@ pub loaded-plain : {E : Type 0} (r : Result Loaded E) (value : Value) → IfOk r
 loaded-plain r value h =
     IfOk-weaker r (λ found. IsMade value found) (λ found. IfSome found.content (λ made. IsPlain made)) (λ found is. content-plain found.content (plain_read value) is) h
 
-pub loaded-printed : {E : Type 0} (r : Result Loaded E) (value : Value) (p : Plain) → IsWithin p → value ≡ document_value (node_of p) → IfOk r (λ found. IsMade value found)
+pub loaded-tree : {E : Type 0} (r : Result Loaded E) (value : Value) (p : Plain) → IsWithin p → value ≡ read_value p → IfOk r (λ found. IsMade value found)
     → IfOk r (λ found. IsSomeAnd found.content (λ made. tree made ≡ content_of p))
-loaded-printed r value p within read h =
+loaded-tree r value p within read h =
     IfOk-weaker r (λ found. IsMade value found) (λ found. IsSomeAnd found.content (λ made. tree made ≡ content_of p))
     (λ found is. content-printed found.content (plain_read value) p is (document-back value p within read)) h
 
-pub loaded-numbers : {E : Type 0} (r : Result Loaded E) (value : Value) (p : Plain) → IsWithin p → value ≡ document_value (node_of p) → IfOk r (λ found. IsMade value found)
+pub loaded-numbers : {E : Type 0} (r : Result Loaded E) (value : Value) (p : Plain) → IsWithin p → value ≡ read_value p → IfOk r (λ found. IsMade value found)
     → IfOk r (λ found. IsFound value found) → IfOk r (λ found. found.has_number_text ≡ false)
 loaded-numbers (Ok found) value p within read h k =
     number-known found.content p found.has_number_text (has_number_text value) (content-printed found.content (plain_read value) p h (document-back value p within read)) k

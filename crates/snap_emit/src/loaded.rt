@@ -5,6 +5,8 @@ ghost use Rattle.snap_content.specs.Lines.{document_of};
 ghost use Rattle.snap_content.specs.Plain.{Plain, content_of};
 ghost use Rattle.snap_content.specs.Readable.{IsWithin};
 ghost use Rattle.snap_content.specs.View.{tree};
+ghost use Rattle.snap_owed_json.specs.Bounded.{IsJsonOf};
+ghost use Rattle.snap_owed_json.specs.Nodes.{json_node};
 ghost use Rattle.snap_yaml.specs.Value.{Value};
 ghost use Rattle.snap_yaml.specs.View.{value_of, array_list};
 ghost use Rattle.snap_parse.specs.Documents.{document_value};
@@ -38,9 +40,12 @@ fn only(documents: Array) -> Option<Yaml>
 
 /// The one document of a text. There is none where the text is no YAML, or where it has none or several.
 fn only_document(alloc: Global, text: &str) -> Result<Option<Yaml>, OutOfMemory>
-    ensures { (p : Plain) → chars text.now ≡ document_of p
+    ensures printed { (p : Plain) → chars text.now ≡ document_of p
         → IfOk result (λ found. IsSomeAnd found
         (λ document. value_of document ≡ document_value (node_of p))) }
+    ensures json { (p : Plain) → IsJsonOf p (chars text.now)
+        → IfOk result (λ found. IsSomeAnd found
+        (λ document. value_of document ≡ document_value (json_node p))) }
 {
     match YamlLoader::load_from_str(alloc, text) {
         Ok(documents) => Ok(only(documents)),
@@ -64,13 +69,17 @@ fn document_tree(alloc: Global, document: Yaml) -> Result<Loaded, OutOfMemory>
     })
 }
 
-/// What the text's one document is as a tree: of a printed text the tree that was printed, in which no number stands as its
-/// text.
+/// What the text's one document is as a tree: of a printed text the tree that was printed, and of the JSON text of a bounded
+/// tree that tree; in neither a number stands as its text.
 pub(crate) fn load_tree(alloc: Global, text: &str) -> Result<Loaded, OutOfMemory>
     ensures plain { IfOk result (λ found. IfSome found.content (λ made. IsPlain made)) }
     ensures printed { (p : Plain) → IsWithin p → chars text.now ≡ document_of p
         → IfOk result (λ found. IsSomeAnd found.content (λ made. tree made ≡ content_of p)) }
     ensures numbers { (p : Plain) → IsWithin p → chars text.now ≡ document_of p
+        → IfOk result (λ found. found.has_number_text ≡ false) }
+    ensures json { (p : Plain) → IsWithin p → IsJsonOf p (chars text.now)
+        → IfOk result (λ found. IsSomeAnd found.content (λ made. tree made ≡ content_of p)) }
+    ensures json_numbers { (p : Plain) → IsWithin p → IsJsonOf p (chars text.now)
         → IfOk result (λ found. found.has_number_text ≡ false) }
 {
     match only_document(alloc, text)? {

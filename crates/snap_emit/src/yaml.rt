@@ -1,11 +1,12 @@
 //! The text of a tree, and the tree of a text.
-ghost use Rattle.std.specs.Prelude.{◌≡◌, false, IfOk};
+ghost use Rattle.std.specs.Prelude.{◌≡◌, false, IfOk, IfErr};
 ghost use Rattle.std.specs.Str.{chars};
 ghost use Rattle.snap_content.specs.Lines.{document_of, lines_of, text_of};
 ghost use Rattle.snap_content.specs.Plain.{Plain, plain, content_of};
 ghost use Rattle.snap_content.specs.Printed.{AreLines};
 ghost use Rattle.snap_content.specs.Readable.{IsWithin};
 ghost use Rattle.snap_content.specs.View.{tree};
+ghost use Rattle.snap_owed_json.specs.Bounded.{IsJsonOf};
 ghost use Rattle.snap_emit.specs.Parsed.{ParseEnd, HeaderEnd};
 
 use crate::loaded::{Loaded, load_tree};
@@ -43,13 +44,18 @@ pub fn body_to_string(alloc: Global, content: &Content) -> Result<Text, OutOfMem
     Ok(text)
 }
 
-/// The tree of a YAML text that is one document: of a printed text the tree that was printed. A number that is no whole number
+/// The tree of a YAML text that is one document: of a printed text the tree that was printed, and of the JSON text of a bounded
+/// tree, whose numbers have 128 bits, that tree. A number that is no whole number
 /// of 128 bits refuses it with `FloatText`, and all else that is no tree with `FailedParsingYaml`, whichever stands first, with
 /// the path.
 pub fn parse_str(alloc: Global, text: &str, path: &Text) -> Result<Content, Error>
     ensures end { ParseEnd (chars text.now) path.now result }
     ensures read { (t : Plain) → IsWithin t → chars text.now ≡ document_of t
         → IfOk result (λ made. tree made ≡ content_of t) }
+    ensures json { (t : Plain) → IsWithin t → IsJsonOf t (chars text.now)
+        → IfOk result (λ made. tree made ≡ content_of t) }
+    ensures json_memory { (t : Plain) → IsWithin t → IsJsonOf t (chars text.now)
+        → IfErr result (λ e. e ≡ Error.OutOfMemory) }
 {
     let Loaded {
         content,
@@ -69,6 +75,12 @@ pub fn parse_header(alloc: Global, text: &str, path: &Text) -> Result<Header, Er
     ensures end { HeaderEnd (chars text.now) path.now result }
     ensures read { (t : Plain) → IsWithin t → chars text.now ≡ document_of t
         → IfOk result (λ header. tree header.content ≡ content_of t) }
+    ensures json { (t : Plain) → IsWithin t → IsJsonOf t (chars text.now)
+        → IfOk result (λ header. tree header.content ≡ content_of t) }
+    ensures json_numbers { (t : Plain) → IsWithin t → IsJsonOf t (chars text.now)
+        → IfOk result (λ header. header.number_as_text ≡ false) }
+    ensures json_memory { (t : Plain) → IsWithin t → IsJsonOf t (chars text.now)
+        → IfErr result (λ e. e ≡ Error.OutOfMemory) }
 {
     let Loaded {
         content,
