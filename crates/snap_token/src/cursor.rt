@@ -141,7 +141,10 @@ impl<'a> Cursor<'a> {
         ensures lighter { length self.new.left ≤ length self.old.left }
         ensures end { is_of kind (slice_index self.new.left 0) ≡ false }
     {
-        'characters: while kind.has(self.ch()) {
+        'characters: while let Some((first, _)) = split_first(self.rest) {
+            if !kind.has(first) {
+                return;
+            }
             self.skip();
         }
     }
