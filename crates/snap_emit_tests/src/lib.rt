@@ -3,6 +3,8 @@
 #![tactic(auto)]
 
 #[cfg(test)]
+mod json;
+#[cfg(test)]
 mod original;
 #[cfg(test)]
 mod original_rows;
