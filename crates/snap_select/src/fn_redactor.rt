@@ -31,10 +31,14 @@ pub struct FnRedactor {
 impl FnRedactor {
     ghost use Rattle.snap_select.specs.Put.{Gives};
 
-    /// The function in this box, which the caller makes, so that its contract is known there.
+    /// The function in this box, which the caller makes, so that its contract is known there: whatever it puts is what that
+    /// contract promises of a call on such a value behind such steps.
     pub fn new(func: RedactFn) -> FnRedactor
         requires { RedactFn.IsAlwaysCallable func }
-        ensures { result.func ≡ func }
+        ensures { (t : Tree) (steps : List Step) (out : Tree) → Gives result t steps out
+            → (alloc : _) × (value : _) × (path : _) × (new : _) × (tree value ≡ t)
+            × (map step_of path.now ≡ steps) × (tree new ≡ out)
+            × RedactFn.post func alloc value path (Ok new) }
     {
         FnRedactor { func }
     }
