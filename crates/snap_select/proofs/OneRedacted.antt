@@ -1,5 +1,5 @@
--- Where the tree that is put follows from the value alone, one tree is redacted; and what one relation allows, a weaker one allows.
-use Rattle.std.proofs.Common.{◌≡◌, ℕ, suc, Bool, true, false, MatchBool, List, [], ◌∷◌, ◌++◌, cond, ap, ◌∙◌}
+-- Where the tree that is put follows from the value alone, one tree is redacted, and it is named; and what one relation allows, a weaker one allows.
+use Rattle.std.proofs.Common.{◌≡◌, ℕ, suc, Bool, true, false, MatchBool, List, [], ◌∷◌, ◌++◌, cond, refl, ap, ◌∙◌}
 use Rattle.std.specs.Prelude.{codes}
 use Rattle.snap_content.specs.Tree as t
 use Rattle.snap_select.specs.Matching.{Step, path_match, to_item, into_field, under_key}
@@ -62,6 +62,56 @@ mutual
 
 pub one_redacted : (ss : Parts) (put : t.Tree → t.Tree) (c out : t.Tree) → IsRedacted ss (only put) c out → out ≡ redacted ss put [] c
 one_redacted ss put c out p = one_at ss put [] c out (one_inside ss put [] c out) p.parts
+
+-- and the named tree is redacted so
+named_cases : (b : Bool) (now other : t.Tree) (Else : t.Tree → Type 0) → Else other → MatchBool b (cond b now other ≡ now) (Else (cond b now other))
+named_cases true now other Else p = refl
+named_cases false now other Else p = p
+
+module _ (ss : Parts) (put : t.Tree → t.Tree) where
+  named_at : (path : List Step) (c : t.Tree) → Inside ss (only put) path c (inside ss put path c) → RedactedAt ss (only put) path c (redacted ss put path c)
+  named_at path c = named_cases (path_match ss path) (put c) (inside ss put path c) (Inside ss (only put) path c)
+
+  mutual
+    named_inside : (path : List Step) (c : t.Tree) → Inside ss (only put) path c (inside ss put path c)
+    named_inside path (t.some inner) = (redacted ss put path inner, refl, named_at path inner (named_inside path inner))
+    named_inside path (t.newtype_struct name inner) = (redacted ss put path inner, refl, named_at path inner (named_inside path inner))
+    named_inside path (t.newtype_variant name index variant inner) = (redacted ss put path inner, refl, named_at path inner (named_inside path inner))
+    named_inside path (t.seq items) = (redacted_items ss put path (count_of items) 0 items, refl, named_items path (count_of items) 0 items)
+    named_inside path (t.tuple items) = (redacted_items ss put path (count_of items) 0 items, refl, named_items path (count_of items) 0 items)
+    named_inside path (t.tuple_struct name items) = (redacted_items ss put path (count_of items) 0 items, refl, named_items path (count_of items) 0 items)
+    named_inside path (t.tuple_variant name index variant items) = (redacted_items ss put path (count_of items) 0 items, refl, named_items path (count_of items) 0 items)
+    named_inside path (t.map pairs) = (redacted_pairs ss put path pairs, refl, named_pairs path pairs)
+    named_inside path (t.struct name fields) = (redacted_fields ss put path fields, refl, named_fields path fields)
+    named_inside path (t.struct_variant name index variant fields) = (redacted_fields ss put path fields, refl, named_fields path fields)
+    named_inside path other = refl
+
+    named_items : (path : List Step) (total index : ℕ) (items : t.Trees) → ItemsRedacted ss (only put) path total index items (redacted_items ss put path total index items)
+    named_items path total index t.no_trees = refl
+    named_items path total index (t.tree first rest) =
+        let here = path ++ to_item index total ∷ [] in
+        (redacted ss put here first, redacted_items ss put path total (suc index) rest, refl, named_at here first (named_inside here first), named_items path total (suc index) rest)
+
+    named_pairs : (path : List Step) (pairs : t.TreePairs) → PairsRedacted ss (only put) path pairs (redacted_pairs ss put path pairs)
+    named_pairs path t.no_pairs = refl
+    named_pairs path (t.pair key value rest) = let at_key = path ++ into_field (codes "$key") ∷ [] in let at_value = path ++ under_key key ∷ [] in (
+      redacted ss put at_key key,
+      redacted ss put at_value value,
+      redacted_pairs ss put path rest,
+      refl,
+      named_at at_key key (named_inside at_key key),
+      named_at at_value value (named_inside at_value value),
+      named_pairs path rest,
+    )
+
+    named_fields : (path : List Step) (fields : t.TreeFields) → FieldsRedacted ss (only put) path fields (redacted_fields ss put path fields)
+    named_fields path t.no_fields = refl
+    named_fields path (t.field name value rest) =
+        let here = path ++ into_field name ∷ [] in
+        (redacted ss put here value, redacted_fields ss put path rest, refl, named_at here value (named_inside here value), named_fields path rest)
+
+  pub named_redacted : (c : t.Tree) → IsRedacted ss (only put) c (redacted ss put [] c)
+  named_redacted c = record { parts = named_at [] c (named_inside [] c) }
 
 put_weaker : (m : Bool) (P Q R S : Type 0) → (P → Q) → (R → S) → MatchBool m P R → MatchBool m Q S
 put_weaker true P Q R S f g p = f p

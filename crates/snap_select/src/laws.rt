@@ -10,6 +10,7 @@ ghost use Rattle.snap_select.specs.Parts.{Parts};
 ghost use Rattle.snap_select.specs.Reading.{outcome, before_part, selects};
 ghost use Rattle.snap_select.specs.Redacted.{redacted};
 ghost use Rattle.snap_select.specs.Redacting.{IsRedacted, only};
+ghost use Rattle.snap_select.specs.Redacts.{IsHit, Redacts};
 ghost use Rattle.snap_select.specs.Selected.{selected};
 ghost use Rattle.snap_select.specs.SortedTree.{sorted_tree};
 
@@ -49,6 +50,14 @@ pub const fn sorting_makes_the_sorted_tree()
 pub const fn one_redacted_tree()
     ensures { (ss : Parts) (put : Tree → Tree) (c out : Tree) → IsRedacted ss (only put) c out
         → out ≡ redacted ss put [] c }
+{}
+
+/// That one tree is what a redaction makes of the tree, position by position; and it is the tree itself where no position is hit.
+pub const fn redacted_parts_are_the_redaction()
+    ensures redacts { (ss : Parts) (put : Tree → Tree) (c : Tree)
+        → Redacts ss (only put) c (redacted ss put [] c) }
+    ensures untouched { (ss : Parts) (put : Tree → Tree) (c : Tree)
+        → ((position : List ℕ) → ¬ IsHit ss [] c position) → redacted ss put [] c ≡ c }
 {}
 
 /// A stable sort has one outcome, the list in order: of trees, of the pairs of a map, and of the fields of a struct.
