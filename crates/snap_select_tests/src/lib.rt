@@ -1,12 +1,8 @@
-//! Tests of `snap_select` through its public calls: texts of selectors, redacted trees, and callers' own redactions.
+//! Tests of `snap_select` through its public calls: texts of selectors, and which paths they match.
 //! They stand apart, since a crate with tests is proved twice.
 #![tactic(auto)]
 
 #[cfg(test)]
-mod redacting;
-#[cfg(test)]
-mod redactors;
+mod matching;
 #[cfg(test)]
 mod texts;
-#[cfg(test)]
-mod users;
