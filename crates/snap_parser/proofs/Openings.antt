@@ -41,7 +41,8 @@ alias-founded source t f name is took =
     (subst P is took.taken.shown.signs, took.taken.shown.mark)
 
 -- behind an alias the state holds that held before
-pub behind-alias : (source : List ℕ) (t : Token) (f old : Tokens) (name : List ℕ) (y : State) (ys : List State) → t.1 ≡ k.Alias name → Took source t f → IsSoundIn source old y ys → IsSoundIn source f y ys
-behind-alias source t f old name y ys is took sound =
+pub behind-alias : (source : List ℕ) (t : Token) (f : Tokens) (name : List ℕ) (y : State) (ys : List State) → t.1 ≡ k.Alias name → Took source t f → HasSigns source y → All (HasSigns source) ys
+    → IsSoundIn source f y ys
+behind-alias source t f name y ys is took here all =
     let end : TokenType → Bool = λ v. is_end v in
-    record { feeds = took.on (ap end is); here = sound.here; outer = sound.outer }
+    record { feeds = took.on (ap end is); here = here; outer = all }

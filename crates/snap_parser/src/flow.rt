@@ -1,4 +1,7 @@
 //! Sequences and mappings in flow.
+ghost use Rattle.std.specs.Prelude.{◌+◌, ◌≤◌, false, OnOk};
+ghost use Rattle.snap_parser.specs.Feed.{tokens_left};
+
 use crate::machine::{Machine, ParseResult};
 use crate::state::{Ends, Stage, State};
 use crate::tokens::unexpected;
@@ -6,8 +9,8 @@ use snap_event::Event;
 use snap_token::{Marker, ScanInfo, Token, TokenType};
 
 impl<'a> Machine<'a> {
-    ghost use Rattle.snap_parser.specs.Machine.{KeepsSoundIn, GivesIn, PaysIn, KeepsNames, StaysOnError};
-    ghost use Rattle.snap_parser.specs.Twin.{Follows, flow_entry_step, flow_first_key_step, flow_first_step, flow_key_step, flow_value_step};
+    ghost use Rattle.snap_parser.specs.Machine.{events_now, events_before, KeepsSoundIn, GivesIn, GivesNode, PaysIn, KeepsNames, StaysOnError};
+    ghost use Rattle.snap_parser.specs.Twin.{Follows, filled_step, flow_entry_step, flow_first_key_step, flow_first_step, flow_key_step, flow_value_step};
 
     /// What stands behind `[` or a comma.
     pub(crate) fn flow_sequence_item(&mut self) -> ParseResult<'a>
@@ -169,16 +172,33 @@ impl<'a> Machine<'a> {
         ensures twin { Follows (flow_value_step self.old.outer.items) result self.old self.new }
     {
         match self.tokens.take()? {
-            Token(mark, TokenType::Value) => match self.tokens.empty_node_at(Ends::FlowValue)? {
-                Some(_) => self.give_empty(mark, State::FlowMappingKey),
-                None => self.parse_node(false, false, State::FlowMappingKey),
-            },
+            Token(mark, TokenType::Value) => self.parse_flow_value(mark),
             token => {
                 let mark = token.0;
                 self.tokens.put_back(token);
                 self.give_empty(mark, State::FlowMappingKey)
             }
         }
+    }
+
+    /// A value behind its `:`, which has this place.
+    fn parse_flow_value(&mut self, mark: Marker) -> ParseResult<'a>
+        ensures event { GivesNode State.FlowMappingKey result self.old self.new }
+        ensures left { OnOk result (events_now self.new
+            ≤ events_before (tokens_left self.old.tokens) State.FlowMappingKey self.old + 1) }
+        ensures names { KeepsNames result self.old self.new }
+        ensures same { StaysOnError result self.old self.new }
+        ensures sound { KeepsSoundIn State.FlowMappingKey result self.old self.new }
+        ensures twin { Follows
+            (filled_step Ends.FlowValue false false State.FlowMappingKey self.old.outer.items)
+            result self.old self.new }
+    {
+        let token = self.tokens.take()?;
+        if !Ends::FlowValue.has(&token.1) {
+            return self.parse_node_from(token, false, false, State::FlowMappingKey);
+        }
+        self.tokens.put_back(token);
+        self.give_empty(mark, State::FlowMappingKey)
     }
 
     pub(crate) fn flow_mapping_empty_value(&mut self) -> ParseResult<'a>

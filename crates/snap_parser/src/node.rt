@@ -32,7 +32,34 @@ impl<'a> Machine<'a> {
         ensures twin { Follows (node_step is_block is_indentless behind self.old.outer.items)
             result self.old self.new }
     {
-        match self.tokens.take()? {
+        let token = self.tokens.take()?;
+        self.parse_node_from(token, is_block, is_indentless, behind)
+    }
+
+    /// The node that a token begins, which was taken.
+    pub(crate) fn parse_node_from(
+        &mut self,
+        token: Token<'a>,
+        is_block: bool,
+        is_indentless: bool,
+        behind: State,
+    ) -> ParseResult<'a>
+        ensures event { GivesNode behind result self.old self.new }
+        ensures left { OnOk result (events_now self.new
+            ≤ events_before (tokens_left self.old.tokens) behind self.old
+            + (2 + if_indentless is_indentless)) }
+        ensures names { KeepsNames result self.old self.new }
+        ensures same { StaysOnError result self.old self.new }
+        ensures sound { (source : List ℕ) → Took source token.entry self.old.tokens
+            → HasSigns source behind → All (HasSigns source) self.old.outer.items
+            → StaysSound source result self.new.tokens (spot_of self.new) }
+        ensures twin { (rest : List Kind) (found : Parsed) → WillTake self.old.tokens rest
+            → self.old.tokens.held ≡ None
+            → node_step is_block is_indentless behind self.old.outer.items (token.entry.1 ∷ rest)
+            ≡ Some found
+            → Parses result (spot_of self.new) self.new.tokens found }
+    {
+        match token {
             Token(mark, TokenType::Alias(name)) => self.parse_alias(mark, &name, behind),
             Token(_, TokenType::Anchor(name)) => {
                 let anchor = self.anchors.register(name)?;
@@ -220,9 +247,12 @@ impl<'a> Machine<'a> {
         ensures twin { Follows (filled_step ends is_block is_indentless behind self.old.outer.items)
             result self.old self.new }
     {
-        match self.tokens.empty_node_at(ends)? {
-            Some(mark) => self.give_empty(mark, behind),
-            None => self.parse_node(is_block, is_indentless, behind),
+        let token = self.tokens.take()?;
+        if !ends.has(&token.1) {
+            return self.parse_node_from(token, is_block, is_indentless, behind);
         }
+        let mark = token.0;
+        self.tokens.put_back(token);
+        self.give_empty(mark, behind)
     }
 }

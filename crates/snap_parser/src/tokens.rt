@@ -1,16 +1,14 @@
 //! The tokens of a text, the next of which may be looked at.
-ghost use Rattle.std.specs.Prelude.{◌≡◌, ◌≤◌, ◌+◌, ℕ, List, IfOk, OnOk, true, ◌∷◌, false, None, is_some};
-ghost use Rattle.std.specs.Option.{option_map_or};
+ghost use Rattle.std.specs.Prelude.{◌≡◌, ◌≤◌, ◌+◌, ℕ, List, IfOk, OnOk, true, ◌∷◌, false, None};
 ghost use Rattle.std.specs.Str.{chars};
 ghost use Rattle.snap_token.specs.Place.{before_nul, mark_of};
 ghost use Rattle.snap_scan.specs.Sound.{is_start};
 ghost use Rattle.snap_token.specs.declared.token.TokenType.{TokenType as Kind};
 ghost use Rattle.snap_scan.specs.Owed.{type_of};
-ghost use Rattle.snap_parser.specs.Ends.{ends_at, is_document_end, is_directive};
+ghost use Rattle.snap_parser.specs.Ends.{is_document_end, is_directive};
 ghost use Rattle.snap_parser.specs.Taking.{WillTake, TakesFirst, StillTakes};
 ghost use Rattle.snap_parser.specs.Feed.{start_tokens, tokens_left, starts, Feeds, Took, Takes, FeedsOn};
 
-use crate::state::Ends;
 use snap_scan::Scanner;
 use snap_token::{Marker, ScanError, ScanInfo, Token, TokenType};
 use std::alloc::Global;
@@ -55,54 +53,8 @@ impl<'a> Tokens<'a> {
         ensures left { tokens_left self.new ≤ tokens_left self.old + 1 }
         ensures takes { (ts : List Kind) → self.old.held ≡ None → WillTake self.old ts
             → WillTake self.new (type_of token.entry ∷ ts) }
-        ensures held { is_some self.new.held ≡ true }
     {
         self.held = Some(token);
-    }
-
-    /// Looks at the next token, which is held from then on.
-    fn look(&mut self) -> Result<(), ScanError>
-        ensures sound { (source : List ℕ) → Feeds source self.old → FeedsOn source result self.new }
-        ensures left { OnOk result (tokens_left self.new ≤ tokens_left self.old) }
-        ensures takes { (t : Kind) (ts : List Kind) → WillTake self.old (t ∷ ts)
-            → StillTakes result self.new (t ∷ ts) }
-        ensures held { OnOk result (is_some self.new.held ≡ true) }
-    {
-        if self.held.is_some() {
-            return Ok(());
-        }
-        let token = self.take()?;
-        self.put_back(token);
-        Ok(())
-    }
-
-    /// The place of the token that is held, where a node is empty before it.
-    fn held_at(&self, ends: Ends) -> Option<Marker>
-        ensures { is_some result ≡ option_map_or (λ token. ends_at ends (type_of token)) self.now.held false }
-    {
-        match &self.held {
-            None => None,
-            Some(token) => {
-                if ends.has(&token.1) {
-                    Some(token.0)
-                } else {
-                    None
-                }
-            }
-        }
-    }
-
-    /// The place of the next token, where a node is empty before it.
-    pub(crate) fn empty_node_at(&mut self, ends: Ends) -> Result<Option<Marker>, ScanError>
-        ensures sound { (source : List ℕ) → Feeds source self.old → FeedsOn source result self.new }
-        ensures left { OnOk result (tokens_left self.new ≤ tokens_left self.old) }
-        ensures takes { (t : Kind) (ts : List Kind) → WillTake self.old (t ∷ ts)
-            → StillTakes result self.new (t ∷ ts) }
-        ensures empty { (t : Kind) (ts : List Kind) → WillTake self.old (t ∷ ts)
-            → IfOk result (λ mark. is_some mark ≡ ends_at ends t) }
-    {
-        self.look()?;
-        Ok(self.held_at(ends))
     }
 
     /// Passes the ends of documents over.
