@@ -1,0 +1,82 @@
+-- The ends of saving, exit by exit.
+use Rattle.std.proofs.Common.{◌≡◌, ℕ, Bool, false, List, Option, Some, Result, Ok, Err, refl, ap, sym, ◌∙◌, subst, OnOk, OnErr, IsErrOf}
+use Rattle.std.proofs.lemmas.Str.{encodes-chars}
+use Rattle.std.specs.Prelude.{encode_utf8_all}
+use Rattle.std.specs.Str.{IsUtf8, chars}
+use Rattle.snap_content.specs.declared.error.Error.{Error}
+use Rattle.snap_content.specs.declared.error.Error.TheVariants.{FailedParsingYaml, UnexpectedDataType, MissingField, FileIo, FloatText, JsonKey, NotText, NoFile, OutOfMemory}
+use Rattle.snap_outside.specs.Files.{Files, SameBut, appended}
+use Rattle.snap_store.specs.Causes.{ErrorCause}
+use Rattle.snap_store.specs.Reading.{SaveEnd}
+use Rattle.snap_pending.specs.Saved.{SavingEnd, SavingRefused, PrintRefused}
+
+-- what was printed was written, or failed
+pub saved : {T : Type 0} → (path : List ℕ) (refused : Bool) (result : Result T Error) → refused ≡ false → SaveEnd path result → SavingEnd path refused result
+saved path refused (Ok done) accepted end = accepted
+saved path refused (Err (FileIo named)) accepted end = (end, accepted)
+saved path refused (Err OutOfMemory) accepted end = tt
+saved path refused (Err (FailedParsingYaml named)) accepted end = absurd end
+saved path refused (Err UnexpectedDataType) accepted end = absurd end
+saved path refused (Err MissingField) accepted end = absurd end
+saved path refused (Err (FloatText named)) accepted end = absurd end
+saved path refused (Err JsonKey) accepted end = absurd end
+saved path refused (Err (NotText named)) accepted end = absurd end
+saved path refused (Err (NoFile named)) accepted end = absurd end
+
+-- what was not printed was not written
+pub unprinted : (path : List ℕ) (refused : Bool) (error : Error) → PrintRefused refused error → SavingRefused path refused error
+unprinted path refused JsonKey end = end
+unprinted path refused OutOfMemory end = tt
+unprinted path refused (FileIo named) end = absurd end
+unprinted path refused (FailedParsingYaml named) end = absurd end
+unprinted path refused UnexpectedDataType end = absurd end
+unprinted path refused MissingField end = absurd end
+unprinted path refused (FloatText named) end = absurd end
+unprinted path refused (NotText named) end = absurd end
+unprinted path refused (NoFile named) end = absurd end
+
+pub print_fault : (refused : Bool) (error : Error) (count : ℕ) → PrintRefused refused error → ErrorCause count count error
+print_fault refused JsonKey count end = refl
+print_fault refused OutOfMemory count end = refl
+print_fault refused (FileIo named) count end = absurd end
+print_fault refused (FailedParsingYaml named) count end = absurd end
+print_fault refused UnexpectedDataType count end = absurd end
+print_fault refused MissingField count end = absurd end
+print_fault refused (FloatText named) count end = absurd end
+print_fault refused (NotText named) count end = absurd end
+print_fault refused (NoFile named) count end = absurd end
+
+-- a failed write is no `JsonKey`
+no_key_here : {T P : Type 0} → (path : List ℕ) (result : Result T Error) → result ≡ Err JsonKey → SaveEnd path result → P
+no_key_here {T} {P} path result is end = absurd (never (subst Q is end))
+  where
+    Q : Result T Error → Type 0
+    Q = λ r. SaveEnd path r
+
+    never : SaveEnd {T = T} path (Err JsonKey) → ⊥
+    never h = h
+
+pub no_key : {T P : Type 0} → (path : List ℕ) (result : Result T Error) → SaveEnd path result → IsErrOf result JsonKey → P
+no_key path result end key = no_key_here path result key end
+
+pub same_but : (path : List ℕ) (m : Files) (files : Option Files) → files ≡ Some m → SameBut path m files
+same_but path m files told = record { files = m; told = told; others = λ q other. refl }
+
+pub at_ok : {T P Q : Type 0} → (result : Result T Error) → (P → Q) → OnOk result P → OnOk result Q
+at_ok (Ok value) f p = f p
+at_ok (Err error) f p = tt
+
+pub same_but_then : {T : Type 0} → (result : Result T Error) (path : List ℕ) (files : Option Files)
+    → OnErr result ((m : Files) → files ≡ Some m → SameBut path m files)
+same_but_then (Ok done) path files = tt
+same_but_then (Err error) path files = λ m told. same_but path m files told
+
+-- the bytes of a text are those of its characters
+pub text_added : (m : Files) (now : Option Files) (path bytes sent printed text : List ℕ) → IsUtf8 bytes → chars bytes ≡ printed → printed ≡ text → sent ≡ bytes
+    → now ≡ Some (appended m path sent) → now ≡ Some (appended m path (encode_utf8_all text))
+text_added m now path bytes sent printed text u shown is same e =
+    e ∙ ap (λ x. Some (appended m path x)) (same ∙ sym (encodes-chars bytes u) ∙ ap encode_utf8_all (shown ∙ is))
+
+pub at_err : {T P : Type 0} → (result : Result T Error) → P → OnErr result P
+at_err (Ok value) p = tt
+at_err (Err error) p = p

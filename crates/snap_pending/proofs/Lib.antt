@@ -1,0 +1,11 @@
+mod FileLines
+mod Ends
+mod Records
+mod Lists
+mod LastRun
+mod Parts
+mod LinesRead
+mod MetaBack
+mod RecordBack
+mod RecordKept
+mod LinesBack

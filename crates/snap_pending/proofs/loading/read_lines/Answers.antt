@@ -1,0 +1,8 @@
+use Rattle.std.specs.Str.{chars}
+use Rattle.snap_str.specs.Lines.{lines}
+use Rattle.snap_pending.specs.Batches.{records_of}
+use Rattle.snap_pending.proofs.LinesRead.{all_told}
+use Rattle.snap_pending.proofs.loading.read_lines.Goals as goal
+
+pub returns : goal.returns
+returns c = all_told (lines (chars c.args.text.now)) (chars c.loop-line.rest.now) (records_of c.loop-line.records) c.in_default.ensures.line c.loop-line.invariant.told

@@ -1,0 +1,10 @@
+use Rattle.std.proofs.Common.{◌≡◌, Some, take}
+use Rattle.snap_outside.specs.Files.{Files}
+use Rattle.snap_pending.specs.Saved.{with_lines}
+use Rattle.snap_pending.proofs.saving.write_lines.Given as goal
+
+abbrev pub invariant-loop-line : goal.invariant-loop-line
+invariant-loop-line g l = record {
+  written : (m : Files) → g.S.Store.files l.fn.store ≡ Some m → g.S.Store.files l.store ≡ Some (with_lines m l.path (take l.line-index l.lines));
+  calm : g.S.Store.faults l.store ≡ g.S.Store.faults l.fn.store;
+}

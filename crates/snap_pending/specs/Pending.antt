@@ -1,0 +1,36 @@
+-- What pending records are seen as.
+use Rattle.std.specs.Prelude.{ℕ, List, Option, option_map}
+use Rattle.snap_store.specs.Meta.{Meta}
+use Rattle.snap_store.specs.Views.{module_in, name_in, meta_in, contents_in}
+use Rattle.snap_store.specs.declared.contents.SnapshotContents.{SnapshotContents}
+use Rattle.snap_store.specs.declared.snapshot.Snapshot.{Snapshot}
+use Rattle.snap_pending.specs.declared.pending.PendingInlineSnapshot.{PendingInlineSnapshot}
+
+-- a snapshot in a record
+pub record Held : Type 0 where
+  pub module_name : List ℕ
+  pub snapshot_name : Option (List ℕ)
+  pub meta : Meta
+  pub contents : SnapshotContents
+
+abbrev pub held_of : Snapshot → Held
+held_of snapshot = record {
+  module_name = module_in snapshot;
+  snapshot_name = name_in snapshot;
+  meta = meta_in snapshot;
+  contents = contents_in snapshot;
+}
+
+pub record Pending : Type 0 where
+  pub run_id : List ℕ
+  pub line : ℕ
+  pub new_snapshot : Option Held
+  pub old_snapshot : Option Held
+
+abbrev pub pending_of : PendingInlineSnapshot → Pending
+pending_of pending = record {
+  run_id = pending.run_id;
+  line = pending.line;
+  new_snapshot = option_map held_of pending.new_snapshot;
+  old_snapshot = option_map held_of pending.old_snapshot;
+}

@@ -1,0 +1,77 @@
+//! Reading the records of a file.
+ghost use Rattle.std.specs.Prelude.{◌≡◌, ℕ, List, Option};
+ghost use Rattle.std.specs.Str.{chars};
+ghost use Rattle.snap_store.specs.Causes.{FileCause};
+ghost use Rattle.snap_store.specs.Reading.{IsTextFile};
+ghost use Rattle.snap_str.specs.Lines.{lines};
+ghost use Rattle.snap_pending.specs.Loaded.{LoadEnd, LinesEnd, IsLoadedFrom};
+
+use crate::batch::Batch;
+use crate::lines::read_line;
+use crate::pending::PendingInlineSnapshot;
+use snap_content::{Blob, Error, Text};
+use snap_outside::{Store, StoreError};
+use snap_str::lines::next_line;
+use std::alloc::Global;
+use std::str;
+
+impl PendingInlineSnapshot {
+    /// The records of the file's last run, in order; none where the file is empty. The first line that tells no record refuses
+    /// the file. The store is not changed.
+    pub fn load_batch<S: Store>(alloc: Global, store: &mut S, path: &Text) -> Result<Batch, Error>
+        ensures end { IsLoadedFrom path.now (S.files store.old) result }
+        ensures same { S.files store.new ≡ S.files store.old }
+        ensures cause { FileCause (S.faults store.old) (S.faults store.new) result }
+    {
+        let named = path.try_clone(alloc)?;
+        match store.read(alloc, path) {
+            Ok(found) => batch_of_file(alloc, found, named),
+            Err(StoreError::Failed) => Err(Error::FileIo(named)),
+            Err(StoreError::OutOfMemory) => Err(Error::OutOfMemory),
+        }
+    }
+}
+
+/// The records that the bytes of a file are, or why there are none.
+fn batch_of_file(alloc: Global, file: Option<Blob>, path: Text) -> Result<Batch, Error>
+    ensures end { LoadEnd path file result }
+    ensures no_fault { (count : ℕ) → FileCause count count result }
+{
+    let Some(bytes) = file else {
+        return Err(Error::NoFile(path));
+    };
+    match str::from_utf8(bytes.as_slice()) {
+        Ok(text) => batch_of_text(alloc, text, &path),
+        Err(_) => Err(Error::NotText(path)),
+    }
+}
+
+fn batch_of_text(alloc: Global, text: &str, path: &Text) -> Result<Batch, Error>
+    ensures end { (file : Option (List ℕ)) → IsTextFile file (chars text.now)
+        → LoadEnd path.now file result }
+    ensures no_fault { (count : ℕ) → FileCause count count result }
+{
+    let mut records = match read_lines(alloc, text, path) {
+        Ok(records) => records,
+        Err(error) => return Err(error),
+    };
+    records.keep_last_run(alloc)?;
+    Ok(records)
+}
+
+/// The record of each line.
+fn read_lines(alloc: Global, text: &str, path: &Text) -> Result<Batch, Error>
+    ensures { LinesEnd path.now (lines (chars text.now)) result }
+{
+    let mut records = Batch::new(alloc);
+    let mut rest = text;
+    while let Some((line, more)) = next_line(rest) {
+        let record = match read_line(alloc, line, path) {
+            Ok(record) => record,
+            Err(error) => return Err(error),
+        };
+        records.push(record)?;
+        rest = more;
+    }
+    Ok(records)
+}

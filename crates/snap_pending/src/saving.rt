@@ -1,0 +1,146 @@
+//! Writing records to a file.
+ghost use Rattle.std.specs.Prelude.{◌≡◌, ◌++◌, ◌∷◌, [], Some, IfOk, OnOk, OnErr, IsErrOf, encode_utf8_all, map};
+ghost use Rattle.std.specs.FinMap.{remove};
+ghost use Rattle.std.specs.List.{list_any};
+ghost use Rattle.snap_content.specs.declared.error.Error.TheVariants.{JsonKey};
+ghost use Rattle.snap_outside.specs.Files.{Files, SameBut, appended};
+ghost use Rattle.snap_store.specs.Causes.{FileCause};
+ghost use Rattle.snap_store.specs.Reading.{SaveEnd};
+ghost use Rattle.snap_pending.specs.Pending.{pending_of};
+ghost use Rattle.snap_pending.specs.Record.{is_refused, record_line};
+ghost use Rattle.snap_pending.specs.Saved.{with_lines, SavingEnd, PrintEnd};
+
+use crate::pending::PendingInlineSnapshot;
+use crate::record::line_text;
+use snap_content::{Error, OutOfMemory, Text};
+use snap_outside::{Store, StoreError};
+use std::alloc::Global;
+
+impl PendingInlineSnapshot {
+    /// Adds the line of the record behind what the file at the path holds. `JsonKey`, where a key of the record is one that
+    /// JSON refuses, changes nothing; after any other error only that file is unknown.
+    pub fn save<S: Store>(&self, alloc: Global, store: &mut S, path: &Text) -> Result<(), Error>
+        ensures added { OnOk result ((m : Files) → S.files store.old ≡ Some m
+            → S.files store.new ≡ Some (appended m path.now
+            (encode_utf8_all (record_line (pending_of self.now))))) }
+        ensures end { SavingEnd path.now (is_refused (pending_of self.now)) result }
+        ensures same { IsErrOf result JsonKey → S.files store.new ≡ S.files store.old }
+        ensures unknown { OnErr result ((m : Files) → S.files store.old ≡ Some m
+            → SameBut path.now m (S.files store.new)) }
+        ensures cause { FileCause (S.faults store.old) (S.faults store.new) result }
+    {
+        match line_text(alloc, self) {
+            Ok(line) => append_line(alloc, store, path, &line),
+            Err(error) => Err(error),
+        }
+    }
+
+    /// Makes the file at the path the lines of these records, and takes it away where there are none. `JsonKey`, where a key
+    /// of a record is one that JSON refuses, changes nothing; after any other error only that file is unknown.
+    pub fn save_batch<S: Store>(
+        alloc: Global,
+        store: &mut S,
+        path: &Text,
+        batch: &[PendingInlineSnapshot],
+    ) -> Result<(), Error>
+        ensures written { OnOk result ((m : Files) → S.files store.old ≡ Some m
+            → S.files store.new ≡ Some (with_lines m path.now
+            (map (λ pending. record_line (pending_of pending)) batch.now))) }
+        ensures end { SavingEnd path.now
+            (list_any (λ pending. is_refused (pending_of pending)) batch.now) result }
+        ensures same { IsErrOf result JsonKey → S.files store.new ≡ S.files store.old }
+        ensures unknown { OnErr result ((m : Files) → S.files store.old ≡ Some m
+            → SameBut path.now m (S.files store.new)) }
+        ensures cause { FileCause (S.faults store.old) (S.faults store.new) result }
+    {
+        match line_texts(alloc, batch) {
+            Ok(lines) => write_lines(alloc, store, path, lines.as_slice()),
+            Err(error) => Err(error),
+        }
+    }
+}
+
+/// The lines of the records.
+fn line_texts(alloc: Global, batch: &[PendingInlineSnapshot]) -> Result<Vec<Text>, Error>
+    ensures printed { IfOk result (λ lines. lines.items
+        ≡ map (λ pending. record_line (pending_of pending)) batch.now) }
+    ensures end { PrintEnd
+        (list_any (λ pending. is_refused (pending_of pending)) batch.now) result }
+{
+    let mut lines = Vec::new(alloc);
+    for pending in batch {
+        let line = match line_text(alloc, pending) {
+            Ok(line) => line,
+            Err(error) => return Err(error),
+        };
+        push_line(&mut lines, line)?;
+    }
+    Ok(lines)
+}
+
+fn push_line(lines: &mut Vec<Text>, line: Text) -> Result<(), OutOfMemory>
+    ensures { OnOk result (lines.new.items ≡ lines.old.items ++ line ∷ []) }
+{
+    lines.push(line)?;
+    Ok(())
+}
+
+/// Makes the file these lines, and takes it away where there are none. After an error only that file is unknown.
+fn write_lines<S: Store>(
+    alloc: Global,
+    store: &mut S,
+    path: &Text,
+    lines: &[Text],
+) -> Result<(), Error>
+    ensures written { OnOk result ((m : Files) → S.files store.old ≡ Some m
+        → S.files store.new ≡ Some (with_lines m path.now lines.now)) }
+    ensures unknown { OnErr result ((m : Files) → S.files store.old ≡ Some m
+        → SameBut path.now m (S.files store.new)) }
+    ensures error { SaveEnd path.now result }
+    ensures cause { FileCause (S.faults store.old) (S.faults store.new) result }
+{
+    remove_file(alloc, store, path)?;
+    for line in lines {
+        append_line(alloc, store, path, line)?;
+    }
+    Ok(())
+}
+
+/// Takes the file away. After an error it is gone or as it was.
+fn remove_file<S: Store>(alloc: Global, store: &mut S, path: &Text) -> Result<(), Error>
+    ensures removed { OnOk result ((m : Files) → S.files store.old ≡ Some m
+        → S.files store.new ≡ Some (remove m path.now)) }
+    ensures unknown { OnErr result ((m : Files) → S.files store.old ≡ Some m
+        → SameBut path.now m (S.files store.new)) }
+    ensures error { SaveEnd path.now result }
+    ensures cause { FileCause (S.faults store.old) (S.faults store.new) result }
+{
+    let named = path.try_clone(alloc)?;
+    match store.remove(path) {
+        Ok(_) => Ok(()),
+        Err(StoreError::Failed) => Err(Error::FileIo(named)),
+        Err(StoreError::OutOfMemory) => Err(Error::OutOfMemory),
+    }
+}
+
+/// Adds the line behind what the file holds. After an error only that file is unknown.
+fn append_line<S: Store>(
+    alloc: Global,
+    store: &mut S,
+    path: &Text,
+    line: &Text,
+) -> Result<(), Error>
+    ensures added { OnOk result ((m : Files) → S.files store.old ≡ Some m
+        → S.files store.new ≡ Some (appended m path.now (encode_utf8_all line.now))) }
+    ensures unknown { OnErr result ((m : Files) → S.files store.old ≡ Some m
+        → SameBut path.now m (S.files store.new)) }
+    ensures error { SaveEnd path.now result }
+    ensures cause { FileCause (S.faults store.old) (S.faults store.new) result }
+{
+    let named = path.try_clone(alloc)?;
+    match store.append(path, line.as_str().as_bytes()) {
+        Ok(()) => Ok(()),
+        Err(StoreError::Failed) => Err(Error::FileIo(named)),
+        Err(StoreError::OutOfMemory) => Err(Error::OutOfMemory),
+    }
+}
