@@ -1,5 +1,5 @@
 //! The tree of a record, and its line.
-ghost use Rattle.std.specs.Prelude.{◌≡◌, ◌++◌, ◌∷◌, [], IfOk, OnOk, IsTrue, codes, option_map};
+ghost use Rattle.std.specs.Prelude.{◌≡◌, IfOk, OnOk, IsTrue, codes, option_map};
 ghost use Rattle.std.specs.Char.{is_ascii};
 ghost use Rattle.std.specs.List.{list_all};
 ghost use Rattle.std.specs.Str.{chars};
@@ -32,15 +32,8 @@ pub(crate) fn line_text(alloc: Global, pending: &PendingInlineSnapshot) -> Resul
         Ok(text) => text,
         Err(error) => return Err(error),
     };
-    end_line(alloc, &mut text)?;
-    Ok(text)
-}
-
-fn end_line(alloc: Global, text: &mut Text) -> Result<(), OutOfMemory>
-    ensures { OnOk result (text.new ≡ text.old ++ 10 ∷ []) }
-{
     text.push_ascii(alloc, "\n")?;
-    Ok(())
+    Ok(text)
 }
 
 fn json_line(alloc: Global, content: &Content) -> Result<Text, Error>

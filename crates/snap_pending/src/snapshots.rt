@@ -1,13 +1,13 @@
 //! The snapshot that a tree tells, where a reader made it.
-ghost use Rattle.std.specs.Prelude.{◌≡◌, IfOk, codes};
+ghost use Rattle.std.specs.Prelude.{◌≡◌, codes};
 ghost use Rattle.snap_content.specs.Plain.{Plain, Entries, dict, content_of, pairs_made};
 ghost use Rattle.snap_content.specs.View.{tree, pair_trees};
-ghost use Rattle.snap_store.specs.Fields.{last_value, text_value};
+ghost use Rattle.snap_store.specs.Fields.{last_value};
 ghost use Rattle.snap_store.specs.Views.{meta_of};
 ghost use Rattle.snap_pending.specs.Told.{HoldsText, HeldEnd};
 ghost use Rattle.snap_pending.specs.Parts.{MetadataEnd, ContentsEnd, NamedEnd};
 
-use snap_content::{Content, Error, OutOfMemory, Text};
+use snap_content::{Content, Error, Text};
 use snap_store::fields::{text_named, value_named};
 use snap_store::{MetaData, Snapshot, SnapshotContents};
 use snap_text::{TextSnapshotContents, TextSnapshotKind};
@@ -59,20 +59,11 @@ fn named_snapshot(
         return Err(Error::MissingField);
     };
     let module = Text::from_str(alloc, module)?;
-    let name = read_name(alloc, pairs)?;
+    let name = match text_named(pairs, "snapshot_name") {
+        None => None,
+        Some(name) => Some(Text::from_str(alloc, name)?),
+    };
     Ok(Snapshot::from_components(module, name, metadata, contents))
-}
-
-/// The name of the snapshot, where a text stands.
-fn read_name(alloc: Global, pairs: &[(Content, Content)]) -> Result<Option<Text>, OutOfMemory>
-    ensures { (entries : Entries) → pair_trees pairs.now ≡ pairs_made entries
-        → IfOk result (λ name. name
-        ≡ text_value (last_value (codes "snapshot_name") entries)) }
-{
-    match text_named(pairs, "snapshot_name") {
-        None => Ok(None),
-        Some(name) => Ok(Some(Text::from_str(alloc, name)?)),
-    }
 }
 
 /// The metadata; none where they do not stand.
