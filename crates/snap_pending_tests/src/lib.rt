@@ -5,8 +5,6 @@
 #[cfg(test)]
 mod infos;
 #[cfg(test)]
-mod loading;
-#[cfg(test)]
 mod records;
 #[cfg(test)]
 mod saving;

@@ -1,40 +1,68 @@
 //! Records that the tests save.
-use snap_content::{Blob, Content, OutOfMemory, Pairs, Text};
+use snap_content::{Content, Error, OutOfMemory, Pairs, Text};
+use snap_outside::MemoryStore;
 use snap_pending::PendingInlineSnapshot;
-use snap_store::{MetaData, Snapshot, SnapshotContents, SnapshotKind};
+use snap_store::{MetaData, Snapshot, SnapshotContents};
 use snap_text::{TextSnapshotContents, TextSnapshotKind};
 use std::alloc::Global;
+use std::str;
 
 pub fn text(alloc: Global, value: &str) -> Result<Text, OutOfMemory> {
     Text::from_str(alloc, value)
 }
 
+fn contents(alloc: Global, value: &str) -> Result<SnapshotContents, OutOfMemory> {
+    let held = TextSnapshotContents::new(text(alloc, value)?, TextSnapshotKind::Inline);
+    Ok(SnapshotContents::from_text(held))
+}
+
 /// A snapshot in the module `m` with this text.
-pub fn snapshot(
+fn snapshot(
     alloc: Global,
     name: Option<Text>,
     metadata: MetaData,
     value: &str,
 ) -> Result<Snapshot, OutOfMemory> {
-    let contents = TextSnapshotContents::new(text(alloc, value)?, TextSnapshotKind::Inline);
-    let contents = SnapshotContents::from_text(contents);
-    Ok(Snapshot::from_components(text(alloc, "m")?, name, metadata, contents))
+    let contents = contents(alloc, value)?;
+    let module = text(alloc, "m")?;
+    Ok(Snapshot::from_components(module, name, metadata, contents))
+}
+
+/// The metadata of an assertion at line 7 of `src/a.rs`.
+fn placed(alloc: Global) -> Result<MetaData, OutOfMemory> {
+    let source = text(alloc, "src/a.rs")?;
+    let expression = text(alloc, "x")?;
+    let mut metadata = MetaData::empty();
+    metadata.set_source(Some(source));
+    metadata.set_assertion_line(Some(7));
+    metadata.set_expression(Some(expression));
+    Ok(metadata)
+}
+
+/// The text `b` under the name `foo`.
+fn named(alloc: Global) -> Result<Snapshot, OutOfMemory> {
+    let metadata = placed(alloc)?;
+    let name = text(alloc, "foo")?;
+    snapshot(alloc, Some(name), metadata, "b")
+}
+
+/// The text `a` alone.
+fn bare(alloc: Global) -> Result<Snapshot, OutOfMemory> {
+    snapshot(alloc, None, MetaData::empty(), "a")
 }
 
 /// A literal `a` at line 7 of `src/a.rs` that is to be `b`.
 pub fn changed(alloc: Global) -> Result<PendingInlineSnapshot, OutOfMemory> {
-    let mut metadata = MetaData::empty();
-    metadata.set_source(Some(text(alloc, "src/a.rs")?));
-    metadata.set_assertion_line(Some(7));
-    metadata.set_expression(Some(text(alloc, "x")?));
-    let new = snapshot(alloc, Some(text(alloc, "foo")?), metadata, "b")?;
-    let old = snapshot(alloc, None, MetaData::empty(), "a")?;
-    Ok(PendingInlineSnapshot::new(text(alloc, "r1")?, Some(new), Some(old), 7))
+    let new = named(alloc)?;
+    let old = bare(alloc)?;
+    let run = text(alloc, "r1")?;
+    Ok(PendingInlineSnapshot::new(run, Some(new), Some(old), 7))
 }
 
 /// A record of this run without snapshots.
 pub fn passed(alloc: Global, run: &str, line: u32) -> Result<PendingInlineSnapshot, OutOfMemory> {
-    Ok(PendingInlineSnapshot::new(text(alloc, run)?, None, None, line))
+    let run = text(alloc, run)?;
+    Ok(PendingInlineSnapshot::new(run, None, None, line))
 }
 
 /// A record whose new snapshot has this info.
@@ -42,7 +70,8 @@ pub fn informed(alloc: Global, info: Content) -> Result<PendingInlineSnapshot, O
     let mut metadata = MetaData::empty();
     metadata.set_info(Some(info));
     let new = snapshot(alloc, None, metadata, "b")?;
-    Ok(PendingInlineSnapshot::new(text(alloc, "r1")?, Some(new), None, 7))
+    let run = text(alloc, "r1")?;
+    Ok(PendingInlineSnapshot::new(run, Some(new), None, 7))
 }
 
 /// A record whose info has a map as a key.
@@ -52,42 +81,31 @@ pub fn refused(alloc: Global) -> Result<PendingInlineSnapshot, OutOfMemory> {
     informed(alloc, Content::Map(pairs))
 }
 
-/// A snapshot of a payload.
-pub fn payload(alloc: Global) -> Result<Snapshot, OutOfMemory> {
-    let mut metadata = MetaData::empty();
-    metadata.set_source(Some(text(alloc, "s")?));
-    metadata.set_kind(SnapshotKind::Binary {
-        extension: text(alloc, "bin")?,
-    });
-    let bytes: &[u8] = &[1, 2];
-    let contents = SnapshotContents::Binary(Some(Blob::from_slice(alloc, bytes)?));
-    Ok(Snapshot::from_components(text(alloc, "m")?, None, metadata, contents))
+/// The text of a file of the store; none where there is no such file.
+pub fn file_text(alloc: Global, store: &MemoryStore, path: &Text) -> Result<Text, Error> {
+    match store.get(path) {
+        None => Ok(Text::empty()),
+        Some(bytes) => match str::from_utf8(bytes) {
+            Ok(found) => Ok(text(alloc, found)?),
+            Err(_) => Err(Error::NotText(path.try_clone(alloc)?)),
+        },
+    }
 }
 
-/// The metadata of a text, with an info whose key is a number.
-fn described(alloc: Global) -> Result<MetaData, OutOfMemory> {
-    let mut pairs = Pairs::new(alloc);
-    let bytes: &[u8] = &[1, 2];
-    let value = Content::Bytes(Blob::from_slice(alloc, bytes)?);
-    pairs.push((Content::U8(1), value))?;
-    let mut metadata = MetaData::empty();
-    metadata.set_info(Some(Content::Map(pairs)));
-    metadata.set_assertion_line(Some(3));
-    metadata.set_description(Some(text(alloc, "d")?));
-    metadata.set_expression(Some(text(alloc, "e")?));
-    metadata.set_input_file(Some(text(alloc, "f")?));
-    Ok(metadata)
+/// The text of a file that the record was added to.
+pub fn saved(alloc: Global, pending: &PendingInlineSnapshot) -> Result<Text, Error> {
+    let path = text(alloc, "p")?;
+    let mut store = MemoryStore::new(alloc);
+    pending.save(alloc, &mut store, &path)?;
+    file_text(alloc, &store, &path)
 }
 
-/// A payload where an indented text stood.
-pub fn replaced(alloc: Global) -> Result<PendingInlineSnapshot, OutOfMemory> {
-    let name = text(alloc, "n")?;
-    let old = snapshot(
-        alloc,
-        Some(name),
-        described(alloc)?,
-        "\n    a\r\n      b \n    ",
-    )?;
-    let run = text(alloc, "r1")?;
-    Ok(PendingInlineSnapshot::new(run, Some(payload(alloc)?), Some(old), 7))
+/// What is saved of the batch that is loaded of a file of this text.
+pub fn saved_again(alloc: Global, file: &str) -> Result<Text, Error> {
+    let path = text(alloc, "p")?;
+    let mut store = MemoryStore::new(alloc);
+    store.put(&path, file.as_bytes())?;
+    let batch = PendingInlineSnapshot::load_batch(alloc, &mut store, &path)?;
+    PendingInlineSnapshot::save_batch(alloc, &mut store, &path, batch.as_slice())?;
+    file_text(alloc, &store, &path)
 }

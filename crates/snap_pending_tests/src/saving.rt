@@ -1,8 +1,10 @@
 //! Records that are saved.
-use crate::records::{changed, passed, refused, replaced, text};
+use crate::records::{changed, passed, refused, saved, saved_again, text};
 use snap_content::Error;
-use snap_outside::{MemoryStore, SteadyStore};
+use snap_outside::MemoryStore;
 use snap_pending::PendingInlineSnapshot;
+use std::alloc::Global;
+use std::process::Abort;
 use std::test::Fail;
 
 const CHANGED: &str =
@@ -10,81 +12,97 @@ const CHANGED: &str =
 
 #[test]
 fn a_changed_literal_is_one_line(rt: HostRuntime) -> Result<(), Fail> {
-    let alloc = rt.alloc();
-    let path = text(alloc, "w/src/.a.rs.pending-snap")?;
-    let mut store = SteadyStore::new(alloc);
-    changed(alloc)?.save(alloc, &mut store, &path)?;
-    assert_eq!(rt; store.get(&path), Some(CHANGED.as_bytes()));
-    Ok(())
-}
-
-const REPLACED: &str =
-    "{\"run_id\":\"r1\",\"line\":7,\"new\":{\"module_name\":\"m\",\"metadata\":{\"source\":\"s\",\"extension\":\"bin\",\"snapshot_kind\":\"binary\"}},\"old\":{\"module_name\":\"m\",\"snapshot_name\":\"n\",\"metadata\":{\"assertion_line\":3,\"description\":\"d\",\"expression\":\"e\",\"info\":{\"1\":[1,2]},\"input_file\":\"f\"},\"snapshot\":\"\\na\\n  b\"}}\n";
-
-/// The line is the one that the original writes. A payload has no text, so the record is not loaded again.
-#[test]
-fn payloads_and_all_fields(rt: HostRuntime) -> Result<(), Fail> {
-    let alloc = rt.alloc();
-    let path = text(alloc, "p")?;
-    let mut store = SteadyStore::new(alloc);
-    replaced(alloc)?.save(alloc, &mut store, &path)?;
-    assert_eq!(rt; store.get(&path), Some(REPLACED.as_bytes()));
-    let loaded = PendingInlineSnapshot::load_batch(alloc, &mut store, &path);
-    assert!(rt; matches!(loaded, Err(Error::MissingField)));
+    let pending = changed(rt.alloc())?;
+    let line = saved(rt.alloc(), &pending)?;
+    assert_eq!(rt; line.as_str(), CHANGED);
     Ok(())
 }
 
 #[test]
-fn records_are_added_and_replaced(rt: HostRuntime) -> Result<(), Fail> {
-    let alloc = rt.alloc();
-    let path = text(alloc, "p")?;
-    let mut store = SteadyStore::new(alloc);
-    passed(alloc, "r1", 1)?.save(alloc, &mut store, &path)?;
-    passed(alloc, "r2", 2)?.save(alloc, &mut store, &path)?;
-    let two: &[u8] =
-        b"{\"run_id\":\"r1\",\"line\":1,\"new\":null,\"old\":null}\n{\"run_id\":\"r2\",\"line\":2,\"new\":null,\"old\":null}\n";
-    assert_eq!(rt; store.get(&path), Some(two));
-    let third = [passed(alloc, "r3", 3)?];
-    PendingInlineSnapshot::save_batch(alloc, &mut store, &path, &third)?;
-    let one: &[u8] = b"{\"run_id\":\"r3\",\"line\":3,\"new\":null,\"old\":null}\n";
-    assert_eq!(rt; store.get(&path), Some(one));
-    PendingInlineSnapshot::save_batch(alloc, &mut store, &path, &[])?;
-    assert_eq!(rt; store.len(), 0);
+fn what_was_saved_is_loaded(rt: HostRuntime) -> Result<(), Fail> {
+    let again = saved_again(rt.alloc(), CHANGED)?;
+    assert_eq!(rt; again.as_str(), CHANGED);
     Ok(())
+}
+
+/// Files, and what is saved of the batch that is loaded of them: of the last record's run, whatever stands between.
+const BATCHES: [(&str, &str); 4] = [
+    ("", ""),
+    (
+        "{\"run_id\":\"r1\",\"line\":1}\n{\"run_id\":\"r2\",\"line\":1}\r\n{\"run_id\":\"r2\",\"line\":2,\"new\":null}",
+        "{\"run_id\":\"r2\",\"line\":1,\"new\":null,\"old\":null}\n{\"run_id\":\"r2\",\"line\":2,\"new\":null,\"old\":null}\n",
+    ),
+    (
+        "{\"run_id\":\"r1\",\"line\":1}\n{\"run_id\":\"r2\",\"line\":1}\n{\"run_id\":\"r1\",\"line\":2}\n",
+        "{\"run_id\":\"r1\",\"line\":1,\"new\":null,\"old\":null}\n{\"run_id\":\"r1\",\"line\":2,\"new\":null,\"old\":null}\n",
+    ),
+    (
+        "{\"run_id\":\"r1\",\"run_id\":\"r2\",\"line\":1,\"line\":4294967295,\"x\":[1,2]}\n",
+        "{\"run_id\":\"r2\",\"line\":4294967295,\"new\":null,\"old\":null}\n",
+    ),
+];
+
+fn is_saved_again(rt: &impl Abort, alloc: Global, row: (&str, &str)) -> Result<(), Fail> {
+    let again = saved_again(alloc, row.0)?;
+    assert_eq!(rt; again.as_str(), row.1);
+    Ok(())
+}
+
+#[test]
+fn the_records_of_the_last_run_are_loaded(rt: HostRuntime) -> Result<(), Fail> {
+    for row in BATCHES {
+        is_saved_again(&rt, rt.alloc(), row)?;
+    }
+    Ok(())
+}
+
+/// Whether the error is that of a key which JSON refuses.
+fn is_refused_key(answer: Result<(), Error>) -> bool {
+    match answer {
+        Ok(()) => false,
+        Err(error) => matches!(error, Error::JsonKey),
+    }
 }
 
 #[test]
 fn a_refused_key_changes_nothing(rt: HostRuntime) -> Result<(), Fail> {
-    let alloc = rt.alloc();
-    let path = text(alloc, "p")?;
-    let mut store = SteadyStore::new(alloc);
-    store.put(&path, b"x")?;
-    let batch = [passed(alloc, "r1", 1)?, refused(alloc)?];
-    assert!(rt; matches!(batch[1].save(alloc, &mut store, &path), Err(Error::JsonKey)));
-    let all = PendingInlineSnapshot::save_batch(alloc, &mut store, &path, &batch);
-    assert!(rt; matches!(all, Err(Error::JsonKey)));
-    let kept: &[u8] = b"x";
-    assert_eq!(rt; store.get(&path), Some(kept));
+    let pending = refused(rt.alloc())?;
+    let path = text(rt.alloc(), "p")?;
+    let mut store = MemoryStore::new(rt.alloc());
+    let result = pending.save(rt.alloc(), &mut store, &path);
+    assert!(rt; is_refused_key(result));
+    assert_eq!(rt; store.len(), 0);
     Ok(())
 }
 
-/// A batch of two removes and adds twice: whichever call fails names the path, and the file holds what was added before.
+/// A store whose call of this number fails.
+fn failing(alloc: Global, call: u64) -> Result<MemoryStore, Fail> {
+    let mut store = MemoryStore::new(alloc);
+    store.fail_at(vec![in alloc; call]?);
+    Ok(store)
+}
+
+/// Whether the error is a fault.
+fn is_fault(answer: Result<(), Error>) -> bool {
+    match answer {
+        Ok(()) => false,
+        Err(error) => matches!(error, Error::FileIo(_)),
+    }
+}
+
+/// Whether a batch of one, which is one removal and one addition, fails where this call of the store does.
+fn fails_at(alloc: Global, call: u64) -> Result<bool, Fail> {
+    let pending = passed(alloc, "r1", 1)?;
+    let path = text(alloc, "p")?;
+    let mut store = failing(alloc, call)?;
+    let result = PendingInlineSnapshot::save_batch(alloc, &mut store, &path, &[pending]);
+    Ok(is_fault(result) && store.faults() == 1)
+}
+
 #[test]
 fn each_call_of_the_store_fails_in_turn(rt: HostRuntime) -> Result<(), Fail> {
-    let alloc = rt.alloc();
-    let path = text(alloc, "p")?;
-    let batch = [passed(alloc, "r1", 1)?, passed(alloc, "r2", 2)?];
-    for call in 1..4 {
-        let mut store = MemoryStore::new(alloc);
-        store.fail_at(vec![in alloc; call]?);
-        let saved = PendingInlineSnapshot::save_batch(alloc, &mut store, &path, &batch);
-        assert!(rt; matches!(saved, Err(Error::FileIo(_))));
-        assert_eq!(rt; store.faults(), 1);
-    }
-    let mut store = MemoryStore::new(alloc);
-    store.fail_at(vec![in alloc; 1]?);
-    let saved = batch[0].save(alloc, &mut store, &path);
-    assert!(rt; matches!(saved, Err(Error::FileIo(_))));
-    assert_eq!(rt; store.len(), 0);
+    assert!(rt; fails_at(rt.alloc(), 1)?);
+    assert!(rt; fails_at(rt.alloc(), 2)?);
+    assert!(rt; !fails_at(rt.alloc(), 3)?);
     Ok(())
 }
