@@ -1,5 +1,5 @@
 -- Which paths are left behind by payloads.
-use Rattle.std.proofs.Common.{◌≡◌, ◌==◌, ◌||◌, ◌&&◌, ℕ, Bool, true, false, not, cond, List, [], ◌∷◌, ◌++◌, map, Option, None, Some, refl, sym, ap, ◌∙◌, subst, append_assoc, eq-eqb, true-eqb, codes, IsPermutation}
+use Rattle.std.proofs.Common.{◌≡◌, ◌==◌, ◌||◌, ◌&&◌, ℕ, Bool, true, false, not, cond, List, [], ◌∷◌, ◌++◌, map, Option, None, Some, refl, sym, ap, ◌∙◌, subst, append_assoc, eq-eqb, codes, IsPermutation}
 use Rattle.std.specs.Prelude.{is_some, IsSome}
 use Rattle.std.specs.List.{list_any, filter, All}
 use Rattle.std.proofs.lemmas.List.Sorted.{list_any-IsPermutation}
@@ -9,6 +9,7 @@ use Rattle.std.proofs.lemmas.List.Elements.{All-head, All-tail}
 use Rattle.std.proofs.lemmas.Map.Views.{any-filter_same}
 use Rattle.std.proofs.lemmas.Slice.Eq.{bytes_eq-Decides}
 use Rattle.snap_path.specs.Names.{past_mark}
+use Rattle.snap_path.proofs.Cuts.{past_mark-is}
 use Rattle.snap_path.specs.Paths.{joined, parent_of, front_of, name_of, IsName}
 use Rattle.snap_path.proofs.Joining.{joined-name, parted, name_of-name, name-longer}
 use Rattle.snap_outside.specs.Files.{Files}
@@ -33,16 +34,6 @@ pub past_mark-append : (a b text : List ℕ) → past_mark (a ++ b) text ≡ the
 past_mark-append [] b text = refl
 past_mark-append (x ∷ a) b [] = refl
 past_mark-append (x ∷ a) b (c ∷ text) = past_first-append (c == x) a b text (past_mark-append a b text)
-
-past_first : (m : ℕ) (mark : List ℕ) (c : ℕ) (cs rest : List ℕ) (t : Bool) → (c == m) ≡ t → (past_mark mark cs ≡ Some rest → cs ≡ mark ++ rest)
-    → cond t (past_mark mark cs) None ≡ Some rest → c ∷ cs ≡ m ∷ (mark ++ rest)
-past_first m mark c cs rest true same further h = ap (λ x. x ∷ cs) (true-eqb c m (sym same)) ∙ ap (λ r. m ∷ r) (further h)
-past_first m mark c cs rest false other further h = absurd (cc)
-
-past_mark-is : (mark text rest : List ℕ) → past_mark mark text ≡ Some rest → text ≡ mark ++ rest
-past_mark-is [] text rest h = cc
-past_mark-is (m ∷ mark) [] rest h = absurd (cc)
-past_mark-is (m ∷ mark) (c ∷ cs) rest h = past_first m mark c cs rest (c == m) refl (past_mark-is mark cs rest) h
 
 -- a stray path is the front, and more without a slash
 pub record IsBehind (front q : List ℕ) : Type 0 where

@@ -1,6 +1,7 @@
 -- The cut of a text at the last place where a mark stands.
-use Rattle.std.proofs.Common.{◌≡◌, ◌==◌, ℕ, ◌≤◌, List, [], ◌∷◌, ◌++◌, Bool, true, false, cond, Option, None, Some, length, take, drop, refl, sym, ap, ◌∙◌, arith, eq-eqb, true-eqb, lit≤}
+use Rattle.std.proofs.Common.{◌≡◌, ◌≢◌, ◌==◌, ℕ, ◌≤◌, List, [], ◌∷◌, ◌++◌, Bool, true, false, cond, Option, None, Some, length, take, drop, refl, sym, ap, ◌∙◌, arith, eq-eqb, true-eqb, lit≤, Bor, MatchOption}
 use Rattle.std.proofs.Math.Seq.{take-append_seam, drop-append_seam}
+use Rattle.std.specs.Str.{chars}
 use Rattle.snap_path.specs.Names.{Cut, cut_of, past_mark, later_or_here, cut_last}
 
 -- the mark stands between both parts, and nowhere later
@@ -17,14 +18,24 @@ first_is : (m : ℕ) (mark : List ℕ) (c : ℕ) (cs behind : List ℕ) (b : Boo
 first_is m mark c cs behind true same rest h = ap (λ x. x ∷ cs) (true-eqb c m (sym same)) ∙ ap (λ r. m ∷ r) (rest h)
 first_is m mark c cs behind false other rest h = absurd (cc)
 
-past_mark-is : (mark text behind : List ℕ) → past_mark mark text ≡ Some behind → text ≡ mark ++ behind
+pub past_mark-is : (mark text behind : List ℕ) → past_mark mark text ≡ Some behind → text ≡ mark ++ behind
 past_mark-is [] text behind h = cc
 past_mark-is (m ∷ mark) [] behind h = absurd (cc)
 past_mark-is (m ∷ mark) (c ∷ cs) behind h = first_is m mark c cs behind (c == m) refl (past_mark-is mark cs behind) h
 
-past_mark-gives : (mark behind : List ℕ) → past_mark mark (mark ++ behind) ≡ Some behind
+pub past_mark-gives : (mark behind : List ℕ) → past_mark mark (mark ++ behind) ≡ Some behind
 past_mark-gives [] behind = refl
 past_mark-gives (m ∷ mark) behind = ap (λ b. cond b (past_mark mark (mark ++ behind)) None) (eq-eqb m m refl) ∙ past_mark-gives mark behind
+
+-- what follows the mark is what `strip_prefix` gives
+pub past_mark-stripped : (mark text : List ℕ) (r : Option (Bor (List ℕ))) → MatchOption r ((rest : List ℕ) → text ≢ mark ++ rest) (λ rest. text ≡ mark ++ chars rest.now)
+    → MatchOption r (past_mark mark text ≡ None) (λ rest. past_mark mark text ≡ Some (chars rest.now))
+past_mark-stripped mark text None h = none (past_mark mark text) refl
+  where
+    none : (o : Option (List ℕ)) → past_mark mark text ≡ o → past_mark mark text ≡ None
+    none None is = is
+    none (Some rest) is = absurd (h rest (past_mark-is mark text rest is))
+past_mark-stripped mark text (Some rest) h = ap (past_mark mark) h ∙ past_mark-gives mark (chars rest.now)
 
 tail_same : (c x : ℕ) (cs xs : List ℕ) → c ∷ cs ≡ x ∷ xs → cs ≡ xs
 tail_same c x cs xs e = ap (drop 1) e

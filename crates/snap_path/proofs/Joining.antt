@@ -3,7 +3,8 @@ use Rattle.std.proofs.Common.{◌≡◌, ℕ, List, [], ◌∷◌, ◌++◌, Boo
 use Rattle.std.specs.List.{filter, list_any, All}
 use Rattle.std.proofs.lemmas.List.Elements.{All-nil, All-cons, All-head, All-tail, All-append, All-filter, filter_passes, All-same}
 use Rattle.snap_content.specs.Front.{begins}
-use Rattle.snap_path.specs.Paths.{attached, between_slashes, is_component, components, is_absolute, slashed, path_of_parts, joined, all_but_last, last_of, parent_of, name_of, IsName, front_behind, front_of}
+use Rattle.snap_path.specs.Paths.{between_slashes, is_component, components, is_absolute, slashed, path_of_parts, joined, all_but_last, last_of, parent_of, name_of, IsName, front_behind, front_of}
+use Rattle.snap_str.specs.Lines.{onto}
 use Rattle.snap_content.proofs.Booleans.{or_left, or_right}
 
 abbrev pub is_slash : ℕ → Bool
@@ -21,31 +22,31 @@ pub record NameParts (name : List ℕ) : Type 0 where
 first_part : (part rest : List ℕ) → list_any is_slash part ≡ false → between_slashes (part ++ 47 ∷ rest) ≡ part ∷ between_slashes rest
 first_part [] rest h = refl
 first_part (c ∷ cs) rest h =
-    ap (λ b. cond b ([] ∷ between_slashes (cs ++ 47 ∷ rest)) (attached c (between_slashes (cs ++ 47 ∷ rest)))) (or_left (is_slash c) (list_any is_slash cs) h)
-    ∙ ap (attached c) (first_part cs rest (or_right (is_slash c) (list_any is_slash cs) h))
+    ap (λ b. cond b ([] ∷ between_slashes (cs ++ 47 ∷ rest)) (onto c (between_slashes (cs ++ 47 ∷ rest)))) (or_left (is_slash c) (list_any is_slash cs) h)
+    ∙ ap (onto c) (first_part cs rest (or_right (is_slash c) (list_any is_slash cs) h))
 
 one_part : (part : List ℕ) → list_any is_slash part ≡ false → between_slashes part ≡ part ∷ []
 one_part [] h = refl
 one_part (c ∷ cs) h =
-    ap (λ b. cond b ([] ∷ between_slashes cs) (attached c (between_slashes cs))) (or_left (is_slash c) (list_any is_slash cs) h)
-    ∙ ap (attached c) (one_part cs (or_right (is_slash c) (list_any is_slash cs) h))
+    ap (λ b. cond b ([] ∷ between_slashes cs) (onto c (between_slashes cs))) (or_left (is_slash c) (list_any is_slash cs) h)
+    ∙ ap (onto c) (one_part cs (or_right (is_slash c) (list_any is_slash cs) h))
 
 pub name-from-parts : (name : List ℕ) → NameParts name → IsName name
 name-from-parts name h =
     ap (filter is_component) (one_part name h.unbroken) ∙ ap (λ b. cond b (name ∷ []) []) h.component
 
 -- no part holds a slash
-attached-unbroken : (c : ℕ) (parts : List (List ℕ)) → (c == 47) ≡ false → All Unbroken parts
-    → All Unbroken (attached c parts)
-attached-unbroken c [] h k = All-cons Unbroken (c ∷ []) [] (ap (λ b. b || false) h) k
-attached-unbroken c (part ∷ parts) h k =
+onto-unbroken : (c : ℕ) (parts : List (List ℕ)) → (c == 47) ≡ false → All Unbroken parts
+    → All Unbroken (onto c parts)
+onto-unbroken c [] h k = All-cons Unbroken (c ∷ []) [] (ap (λ b. b || false) h) k
+onto-unbroken c (part ∷ parts) h k =
     All-cons Unbroken (c ∷ part) parts (ap (λ b. b || list_any is_slash part) h ∙ All-head Unbroken part parts k)
     (All-tail Unbroken part parts k)
 
 unbroken_step : (c : ℕ) (parts : List (List ℕ)) (slash : Bool) → (c == 47) ≡ slash → All Unbroken parts
-    → All Unbroken (cond slash ([] ∷ parts) (attached c parts))
+    → All Unbroken (cond slash ([] ∷ parts) (onto c parts))
 unbroken_step c parts true is h = All-cons Unbroken [] parts refl h
-unbroken_step c parts false is h = attached-unbroken c parts is h
+unbroken_step c parts false is h = onto-unbroken c parts is h
 
 parts-unbroken : (path : List ℕ) → All Unbroken (between_slashes path)
 parts-unbroken [] = All-cons Unbroken [] [] refl (All-nil Unbroken)

@@ -1,4 +1,4 @@
 mod Parts
-mod Cuts
+pub mod Cuts
 mod CutTexts
 pub mod Joining

@@ -4,13 +4,34 @@ use Rattle.std.specs.List.{filter, flat_map}
 use Rattle.std.proofs.lemmas.List.Elements.{filter-append}
 use Rattle.std.proofs.lemmas.List.{take_more}
 use Rattle.std.specs.Prelude.{option_to_list}
-use Rattle.snap_path.specs.Paths.{attached, between_slashes, is_component, components, slashed, behind_slash, steps_up, all_but_last, last_of, name_of}
+use Rattle.snap_path.specs.Paths.{between_slashes, is_component, components, slashed, behind_slash, steps_up, all_but_last, last_of, name_of}
+use Rattle.snap_str.specs.Lines.{onto}
 use Rattle.snap_path.specs.Names.{Cut, cut_of, later_or_here, cut_last}
+use Rattle.snap_str.specs.Cut.{Lacks, IsCutAtFirst}
+use Rattle.snap_content.proofs.Booleans.{or_left, or_right}
 
--- the part so far, in front of the first of the parts to come
-abbrev pub continued : List ℕ → List (List ℕ) → List (List ℕ)
-continued part [] = part ∷ []
-continued part (next ∷ parts) = (part ++ next) ∷ parts
+between_first : (c : ℕ) (before behind : List ℕ) (slash : Bool) → (c == 47) ≡ slash → slash ≡ false → between_slashes (before ++ 47 ∷ behind) ≡ before ∷ between_slashes behind
+    → between_slashes (c ∷ (before ++ 47 ∷ behind)) ≡ (c ∷ before) ∷ between_slashes behind
+between_first c before behind slash is none rest =
+    ap (λ b. cond b ([] ∷ between_slashes (before ++ 47 ∷ behind)) (onto c (between_slashes (before ++ 47 ∷ behind)))) (is ∙ none) ∙ ap (onto c) rest
+
+-- a text without a slash is its one part, and else its parts are the first, and those behind the slash
+between-cut : (before behind : List ℕ) → Lacks 47 before → between_slashes (before ++ 47 ∷ behind) ≡ before ∷ between_slashes behind
+between-cut [] behind none = refl
+between-cut (c ∷ cs) behind none =
+    between_first c cs behind (c == 47) refl (or_left (c == 47) _ none) (between-cut cs behind (or_right (c == 47) _ none))
+
+between-whole : (text : List ℕ) → Lacks 47 text → between_slashes text ≡ text ∷ []
+between-whole [] none = refl
+between-whole (c ∷ cs) none =
+    ap (λ b. cond b ([] ∷ between_slashes cs) (onto c (between_slashes cs))) (or_left (c == 47) _ none) ∙ ap (onto c) (between-whole cs (or_right (c == 47) _ none))
+
+pub components-first : (text before behind : List ℕ) → IsCutAtFirst 47 text before behind → components text ≡ filter is_component (before ∷ []) ++ components behind
+components-first text before behind at =
+    ap (filter is_component) (ap between_slashes at.is ∙ between-cut before behind at.first) ∙ filter-append is_component (before ∷ []) (between_slashes behind)
+
+pub components-one : (text : List ℕ) → Lacks 47 text → components text ≡ filter is_component (text ∷ [])
+components-one text none = ap (filter is_component) (between-whole text none)
 
 -- a path of parts: the first, and the others behind slashes
 pub slashed-cons : (part : List ℕ) (parts : List (List ℕ)) → slashed (part ∷ parts) ≡ part ++ flat_map behind_slash parts
@@ -39,26 +60,26 @@ abbrev PartsAt : List ℕ → Option Cut → Type 0
 PartsAt text None = between_slashes text ≡ text ∷ []
 PartsAt text (Some cut) = between_slashes text ≡ between_slashes cut.before ++ cut.behind ∷ []
 
-attached-append : (c : ℕ) (text : List ℕ) (more : List (List ℕ)) → attached c (between_slashes text ++ more) ≡ attached c (between_slashes text) ++ more
-attached-append c [] more = refl
-attached-append c (d ∷ ds) more = by (d == 47) (between_slashes ds)
+onto-append : (c : ℕ) (text : List ℕ) (more : List (List ℕ)) → onto c (between_slashes text ++ more) ≡ onto c (between_slashes text) ++ more
+onto-append c [] more = refl
+onto-append c (d ∷ ds) more = by (d == 47) (between_slashes ds)
   where
-    by : (b : Bool) (parts : List (List ℕ)) → attached c (cond b ([] ∷ parts) (attached d parts) ++ more) ≡ attached c (cond b ([] ∷ parts) (attached d parts)) ++ more
+    by : (b : Bool) (parts : List (List ℕ)) → onto c (cond b ([] ∷ parts) (onto d parts) ++ more) ≡ onto c (cond b ([] ∷ parts) (onto d parts)) ++ more
     by true parts = refl
     by false [] = refl
     by false (part ∷ parts) = refl
 
 parts_step : (c : ℕ) (cs : List ℕ) (slash : Bool) (later : Option Cut) → (c == 47) ≡ slash → PartsAt cs later
     → PartsAt (c ∷ cs) (later_or_here c later (cond slash (Some cs) None))
-parts_step c cs true None is h = ap (λ b. cond b ([] ∷ between_slashes cs) (attached c (between_slashes cs))) is ∙ ap (λ p. [] ∷ p) h
-parts_step c cs false None is h = ap (λ b. cond b ([] ∷ between_slashes cs) (attached c (between_slashes cs))) is ∙ ap (attached c) h
+parts_step c cs true None is h = ap (λ b. cond b ([] ∷ between_slashes cs) (onto c (between_slashes cs))) is ∙ ap (λ p. [] ∷ p) h
+parts_step c cs false None is h = ap (λ b. cond b ([] ∷ between_slashes cs) (onto c (between_slashes cs))) is ∙ ap (onto c) h
 parts_step c cs true (Some later) is h =
-    ap (λ b. cond b ([] ∷ between_slashes cs) (attached c (between_slashes cs))) is ∙ ap (λ p. [] ∷ p) h
-    ∙ ap (λ b. cond b ([] ∷ between_slashes later.before) (attached c (between_slashes later.before)) ++ later.behind ∷ []) (sym is)
+    ap (λ b. cond b ([] ∷ between_slashes cs) (onto c (between_slashes cs))) is ∙ ap (λ p. [] ∷ p) h
+    ∙ ap (λ b. cond b ([] ∷ between_slashes later.before) (onto c (between_slashes later.before)) ++ later.behind ∷ []) (sym is)
 parts_step c cs false (Some later) is h =
-    ap (λ b. cond b ([] ∷ between_slashes cs) (attached c (between_slashes cs))) is ∙ ap (attached c) h
-    ∙ attached-append c later.before (later.behind ∷ [])
-    ∙ ap (λ b. cond b ([] ∷ between_slashes later.before) (attached c (between_slashes later.before)) ++ later.behind ∷ []) (sym is)
+    ap (λ b. cond b ([] ∷ between_slashes cs) (onto c (between_slashes cs))) is ∙ ap (onto c) h
+    ∙ onto-append c later.before (later.behind ∷ [])
+    ∙ ap (λ b. cond b ([] ∷ between_slashes later.before) (onto c (between_slashes later.before)) ++ later.behind ∷ []) (sym is)
 
 pub parts_at : (text : List ℕ) → PartsAt text (cut_last (47 ∷ []) text)
 parts_at [] = refl

@@ -3,16 +3,12 @@ use Rattle.std.specs.Prelude.{◌≡◌, ◌==◌, ℕ, List, [], ◌∷◌, ◌
 use Rattle.std.specs.List.{filter}
 use Rattle.std.specs.Str.{bytes_eq}
 use Rattle.snap_content.specs.Front.{begins}
-
--- the character in front of the first of the texts
-abbrev pub attached : ℕ → List (List ℕ) → List (List ℕ)
-attached c [] = (c ∷ []) ∷ []
-attached c (d ∷ ds) = (c ∷ d) ∷ ds
+use Rattle.snap_str.specs.Lines.{onto}
 
 -- the text, cut at each slash
 abbrev pub between_slashes : List ℕ → List (List ℕ)
 between_slashes [] = [] ∷ []
-between_slashes (c ∷ cs) = if c == 47 then [] ∷ between_slashes cs else attached c (between_slashes cs)
+between_slashes (c ∷ cs) = if c == 47 then [] ∷ between_slashes cs else onto c (between_slashes cs)
 
 -- neither empty nor a dot
 abbrev pub is_component : List ℕ → Bool

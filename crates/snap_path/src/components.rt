@@ -6,6 +6,7 @@ ghost use Rattle.snap_path.specs.Paths.{is_component, components, slashed, path_
 
 use snap_content::characters::split_first;
 use snap_content::{OutOfMemory, Text};
+use snap_str::cut::split_once;
 use std::alloc::Global;
 
 /// Whether the text between two slashes is a component: neither empty nor a dot.
@@ -19,11 +20,12 @@ pub fn is_component(part: &str) -> bool
 }
 
 /// Adds the text between two slashes, if it is a component.
-fn push_part(parts: &mut Vec<Text>, part: Text) -> Result<(), OutOfMemory>
-    ensures { OnOk result (parts.new.items ≡ parts.old.items ++ filter is_component (part ∷ [])) }
+fn push_part(alloc: Global, parts: &mut Vec<Text>, part: &str) -> Result<(), OutOfMemory>
+    ensures { OnOk result (parts.new.items
+        ≡ parts.old.items ++ filter is_component (chars part.now ∷ [])) }
 {
-    if is_component(part.as_str()) {
-        parts.push(part)?;
+    if is_component(part) {
+        parts.push(Text::from_str(alloc, part)?)?;
     }
     Ok(())
 }
@@ -33,18 +35,12 @@ pub fn parts_of(alloc: Global, path: &str) -> Result<Vec<Text>, OutOfMemory>
     ensures { IfOk result (λ parts. parts.items ≡ components (chars path.now)) }
 {
     let mut parts = Vec::new(alloc);
-    let mut part = Text::empty();
     let mut rest = path;
-    while let Some((c, next)) = split_first(rest) {
-        if c == '/' {
-            push_part(&mut parts, part)?;
-            part = Text::empty();
-        } else {
-            part.push(alloc, c)?;
-        }
+    while let Some((part, next)) = split_once(rest, '/') {
+        push_part(alloc, &mut parts, part)?;
         rest = next;
     }
-    push_part(&mut parts, part)?;
+    push_part(alloc, &mut parts, rest)?;
     Ok(parts)
 }
 

@@ -3,7 +3,8 @@ use Rattle.std.proofs.Common.{◌≡◌, ◌==◌, ℕ, List, [], ◌∷◌, ◌
 use Rattle.std.specs.Prelude.{IsSome}
 use Rattle.std.specs.List.{filter}
 use Rattle.std.proofs.lemmas.List.Elements.{All-append}
-use Rattle.snap_path.specs.Paths.{attached, between_slashes, is_component, components, is_absolute, path_of_parts, joined, last_of, name_of, parent_of, IsName}
+use Rattle.snap_path.specs.Paths.{between_slashes, is_component, components, is_absolute, path_of_parts, joined, last_of, name_of, parent_of, IsName}
+use Rattle.snap_str.specs.Lines.{onto}
 use Rattle.snap_path.proofs.Joining.{joined-normal, parts-components, components-names}
 use Rattle.snap_settings.specs.Settings.{SettingsView}
 use Rattle.snap_place.specs.Place.{PlaceView}
@@ -18,16 +19,16 @@ pub record Ends (parts : List (List ℕ)) : Type 0 where
   pub rest : List ℕ
   pub is : parts ≡ front ++ (a ∷ b ∷ rest) ∷ []
 
-ends_attached : (c : ℕ) (parts : List (List ℕ)) → Ends parts → Ends (attached c parts)
-ends_attached c parts e = by e.front e.is
+ends_onto : (c : ℕ) (parts : List (List ℕ)) → Ends parts → Ends (onto c parts)
+ends_onto c parts e = by e.front e.is
   where
-    by : (front : List (List ℕ)) → parts ≡ front ++ (e.a ∷ e.b ∷ e.rest) ∷ [] → Ends (attached c parts)
-    by [] is = record { front = []; a = c; b = e.a; rest = e.b ∷ e.rest; is = ap (attached c) is }
-    by (f ∷ front) is = record { front = (c ∷ f) ∷ front; a = e.a; b = e.b; rest = e.rest; is = ap (attached c) is }
+    by : (front : List (List ℕ)) → parts ≡ front ++ (e.a ∷ e.b ∷ e.rest) ∷ [] → Ends (onto c parts)
+    by [] is = record { front = []; a = c; b = e.a; rest = e.b ∷ e.rest; is = ap (onto c) is }
+    by (f ∷ front) is = record { front = (c ∷ f) ∷ front; a = e.a; b = e.b; rest = e.rest; is = ap (onto c) is }
 
-ends_cut : (b : Bool) (c : ℕ) (parts : List (List ℕ)) → Ends parts → Ends (cond b ([] ∷ parts) (attached c parts))
+ends_cut : (b : Bool) (c : ℕ) (parts : List (List ℕ)) → Ends parts → Ends (cond b ([] ∷ parts) (onto c parts))
 ends_cut true c parts e = record { front = [] ∷ e.front; a = e.a; b = e.b; rest = e.rest; is = ap (λ p. [] ∷ p) e.is }
-ends_cut false c parts e = ends_attached c parts e
+ends_cut false c parts e = ends_onto c parts e
 
 snap_ends : (front : List ℕ) → Ends (between_slashes (front ++ codes ".snap"))
 snap_ends [] = record { front = []; a = 46; b = 115; rest = codes "nap"; is = refl }

@@ -5,23 +5,14 @@ ghost use Rattle.std.specs.List.{list_all};
 ghost use Rattle.std.specs.Str.{chars};
 ghost use Rattle.snap_path.specs.Names.{past_mark};
 
-use snap_content::characters::split_first;
+use snap_str::cut::strip_prefix;
 
 /// What follows the front, where the text begins with it.
 pub fn behind<'a>(text: &'a str, front: &str) -> Option<&'a str>
     ensures { MatchOption result (past_mark (chars front.now) (chars text.now) ≡ None)
         (λ rest. past_mark (chars front.now) (chars text.now) ≡ Some (chars rest.now)) }
 {
-    let mut rest = text;
-    let mut front = front;
-    while let Some((f, next)) = split_first(front) {
-        match split_first(rest) {
-            Some((c, later)) if c == f => rest = later,
-            _ => return None,
-        }
-        front = next;
-    }
-    Some(rest)
+    strip_prefix(text, front)
 }
 
 /// The same for a front of ASCII characters, as a literal is.
