@@ -1,52 +1,29 @@
--- The names among the parts that were told so far.
-use Rattle.std.proofs.Common.{◌≡◌, ◌==◌, ℕ, Bool, true, false, cond, List, [], ◌∷◌, ◌++◌, Bor, None, sym, ◌∙◌, ap, append_assoc, append-nil}
-use denote.Param.Members.{Mut}
-use Rattle.std.specs.declared.option.Option.{Option}
-use Rattle.std.specs.Fn.{CalledAt}
-use Rattle.std.specs.Iterator.{Yields}
-use Rattle.std.specs.Slice.Iter.{split_steps, split_rest, split_done, split_callee}
-use Rattle.std.proofs.lemmas.Iterator.Consumers.{YieldsList-end}
-use Rattle.std.proofs.lemmas.Iterator.Splits.{YieldsList-from_slice_split}
-use Rattle.std.specs.Prelude.{map}
-use Rattle.std.specs.List.{filter, slice_split}
-use Rattle.std.specs.Str.{chars}
-use Rattle.std.proofs.lemmas.List.{map-append}
-use Rattle.std.proofs.lemmas.List.Elements.{filter-append}
-use Rattle.snap_outside.specs.Listing.{is_listed}
+-- The names among the parts of what a folder told.
+use Rattle.std.proofs.Common.{◌≡◌, ℕ, zero, suc, ◌<◌, Bool, true, false, cond, List, [], ◌∷◌, length, take, drop, refl, ◌∙◌, ap, arith}
+use Rattle.std.specs.List.{slice_split, onto_first}
+use Rattle.memchr.specs.Find.{Nowhere, Passes, is_byte}
+use Rattle.snap_outside.specs.Listing.{is_zero}
 
-abbrev pub listed_in : List (Bor (List ℕ)) → List (List ℕ)
-listed_in parts = map chars (filter is_listed (map (λ part. part.now) parts))
+nowhere_behind : (x : ℕ) (xs : List ℕ) (n : ℕ) → Nowhere (Passes (is_byte 0) (x ∷ xs)) 0 (suc n) → Nowhere (Passes (is_byte 0) xs) 0 n
+nowhere_behind x xs n none = λ k low high at. none (suc k) (omega arith) (omega arith) at
 
-listed_push : (parts : List (Bor (List ℕ))) (part : Bor (List ℕ)) → listed_in (parts ++ part ∷ []) ≡ listed_in parts ++ map chars (cond (is_listed part.now) (part.now ∷ []) [])
-listed_push parts part =
-    let now = λ (p : Bor (List ℕ)). p.now in
-    ap (λ all. map chars (filter is_listed all)) (map-append now parts (part ∷ []))
-    ∙ ap (map chars) (filter-append is_listed (map now parts) (part.now ∷ []))
-    ∙ map-append chars (filter is_listed (map now parts)) (cond (is_listed part.now) (part.now ∷ []) [])
+not_first : (x : ℕ) (xs : List ℕ) (n : ℕ) (b : Bool) → is_zero x ≡ b → Nowhere (Passes (is_byte 0) (x ∷ xs)) 0 (suc n) → is_zero x ≡ false
+not_first x xs n true is none = absurd (none 0 (omega arith) (omega arith) is)
+not_first x xs n false is none = is
 
-pub name_more : (start names names' : List (List ℕ)) (parts : List (Bor (List ℕ))) (part : Bor (List ℕ)) → names ≡ start ++ listed_in parts → is_listed part.now ≡ true → names' ≡ names ++ chars part.now ∷ []
-    → names' ≡ start ++ listed_in (parts ++ part ∷ [])
-name_more start names names' parts part so_far listed more =
-    more
-    ∙ ap (λ all. all ++ chars part.now ∷ []) so_far
-    ∙ append_assoc start (listed_in parts) (chars part.now ∷ [])
-    ∙ ap (λ test. start ++ (listed_in parts ++ map chars (cond test (part.now ∷ []) []))) (sym listed)
-    ∙ ap (λ all. start ++ all) (sym (listed_push parts part))
+split-no : (x : ℕ) (xs : List ℕ) → is_zero x ≡ false → slice_split is_zero (x ∷ xs) ≡ onto_first x (slice_split is_zero xs)
+split-no x xs is = ap (λ b. cond b ([] ∷ slice_split is_zero xs) (onto_first x (slice_split is_zero xs))) is
 
-pub name_none : (start names names' : List (List ℕ)) (parts : List (Bor (List ℕ))) (part : Bor (List ℕ)) → names ≡ start ++ listed_in parts → is_listed part.now ≡ false → names' ≡ names
-    → names' ≡ start ++ listed_in (parts ++ part ∷ [])
-name_none start names names' parts part so_far none same =
-    same
-    ∙ so_far
-    ∙ ap (λ all. start ++ all) (sym (append-nil (listed_in parts)))
-    ∙ ap (λ test. start ++ (listed_in parts ++ map chars (cond test (part.now ∷ []) []))) (sym none)
-    ∙ ap (λ all. start ++ all) (sym (listed_push parts part))
+-- without a 0 the bytes are one part
+pub one_name : (bytes : List ℕ) → Nowhere (Passes (is_byte 0) bytes) 0 (length bytes) → slice_split is_zero bytes ≡ bytes ∷ []
+one_name [] none = refl
+one_name (x ∷ xs) none =
+    split-no x xs (not_first x xs (length xs) (is_zero x) refl none) ∙ ap (onto_first x) (one_name xs (nowhere_behind x xs (length xs) none))
 
--- what was told to the end is every part
-pub all_parts : {F : Type 0} (s : _) (g : Mut F (Bor ℕ × Unit {0}) Bool) (f : F) (bytes : List ℕ) (parts : List (Bor (List ℕ))) (t : _) (r : Option (Bor (List ℕ))) (u : _)
-    → Yields (split_steps g) s parts t → r ≡ None → split_steps g t r u
-    → split_rest s ≡ bytes → split_done s ≡ false → split_callee s ≡ f
-    → ((x : ℕ) (b : Bool) (q : F) → CalledAt g f x b q → (q ≡ f) × (b ≡ (x == 0)))
-    → map (λ part. part.now) parts ≡ slice_split (λ byte. byte == 0) bytes
-all_parts s g f bytes parts t r u yielded none step rest done callee is =
-    (YieldsList-end (YieldsList-from_slice_split g (λ byte. byte == 0) bytes rest done callee is) parts t yielded r u none step).0
+-- the first part ends at the first 0
+pub first_name : (bytes : List ℕ) (k : ℕ) → k < length bytes → Nowhere (Passes (is_byte 0) bytes) 0 k → Passes (is_byte 0) bytes k
+    → slice_split is_zero bytes ≡ take k bytes ∷ slice_split is_zero (drop (suc k) bytes)
+first_name [] k within none at = absurd (omega arith)
+first_name (x ∷ xs) zero within none at = ap (λ b. cond b ([] ∷ slice_split is_zero xs) (onto_first x (slice_split is_zero xs))) at
+first_name (x ∷ xs) (suc k) within none at =
+    split-no x xs (not_first x xs k (is_zero x) refl none) ∙ ap (onto_first x) (first_name xs k (omega arith) (nowhere_behind x xs k none) at)

@@ -17,9 +17,12 @@ is_entry name = not (bytes_eq name []) && not (bytes_eq name (46 ∷ [])) && not
 abbrev pub is_listed : List ℕ → Bool
 is_listed name = is_utf8 name && is_entry name
 
+abbrev pub is_zero : ℕ → Bool
+is_zero byte = byte == 0
+
 -- the names in the bytes, each ended by a 0
 abbrev pub names_in : List ℕ → List (List ℕ)
-names_in bytes = map chars (filter is_listed (slice_split (λ byte. byte == 0) bytes))
+names_in bytes = map chars (filter is_listed (slice_split is_zero bytes))
 
 -- since then the open folder told these names, in one piece or more
 pub data Told (before : History) : List (List ℕ) → History → Type 0 where

@@ -1,6 +1,6 @@
 //! The system's files. Each method makes one call of the system, and records it with its answer: what is recorded
 //! here is what the contracts of the store over real files speak of.
-ghost use Rattle.std.specs.Prelude.{◌≡◌, [], ◌∷◌, OnOk};
+ghost use Rattle.std.specs.Prelude.{◌≡◌, [], ◌∷◌, length, IfOk, OnOk};
 ghost use Rattle.std.specs.Io.{ReadsAtMost};
 ghost use Rattle.std.specs.Io.KnownBytes.{ReadConsumes, Appends};
 ghost use Rattle.snap_outside.specs.Calls.{looks, looks_at_link, opens, makes_folders, creates_new, sets_bits, opens_to_append, writes, renames, removes, lists, done_or_failed, found_or_failed, made_or_taken, read_call, tell_call};
@@ -12,30 +12,56 @@ use crate::call::{Answer, Asked};
 use crate::opening::{append_options, new_file_options};
 use crate::outside::Fault;
 use crate::record::Record;
+use std::alloc::AllocError;
 use std::fs::{Files, OpenFile, Permissions};
 use std::io::{Read, Write};
 use std::os::unix::fs::PermissionsExt;
-use std::{fs, io};
+use std::{fs, io, mem};
 
 /// The files of the system by their paths; a path that does not begin with a slash is one of the working folder.
 #[derive(Drop)]
 pub struct Disk<R: Files + Alloc + Clone + Drop> {
     rt: R,
     record: Record,
+    /// What bytes are read into, kept from call to call; empty until the first.
+    buffer: Vec<u8, R::A>,
 }
+
+/// How many bytes are asked for at once.
+const PIECE: usize = 4096;
 
 impl<R: Files + Alloc + Clone + Drop> Disk<R> {
     pub(crate) fn new(rt: R) -> Disk<R>
         ensures { asked_of result ≡ [] }
     {
+        let buffer = Vec::new(rt.alloc());
         Disk {
             rt,
             record: Record::new(),
+            buffer,
         }
     }
 
     pub(crate) fn alloc(&self) -> R::A {
         self.rt.alloc()
+    }
+
+    /// The buffer, which is made where it was not given back.
+    pub(crate) fn take_buffer(&mut self) -> Result<Vec<u8, R::A>, AllocError>
+        ensures same { asked_of self.new ≡ asked_of self.old }
+        ensures room { IfOk result (λ buffer. length buffer.items ≡ 4096) }
+    {
+        let buffer = mem::replace(&mut self.buffer, Vec::new(self.rt.alloc()));
+        if buffer.len() == PIECE {
+            return Ok(buffer);
+        }
+        Vec::from_elem(self.rt.alloc(), 0u8, PIECE)
+    }
+
+    pub(crate) fn keep_buffer(&mut self, buffer: Vec<u8, R::A>)
+        ensures { asked_of self.new ≡ asked_of self.old }
+    {
+        self.buffer = buffer;
     }
 
     fn note(&mut self, asked: Asked, answer: Answer, path: &str, bytes: &[u8])

@@ -1,12 +1,14 @@
 //! The names in a real folder.
-ghost use Rattle.std.specs.Prelude.{◌≡◌, ◌++◌, true, false, IfOk, MatchOption, string_bytes};
+ghost use Rattle.std.specs.Prelude.{◌≡◌, ◌<◌, ◌∷◌, ◌++◌, [], true, false, length, map, IfOk, IfSome, MatchOption, string_bytes};
+ghost use Rattle.std.specs.List.{filter, slice_split};
 ghost use Rattle.snap_outside.specs.Disks.{asked_of};
-ghost use Rattle.std.specs.Str.{is_utf8};
-ghost use Rattle.snap_outside.specs.Listing.{is_entry, is_listed, names_in, ToldToEnd, opened_folder, FolderTold};
+ghost use Rattle.std.specs.Str.{chars, is_utf8};
+ghost use Rattle.snap_outside.specs.Listing.{is_entry, is_listed, is_zero, names_in, ToldToEnd, opened_folder, FolderTold};
 
 use crate::disk::Disk;
 use crate::names::Names;
 use crate::outside::StoreError;
+use memchr::memchr;
 use snap_content::{OutOfMemory, Text};
 use std::alloc::{AllocError, Allocator, Global};
 use std::fs::Files;
@@ -45,11 +47,26 @@ fn read_names<R: Files + Alloc + Clone + Drop>(
 ) -> Result<Names, StoreError>
     ensures { ToldToEnd most result (asked_of disk.old) (asked_of disk.new) }
 {
+    let mut buffer = disk.take_buffer()?;
+    let answer = read_pieces(disk, alloc, told, most, buffer.as_mut_slice());
+    disk.keep_buffer(buffer);
+    answer
+}
+
+/// The same, through the buffer. A name has at most 255 bytes, and the system gives no part of one.
+fn read_pieces<R: Files + Alloc + Clone + Drop>(
+    disk: &mut Disk<R>,
+    alloc: Global,
+    told: &mut R::Dir,
+    most: usize,
+    buffer: &mut [u8],
+) -> Result<Names, StoreError>
+    requires { 0 < length buffer.old }
+    ensures { ToldToEnd most result (asked_of disk.old) (asked_of disk.new) }
+{
     let mut names = Names::new(alloc);
-    // A name has at most 255 bytes, and the system gives no part of one.
-    let mut buffer = [0u8; 4096];
     for _ in 0..u64::MAX {
-        let count = disk.next(told, &mut buffer)?;
+        let count = disk.next(told, buffer)?;
         if count == 0 {
             return Ok(names);
         }
@@ -65,12 +82,39 @@ fn read_names<R: Files + Alloc + Clone + Drop>(
 pub(crate) fn push_names(alloc: Global, names: &mut Names, bytes: &[u8]) -> Result<(), OutOfMemory>
     ensures { IfOk result (λ _. names.new ≡ names.old ++ names_in bytes.now) }
 {
-    for name in bytes.split(|byte| *byte == 0) {
-        if let Some(name) = listed(name) {
-            names.push(Text::from_str(alloc, name)?)?;
+    let mut rest = bytes;
+    while let Some((name, more)) = split_name(rest) {
+        push_name(alloc, names, name)?;
+        rest = more;
+    }
+    push_name(alloc, names, rest)
+}
+
+/// What stands before the first 0, and what stands behind it.
+fn split_name(bytes: &[u8]) -> Option<(&[u8], &[u8])>
+    ensures cut { MatchOption result (slice_split is_zero bytes.now ≡ bytes.now ∷ [])
+        (λ p. slice_split is_zero bytes.now ≡ p.0.now ∷ slice_split is_zero p.1.now) }
+    ensures shorter { IfSome result (λ p. length p.1.now < length bytes.now) }
+{
+    match memchr(0, bytes) {
+        None => None,
+        Some(at) => {
+            let (name, _) = bytes.split_at(at);
+            let (_, more) = bytes.split_at(at + 1);
+            Some((name, more))
         }
     }
-    Ok(())
+}
+
+/// Adds the name, where it is that of an entry.
+fn push_name(alloc: Global, names: &mut Names, name: &[u8]) -> Result<(), OutOfMemory>
+    ensures { IfOk result (λ _. names.new
+        ≡ names.old ++ map chars (filter is_listed (name.now ∷ []))) }
+{
+    match listed(name) {
+        None => Ok(()),
+        Some(name) => Ok(names.push(Text::from_str(alloc, name)?)?),
+    }
 }
 
 /// The name as a text, where it is that of an entry.

@@ -1,4 +1,5 @@
 //! How a file is read, and how bytes are added to one.
+ghost use Rattle.std.specs.Prelude.{◌<◌, length};
 ghost use Rattle.snap_outside.specs.Disks.{asked_of};
 ghost use Rattle.snap_outside.specs.Operations.{Made, appending, ReadToEnd, OpenedAndRead, FileRead, LookedAtLink, FileAppended};
 
@@ -49,10 +50,27 @@ fn read_to_end<R: Files + Alloc + Clone + Drop>(
 ) -> Result<Blob, StoreError>
     ensures { ReadToEnd result (asked_of disk.old) (asked_of disk.new) }
 {
+    let mut buffer = disk.take_buffer()?;
+    let answer = read_pieces(disk, alloc, file, buffer.as_mut_slice());
+    disk.keep_buffer(buffer);
+    answer
+}
+
+/// The same, through the buffer.
+fn read_pieces<R: Files + Alloc + Clone + Drop>(
+    disk: &mut Disk<R>,
+    alloc: Global,
+    file: &mut R::File,
+    buffer: &mut [u8],
+) -> Result<Blob, StoreError>
+    requires { 0 < length buffer.old }
+    ensures { ReadToEnd result (asked_of disk.old) (asked_of disk.new) }
+{
     let mut bytes = Vec::new(alloc);
-    let mut buffer = [0u8; 4096];
     while bytes.len() <= MAX_FILE {
-        let count = disk.read(file, &mut buffer)?;
+        let Ok(count) = disk.read(file, buffer) else {
+            return Err(StoreError::Failed);
+        };
         if count == 0 {
             return Ok(Blob::from_slice(alloc, bytes.as_slice())?);
         }

@@ -1,7 +1,10 @@
-use Rattle.std.proofs.Common.{◌≡◌, ◌++◌}
-use Rattle.snap_outside.proofs.Parts.{listed_in}
+use Rattle.std.proofs.Common.{◌≡◌, ◌++◌, length}
+use Rattle.snap_outside.specs.Listing.{names_in}
 use Rattle.snap_outside.proofs.folder_names.push_names.Given as goal
 
--- the names that were there, and those among the parts so far
+-- the names so far, and those in what is left
 abbrev pub invariant-loop-name : goal.invariant-loop-name
-invariant-loop-name l = l.names ≡ l.fn.names ++ listed_in l.yielded
+invariant-loop-name l = l.names ++ names_in l.rest ≡ l.fn.names ++ names_in l.fn.bytes
+
+abbrev pub decreases-loop-name : goal.decreases-loop-name
+decreases-loop-name l = length l.rest

@@ -1,7 +1,7 @@
 use Rattle.std.proofs.Common.{◌≡◌, ◌≤◌, length}
 use Rattle.snap_outside.specs.Disks.{asked_of}
 use Rattle.snap_outside.specs.Listing.{Told}
-use Rattle.snap_outside.proofs.folder_names.read_names.Given as goal
+use Rattle.snap_outside.proofs.folder_names.read_pieces.Given as goal
 
 -- each turn makes a call
 abbrev pub invariant-loop : goal.invariant-loop
@@ -9,5 +9,5 @@ invariant-loop g l = record {
   told : Told (asked_of l.fn.disk) l.names (asked_of l.disk);
   within : length l.names ≤ l.most;
   turns : l.counter ≤ length (asked_of l.disk);
-  room : length l.buffer ≡ 4096;
+  room : length l.buffer ≡ length l.initial.buffer;
 }

@@ -1,6 +1,6 @@
 use Rattle.std.proofs.Common.{refl, ap, ◌∙◌, length, inl, inr, arith}
 use Rattle.snap_outside.proofs.Asking.{told_none, told_more}
-use Rattle.snap_outside.proofs.folder_names.read_names.Goals as goal
+use Rattle.snap_outside.proofs.folder_names.read_pieces.Goals as goal
 
 pub loop-init : goal.loop-init
 loop-init g c = record { told = told_none _ _ c.new-names.ensures; within = omega (arith, ap length c.new-names.ensures); turns = omega arith; room = refl }

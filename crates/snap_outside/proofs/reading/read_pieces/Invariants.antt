@@ -1,12 +1,12 @@
 use Rattle.std.proofs.Common.{◌≡◌, ◌-◌, length}
 use Rattle.snap_outside.specs.Disks.{asked_of}
 use Rattle.snap_outside.specs.Operations.{Gave}
-use Rattle.snap_outside.proofs.reading.read_to_end.Given as goal
+use Rattle.snap_outside.proofs.reading.read_pieces.Given as goal
 
 abbrev pub invariant-loop-alloc : goal.invariant-loop-alloc
 invariant-loop-alloc g l = record {
   gave : Gave (asked_of l.fn.disk) l.bytes.items (asked_of l.disk);
-  room : length l.buffer ≡ 4096;
+  room : length l.buffer ≡ length l.initial.buffer;
 }
 
 -- what is left below the limit: each read takes a byte at least

@@ -1,12 +1,12 @@
 use Rattle.std.proofs.Common.{◌∙◌, refl}
 use Rattle.snap_outside.proofs.Asking.{gave_none, gave_more}
-use Rattle.snap_outside.proofs.reading.read_to_end.Goals as goal
+use Rattle.snap_outside.proofs.reading.read_pieces.Goals as goal
 
 pub loop-alloc-init : goal.loop-alloc-init
 loop-alloc-init g c = record { gave = gave_none _ _ c.new-bytes.ensures.items; room = refl }
 
 pub loop-alloc-preserved : goal.loop-alloc-preserved
 loop-alloc-preserved g c = record {
-  gave = gave_more _ _ _ _ _ _ c.loop-alloc.invariant.gave c.in_ok-count.ensures.noted c.in_ok-extend_from_slice.ensures.items;
+  gave = gave_more _ _ _ _ _ _ c.loop-alloc.invariant.gave c.in-Ok.ensures.noted c.in_ok-extend_from_slice.ensures.items;
   room = c.read.auto.buffer ∙ c.loop-alloc.invariant.room;
 }
