@@ -117,6 +117,14 @@ impl TextSnapshotContents {
         self.raw == other.raw
     }
 
+    /// Whether both are one text of one kind as they were given, as most are that match: then no form is made.
+    fn is_same(&self, other: &TextSnapshotContents) -> bool
+        ensures { IsTrue result → (kind_of self.now ≡ kind_of other.now)
+            × (raw_of self.now ≡ raw_of other.now) }
+    {
+        self.kind == other.kind && self.matches_fully(other)
+    }
+
     /// Whether both have one older form, each by its kind.
     pub fn matches_legacy(
         &self,
@@ -125,6 +133,9 @@ impl TextSnapshotContents {
     ) -> Result<bool, OutOfMemory>
         ensures { IfOk result (λ same. IsTrue same ↔ (legacy_of self.now ≡ legacy_of other.now)) }
     {
+        if self.is_same(other) {
+            return Ok(true);
+        }
         let mine = self.legacy(alloc)?;
         let theirs = other.legacy(alloc)?;
         Ok(mine == theirs)
@@ -138,6 +149,9 @@ impl TextSnapshotContents {
     ) -> Result<bool, OutOfMemory>
         ensures { IfOk result (λ same. IsTrue same ↔ MatchLatest self.now other.now) }
     {
+        if self.is_same(other) {
+            return Ok(true);
+        }
         let left = self.normal(alloc)?;
         let right = other.normal(alloc)?;
         Ok(left == right)
