@@ -1,6 +1,6 @@
 -- How an input is cut into documents.
 use Rattle.std.specs.Prelude.{◌==◌, ◌&&◌, ◌||◌, ℕ, Bool, true, false, List, [], ◌∷◌, if◌then◌else◌}
-use Rattle.snap_path.specs.Paths.{attached}
+use Rattle.snap_str.specs.Lines.{onto}
 
 -- the line ends here
 abbrev pub ends_line : List ℕ → Bool
@@ -21,4 +21,4 @@ begins_document (a ∷ b ∷ c ∷ bs) = (a == 45 && b == 45 && c == 45) && (end
 -- the input, cut before each line that is a `---`
 abbrev pub documents : List ℕ → List (List ℕ)
 documents [] = []
-documents (b ∷ bs) = if b == 10 && begins_document bs then (b ∷ []) ∷ documents bs else attached b (documents bs)
+documents (b ∷ bs) = if b == 10 && begins_document bs then (b ∷ []) ∷ documents bs else onto b (documents bs)

@@ -14,7 +14,7 @@ use snap_content::{Content, Error, OutOfMemory, Text};
 use snap_emit::yaml;
 use snap_place::file_path::is_file_path;
 use snap_settings::redactions::Replacements;
-use snap_store::fields::{line_named, text_named, value_named};
+use snap_store::fields::{line_named, text_named, value_named, value_taken};
 use std::alloc::Global;
 
 /// A tree that is to be asserted, with its name and its place.
@@ -49,51 +49,56 @@ impl From<OutOfMemory> for RequestError {
     }
 }
 
-/// The request that a map of these pairs is, if it is one.
+/// The request that a map of these pairs is, if it is one. Its value is taken out of the pairs.
 fn request_of_pairs(
     alloc: Global,
-    pairs: &[(Content, Content)],
+    pairs: Vec<(Content, Content)>,
 ) -> Result<Option<Request>, OutOfMemory>
-    ensures { (entries : Entries) → pair_trees pairs.now ≡ pairs_made entries
+    ensures { (entries : Entries) → pair_trees pairs.items ≡ pairs_made entries
         → IfOk result (λ found. option_map request_of found ≡ request_in (dict entries)) }
 {
-    if !are_keyed(pairs) {
+    let held = pairs.as_slice();
+    if !are_keyed(held) {
         return Ok(None);
     }
-    let Some(module_name) = text_named(pairs, "module") else {
+    let Some(module_name) = text_named(held, "module") else {
         return Ok(None);
     };
-    let Some(file) = text_named(pairs, "file") else {
+    let Some(file) = text_named(held, "file") else {
         return Ok(None);
     };
-    let Some(line) = line_named(pairs, "line") else {
+    let Some(line) = line_named(held, "line") else {
         return Ok(None);
     };
-    let Some(name) = text_named(pairs, "name") else {
+    let Some(name) = text_named(held, "name") else {
         return Ok(None);
     };
-    let Some(expr) = text_named(pairs, "expr") else {
-        return Ok(None);
-    };
-    let Some(value) = value_named(pairs, "value") else {
+    let Some(expr) = text_named(held, "expr") else {
         return Ok(None);
     };
     if !is_file_path(file) {
         return Ok(None);
     }
-    let Some(sort) = sort_of_pairs(pairs) else {
+    let Some(sort) = sort_of_pairs(held) else {
         return Ok(None);
     };
-    let Some(redactions) = redactions_of_pairs(alloc, pairs)? else {
+    let Some(redactions) = redactions_of_pairs(alloc, held)? else {
+        return Ok(None);
+    };
+    let module_name = Text::from_str(alloc, module_name)?;
+    let file = Text::from_str(alloc, file)?;
+    let name = Text::from_str(alloc, name)?;
+    let expr = Text::from_str(alloc, expr)?;
+    let Some(value) = value_taken(pairs, "value") else {
         return Ok(None);
     };
     Ok(Some(Request {
-        module_name: Text::from_str(alloc, module_name)?,
-        file: Text::from_str(alloc, file)?,
+        module_name,
+        file,
         line,
-        name: Text::from_str(alloc, name)?,
-        expr: Text::from_str(alloc, expr)?,
-        value: value.try_clone(alloc)?,
+        name,
+        expr,
+        value,
         redactions,
         sort,
     }))
@@ -147,14 +152,14 @@ fn are_keyed(pairs: &[(Content, Content)]) -> bool
 }
 
 /// The request that a tree is, where a reader made it.
-fn request_of_content(alloc: Global, content: &Content) -> Result<Option<Request>, OutOfMemory>
-    ensures { (plain : Plain) → tree content.now ≡ content_of plain
+fn request_of_content(alloc: Global, content: Content) -> Result<Option<Request>, OutOfMemory>
+    ensures { (plain : Plain) → tree content ≡ content_of plain
         → IfOk result (λ found. option_map request_of found ≡ request_in plain) }
 {
     let Content::Map(pairs) = content else {
         return Ok(None);
     };
-    request_of_pairs(alloc, pairs.as_slice())
+    request_of_pairs(alloc, pairs.into_vec())
 }
 
 /// Reads a document. One that is the printed text of a request is never refused, and it is read as that request.
@@ -167,7 +172,7 @@ pub fn read_request(alloc: Global, document: &[u8]) -> Result<Request, RequestEr
         return Err(RequestError::NoRequest);
     };
     match yaml::parse_str(alloc, text, &Text::empty()) {
-        Ok(content) => match request_of_content(alloc, &content) {
+        Ok(content) => match request_of_content(alloc, content) {
             Ok(Some(request)) => Ok(request),
             Ok(None) => Err(RequestError::NoRequest),
             Err(_) => Err(RequestError::OutOfMemory),

@@ -2,7 +2,8 @@
 use Rattle.std.proofs.Common.{◌≡◌, ◌==◌, ℕ, List, [], ◌∷◌, Bool, true, false, cond, map, drop, Option, None, Some, Bor, refl, sym, ap, ◌∙◌, codes, true-eqb}
 use Rattle.std.specs.Prelude.{MatchOption, option_map}
 use Rattle.std.specs.Str.{chars}
-use Rattle.snap_store.specs.FileSplit.{pieces, line_of, before_blank, behind_name, legacy_lines, legacy_field}
+use Rattle.snap_str.specs.Lines.{ended_lines}
+use Rattle.snap_store.specs.FileSplit.{line_of, before_blank, behind_name, legacy_lines, legacy_field}
 use Rattle.snap_store.specs.Meta.{Meta, empty_meta, legacy_meta}
 
 -- behind the whole name a colon must stand
@@ -22,10 +23,10 @@ colon_behind result letters rest none h = at_end result rest h ∙ ap (λ ls. be
     at_end (Some more) rest h = sym (ap (behind_name []) h)
 
 -- the field of a name, in the lines behind the first one
-pub field_told : (text lines : List ℕ) (name : List ℕ) (value : Option (List ℕ)) → chars name ≡ name → pieces lines ≡ drop 1 (pieces text)
-    → value ≡ legacy_field (chars name) (before_blank (map line_of (pieces lines))) → value ≡ legacy_field name (before_blank (legacy_lines text))
+pub field_told : (text lines : List ℕ) (name : List ℕ) (value : Option (List ℕ)) → chars name ≡ name → ended_lines lines ≡ drop 1 (ended_lines text)
+    → value ≡ legacy_field (chars name) (before_blank (map line_of (ended_lines lines))) → value ≡ legacy_field name (before_blank (legacy_lines text))
 field_told text lines name value plain behind is =
-    is ∙ ap (λ n. legacy_field n (before_blank (map line_of (pieces lines)))) plain ∙ ap (λ ps. legacy_field name (before_blank (map line_of ps))) behind
+    is ∙ ap (λ n. legacy_field n (before_blank (map line_of (ended_lines lines)))) plain ∙ ap (λ ps. legacy_field name (before_blank (map line_of ps))) behind
 
 -- both fields make the metadata
 pub both_told : (text : List ℕ) (source expression : Option (List ℕ)) (first second third : Meta) → first ≡ empty_meta

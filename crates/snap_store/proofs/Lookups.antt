@@ -65,6 +65,22 @@ value_found passes (q ∷ qs) =
     one_more (last_where (of_trees passes) qs) (of_trees passes q) q.1
     ∙ ap (λ o. option_or o (if of_trees passes q then Some (tree q.1) else None)) (value_found passes qs)
 
+told : (test : Bool) (value : Content) (more : Option Content) → option_map tree (cond test (Some value) more) ≡ cond test (Some (tree value)) (option_map tree more)
+told true value more = refl
+told false value more = refl
+
+chosen : (test : Bool) (value : t.Tree) (more : Option t.Tree) → cond test (Some value) more ≡ option_or (if test then Some value else None) more
+chosen true value more = refl
+chosen false value more = refl
+
+-- the last of the pairs is the one that is found, or another before it
+pub last_pushed : (passes : t.Tree → t.Tree → Bool) (all qs : List (Content × Content)) (q : Content × Content) (found : Option t.Tree) → all ≡ qs ++ q ∷ []
+    → found ≡ (if passes (tree q.0) (tree q.1) then Some (tree q.1) else None) → last_by passes (pair_trees all) ≡ option_or found (last_by passes (pair_trees qs))
+last_pushed passes all qs q found is at_last =
+    ap (λ ps. last_by passes (pair_trees ps)) is ∙ sym (value_found passes (qs ++ q ∷ [])) ∙ ap (option_map tree) (last_where-push (of_trees passes) qs q)
+    ∙ told (of_trees passes q) q.1 (last_where (of_trees passes) qs) ∙ ap (λ o. cond (of_trees passes q) (Some (tree q.1)) o) (value_found passes qs)
+    ∙ chosen (of_trees passes q) (tree q.1) (last_by passes (pair_trees qs)) ∙ ap (λ o. option_or o (last_by passes (pair_trees qs))) (sym at_last)
+
 -- one turn of a search
 pub new_found : (test : Content × Content → Bool) (qs : List (Content × Content)) (i : ℕ) (item : Content × Content) → i < length qs
     → item ≡ get_or qs i item → test item ≡ true → Some (tree item.1) ≡ option_map tree (last_where test (take (i + 1) qs))

@@ -9,7 +9,8 @@ use Rattle.snap_content.specs.Printed.{IsLine, AreLines, is_break, begins_dashes
 use Rattle.snap_content.specs.Spell.{spelling, is_flat}
 use Rattle.snap_text.specs.Lines.{is_line_end, IsUnbroken}
 use Rattle.snap_text.proofs.Trimming.{trimmed-push, trimmed-well}
-use Rattle.snap_store.specs.FileSplit.{pieces, is_fence, line_of, joined_lines, up_to_fence, past_fence, header_text, lines_text, first_is_fence, is_headed, file_text, FallsInto}
+use Rattle.snap_str.specs.Lines.{ended_lines}
+use Rattle.snap_store.specs.FileSplit.{is_fence, line_of, joined_lines, up_to_fence, past_fence, header_text, lines_text, first_is_fence, is_headed, file_text, FallsInto}
 use Rattle.snap_store.proofs.Pieces.{pieces-line}
 use Rattle.snap_store.proofs.LineEnds.{ended_by_feed}
 use Rattle.snap_store.proofs.Bodies.{body-headed}
@@ -40,10 +41,10 @@ no_fence line h =
     ∙ no_dashes line h.no_dashes (bytes_eq line (codes "---")) refl
 
 -- the pieces of lines are those lines with their ends
-pub pieces-lines : (lines : List (List ℕ)) (more : List ℕ) → AreLines lines → pieces (flat_map ended lines ++ more) ≡ map ended lines ++ pieces more
+pub pieces-lines : (lines : List (List ℕ)) (more : List ℕ) → AreLines lines → ended_lines (flat_map ended lines ++ more) ≡ map ended lines ++ ended_lines more
 pieces-lines [] more h = refl
 pieces-lines (line ∷ lines) more h =
-    ap pieces (append_assoc (ended line) (flat_map ended lines) more ∙ append_assoc line (10 ∷ []) (flat_map ended lines ++ more))
+    ap ended_lines (append_assoc (ended line) (flat_map ended lines) more ∙ append_assoc line (10 ∷ []) (flat_map ended lines ++ more))
     ∙ pieces-line line (flat_map ended lines ++ more) (unbroken_line line h.0.unbroken)
     ∙ ap (λ ps. ended line ∷ ps) (pieces-lines lines more h.1)
 
@@ -77,10 +78,10 @@ lines-split header line lines h k =
     let body = flat_map ended (line ∷ lines) in
     let text = (codes "---\n" ++ flat_map ended header) ++ codes "---\n" ++ body in
     let rest = map ended (line ∷ lines) in
-    let body_pieces : pieces body ≡ rest =
-    ap pieces (sym (append-nil body)) ∙ pieces-lines (line ∷ lines) [] k ∙ append-nil rest in
-    let cut : pieces text ≡ codes "---\n" ∷ (map ended header ++ codes "---\n" ∷ rest) =
-    ap pieces (append_assoc (codes "---\n" ++ flat_map ended header) (codes "---\n") body)
+    let body_pieces : ended_lines body ≡ rest =
+    ap ended_lines (sym (append-nil body)) ∙ pieces-lines (line ∷ lines) [] k ∙ append-nil rest in
+    let cut : ended_lines text ≡ codes "---\n" ∷ (map ended header ++ codes "---\n" ∷ rest) =
+    ap ended_lines (append_assoc (codes "---\n" ++ flat_map ended header) (codes "---\n") body)
     ∙ ap (λ ps. codes "---\n" ∷ ps) (pieces-lines header (codes "---\n" ++ body) h)
     ∙ ap (λ ps. codes "---\n" ∷ (map ended header ++ codes "---\n" ∷ ps)) body_pieces in
     let headed : is_headed text ≡ true = ap first_is_fence cut in

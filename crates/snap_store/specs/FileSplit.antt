@@ -6,13 +6,8 @@ use Rattle.std.specs.List.{concat}
 use Rattle.std.specs.Str.{bytes_eq}
 use Rattle.snap_content.specs.Lines.{document_of, text_of}
 use Rattle.snap_content.specs.Plain.{Plain}
-use Rattle.snap_path.specs.Paths.{attached}
+use Rattle.snap_str.specs.Lines.{ended_lines}
 use Rattle.snap_text.specs.Normal.{trimmed}
-
--- the text, cut behind each line's end
-abbrev pub pieces : List ℕ → List (List ℕ)
-pieces [] = []
-pieces (c ∷ cs) = if c == 10 then (c ∷ []) ∷ pieces cs else attached c (pieces cs)
 
 -- a line that is `---` but for white space at its end
 abbrev pub is_fence : List ℕ → Bool
@@ -60,19 +55,19 @@ abbrev pub lines_text : List (List ℕ) → List ℕ
 lines_text rest = joined_lines (map line_of rest)
 
 abbrev pub is_headed : List ℕ → Bool
-is_headed text = first_is_fence (pieces text)
+is_headed text = first_is_fence (ended_lines text)
 
 -- of a headed text: its header with the lines' ends
 abbrev pub header_of : List ℕ → List ℕ
-header_of text = header_text (pieces text)
+header_of text = header_text (ended_lines text)
 
 -- of a headed text: the lines behind the header's end
 abbrev pub headed_body : List ℕ → List ℕ
-headed_body text = lines_text (past_fence (drop 1 (pieces text)))
+headed_body text = lines_text (past_fence (drop 1 (ended_lines text)))
 
 -- a text that is not headed: its first line is dropped
 abbrev pub legacy_lines : List ℕ → List (List ℕ)
-legacy_lines text = map line_of (drop 1 (pieces text))
+legacy_lines text = map line_of (drop 1 (ended_lines text))
 
 abbrev pub is_blank : List ℕ → Bool
 is_blank line = bytes_eq (trimmed line) []

@@ -7,7 +7,7 @@ ghost use Rattle.snap_content.specs.Plain.{Entries, content_of, pairs_made};
 ghost use Rattle.snap_content.specs.View.{tree, pair_trees};
 ghost use Rattle.snap_store.specs.Fields.{last_value, last_filled, text_value, line_value};
 
-use crate::pairs::{last_filled, last_named, line_told, text_told};
+use crate::pairs::{last_filled, last_named, last_taken, line_told, text_told};
 use snap_content::Content;
 
 /// The text of the last pair of this name.
@@ -36,6 +36,15 @@ pub fn value_named<'a>(pairs: &'a [(Content, Content)], name: &str) -> Option<&'
         ≡ option_map content_of (last_value name.now entries) }
 {
     last_named(pairs, name)
+}
+
+/// The same, taken out of the pairs.
+pub fn value_taken(pairs: Vec<(Content, Content)>, name: &str) -> Option<Content>
+    requires { IsTrue (list_all is_ascii name.now) }
+    ensures { (entries : Entries) → pair_trees pairs.items ≡ pairs_made entries
+        → option_map tree result ≡ option_map content_of (last_value name.now entries) }
+{
+    last_taken(pairs, name)
 }
 
 /// The same, where a pair with a nil value is as if it were not there.

@@ -2,14 +2,16 @@
 //! line and the body.
 ghost use Rattle.std.specs.Prelude.{◌≡◌, [], drop, IfOk, map, option_map};
 ghost use Rattle.std.specs.Str.{chars};
-ghost use Rattle.snap_store.specs.FileSplit.{pieces, line_of, is_blank, before_blank, past_blank, trimmed_front, behind_name, value_of, legacy_lines, legacy_body, legacy_field};
+ghost use Rattle.snap_str.specs.Lines.{ended_lines};
+ghost use Rattle.snap_store.specs.FileSplit.{line_of, is_blank, before_blank, past_blank, trimmed_front, behind_name, value_of, legacy_lines, legacy_body, legacy_field};
 ghost use Rattle.snap_store.specs.Meta.{legacy_meta};
 ghost use Rattle.snap_store.specs.Views.{meta_of};
 
 use crate::metadata::MetaData;
-use crate::split::{body_text, line_text, split_piece};
+use crate::split::{body_text, line_text};
 use snap_content::characters::{after_character, is_same, split_first};
 use snap_content::{OutOfMemory, Text};
+use snap_str::lines::next_ended_line;
 use snap_text::normal::trimmed_text;
 use std::alloc::Global;
 
@@ -34,9 +36,9 @@ pub fn legacy_text(alloc: Global, text: &str) -> Result<Text, OutOfMemory>
 }
 
 fn behind_first_line(text: &str) -> &str
-    ensures { pieces (chars result.now) ≡ drop 1 (pieces (chars text.now)) }
+    ensures { ended_lines (chars result.now) ≡ drop 1 (ended_lines (chars text.now)) }
 {
-    match split_piece(text) {
+    match next_ended_line(text) {
         None => text,
         Some((_, rest)) => rest,
     }
@@ -51,11 +53,11 @@ fn is_blank(line: &str) -> bool
 
 /// What stands behind the first blank line.
 fn behind_blank(text: &str) -> &str
-    ensures { map line_of (pieces (chars result.now))
-        ≡ past_blank (map line_of (pieces (chars text.now))) }
+    ensures { map line_of (ended_lines (chars result.now))
+        ≡ past_blank (map line_of (ended_lines (chars text.now))) }
 {
     let mut rest = text;
-    while let Some((piece, more)) = split_piece(rest) {
+    while let Some((piece, more)) = next_ended_line(rest) {
         rest = more;
         if is_blank(line_text(piece)) {
             return rest;
@@ -66,7 +68,7 @@ fn behind_blank(text: &str) -> &str
 
 fn read_field(alloc: Global, text: &str, name: &str) -> Result<Option<Text>, OutOfMemory>
     ensures { IfOk result (λ value. value
-        ≡ legacy_field (chars name.now) (before_blank (map line_of (pieces (chars text.now))))) }
+        ≡ legacy_field (chars name.now) (before_blank (map line_of (ended_lines (chars text.now))))) }
 {
     match last_field(text, name) {
         None => Ok(None),
@@ -77,11 +79,11 @@ fn read_field(alloc: Global, text: &str, name: &str) -> Result<Option<Text>, Out
 /// The value of the last line, of those before the first blank one, that names the field.
 fn last_field<'a>(text: &'a str, name: &str) -> Option<&'a str>
     ensures { option_map (λ value. chars value.now) result
-        ≡ legacy_field (chars name.now) (before_blank (map line_of (pieces (chars text.now)))) }
+        ≡ legacy_field (chars name.now) (before_blank (map line_of (ended_lines (chars text.now)))) }
 {
     let mut found = None;
     let mut rest = text;
-    while let Some((piece, more)) = split_piece(rest) {
+    while let Some((piece, more)) = next_ended_line(rest) {
         let line = line_text(piece);
         if is_blank(line) {
             return found;

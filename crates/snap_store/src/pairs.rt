@@ -1,5 +1,5 @@
 //! The fields that pairs of trees tell: the last pair of a name counts, and keys and values are looked at behind their wrappers.
-ghost use Rattle.std.specs.Prelude.{◌≡◌, ◌&&◌, not, IsTrue, option_map};
+ghost use Rattle.std.specs.Prelude.{◌≡◌, ◌&&◌, not, IsTrue, Some, None, option_map, if◌then◌else◌};
 ghost use Rattle.std.specs.Char.{is_ascii};
 ghost use Rattle.std.specs.List.{list_all};
 ghost use Rattle.std.specs.Str.{chars};
@@ -22,6 +22,40 @@ pub(crate) fn last_named<'a>(pairs: &'a [(Content, Content)], name: &str) -> Opt
         }
     }
     found
+}
+
+/// The same, taken out of the pairs.
+pub(crate) fn last_taken(pairs: Vec<(Content, Content)>, name: &str) -> Option<Content>
+    requires { IsTrue (list_all is_ascii name.now) }
+    ensures { option_map tree result ≡ last_in name.now (pair_trees pairs.items) }
+{
+    let mut left = pairs;
+    while let Some(pair) = left.pop() {
+        match value_if_named(pair, name) {
+            Some(value) => return Some(value),
+            None => {}
+        }
+    }
+    None
+}
+
+/// The value of the pair, where it has this name.
+fn value_if_named(pair: (Content, Content), name: &str) -> Option<Content>
+    requires { IsTrue (list_all is_ascii name.now) }
+    ensures { option_map tree result
+        ≡ (if is_key name.now (tree pair.0) then Some (tree pair.1) else None) }
+{
+    if is_named(&pair.0, name) {
+        Some(into_value(pair))
+    } else {
+        None
+    }
+}
+
+fn into_value(pair: (Content, Content)) -> Content
+    ensures { result ≡ pair.1 }
+{
+    pair.1
 }
 
 /// The same, where a pair with a nil value is as if it were not there.

@@ -1,16 +1,17 @@
 //! How a snapshot file falls into its header and its body.
-ghost use Rattle.std.specs.Prelude.{◌≡◌, ◌<◌, ℕ, List, [], ◌∷◌, ◌++◌, false, length, IfOk, IfSome, MatchOption, OnOk};
+ghost use Rattle.std.specs.Prelude.{◌≡◌, ℕ, List, [], ◌∷◌, ◌++◌, false, IfOk, MatchOption, OnOk};
 ghost use Rattle.std.specs.List.{concat};
 ghost use Rattle.std.specs.Str.{chars};
-ghost use Rattle.snap_store.specs.FileSplit.{pieces, is_fence, line_of, lines_text, up_to_fence, past_fence, is_headed, FallsInto, file_text};
+ghost use Rattle.snap_str.specs.Lines.{ended_lines};
+ghost use Rattle.snap_store.specs.FileSplit.{is_fence, line_of, lines_text, up_to_fence, past_fence, is_headed, FallsInto, file_text};
 ghost use Rattle.snap_store.specs.Split.{IsSplit};
 ghost use Rattle.snap_content.specs.Lines.{lines_of, text_of, document_of};
 ghost use Rattle.snap_content.specs.Plain.{Plain};
 ghost use Rattle.snap_content.specs.Printed.{AreLines};
 
-use snap_content::characters::{before_rest, is_same, split_first, split_last};
+use snap_content::characters::{is_same, split_last};
 use snap_content::{OutOfMemory, Text};
-use snap_text::lines::split_line;
+use snap_str::lines::next_ended_line;
 use snap_text::normal::trimmed_text;
 use std::alloc::Global;
 
@@ -19,19 +20,6 @@ use std::alloc::Global;
 pub struct Headed {
     pub header: Text,
     pub body: Text,
-}
-
-/// The first line with its end, and what follows; none where nothing is left.
-pub(crate) fn split_piece(text: &str) -> Option<(&str, &str)>
-    ensures piece { MatchOption result (chars text.now ≡ [])
-        (λ p. pieces (chars text.now) ≡ chars p.0.now ∷ pieces (chars p.1.now)) }
-    ensures shorter { IfSome result (λ p. length (chars p.1.now) < length (chars text.now)) }
-{
-    split_first(text)?;
-    match split_line(text) {
-        None => Some((text, "")),
-        Some((_, more)) => Some((before_rest(text, more), more)),
-    }
 }
 
 /// Whether the line is `---` but for white space at its end.
@@ -68,10 +56,10 @@ pub(crate) fn line_text(piece: &str) -> &str
 /// Adds the lines up to the next fence, with their ends.
 fn push_header(alloc: Global, header: &mut Text, text: &str) -> Result<(), OutOfMemory>
     ensures { OnOk result (header.new ≡ header.old
-        ++ concat (up_to_fence (pieces (chars text.now)))) }
+        ++ concat (up_to_fence (ended_lines (chars text.now)))) }
 {
     let mut rest = text;
-    while let Some((piece, more)) = split_piece(rest) {
+    while let Some((piece, more)) = next_ended_line(rest) {
         if is_fence(piece) {
             return Ok(());
         }
@@ -83,10 +71,10 @@ fn push_header(alloc: Global, header: &mut Text, text: &str) -> Result<(), OutOf
 
 /// What stands behind the next fence.
 fn behind_fence(text: &str) -> &str
-    ensures { pieces (chars result.now) ≡ past_fence (pieces (chars text.now)) }
+    ensures { ended_lines (chars result.now) ≡ past_fence (ended_lines (chars text.now)) }
 {
     let mut rest = text;
-    while let Some((piece, more)) = split_piece(rest) {
+    while let Some((piece, more)) = next_ended_line(rest) {
         rest = more;
         if is_fence(piece) {
             return rest;
@@ -97,15 +85,15 @@ fn behind_fence(text: &str) -> &str
 
 /// The lines of the text, joined.
 pub(crate) fn body_text(alloc: Global, text: &str) -> Result<Text, OutOfMemory>
-    ensures { IfOk result (λ body. body ≡ lines_text (pieces (chars text.now))) }
+    ensures { IfOk result (λ body. body ≡ lines_text (ended_lines (chars text.now))) }
 {
     let mut body = Text::empty();
-    let Some((first, others)) = split_piece(text) else {
+    let Some((first, others)) = next_ended_line(text) else {
         return Ok(body);
     };
     body.push_str(alloc, line_text(first))?;
     let mut rest = others;
-    while let Some((piece, more)) = split_piece(rest) {
+    while let Some((piece, more)) = next_ended_line(rest) {
         body.push(alloc, '\n')?;
         body.push_str(alloc, line_text(piece))?;
         rest = more;
@@ -118,7 +106,7 @@ pub fn split_file(alloc: Global, text: &str) -> Result<Option<Headed>, OutOfMemo
     ensures { IfOk result (λ found. MatchOption found (is_headed (chars text.now) ≡ false)
         (λ headed. IsSplit headed (chars text.now))) }
 {
-    let Some((first, rest)) = split_piece(text) else {
+    let Some((first, rest)) = next_ended_line(text) else {
         return Ok(None);
     };
     if !is_fence(first) {

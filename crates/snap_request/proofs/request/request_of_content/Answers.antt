@@ -9,5 +9,5 @@ use Rattle.snap_content.proofs.DictMade.{dict_of}
 pub returns : goal.returns
 returns c = λ plain made.
     let dict = dict_of _ c.in-Map.pairs plain c.in-Map.is made in
-    let found = c.request_of_pairs.ensures dict.held (ap pair_trees c.as_slice.ensures ∙ dict.made) in
+    let found = c.request_of_pairs.ensures dict.held (ap pair_trees c.into_vec.ensures ∙ dict.made) in
     subst (λ (p : Plain). IfOk c.request_of_pairs.result (λ found. option_map request_of found ≡ request_in p)) (sym dict.is) found

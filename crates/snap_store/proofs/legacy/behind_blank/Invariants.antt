@@ -2,13 +2,14 @@ use Rattle.std.proofs.Common.{◌≡◌, length, map}
 use denote.Text.{Utf8}
 use denote.Shadow.{shadow}
 use Rattle.std.specs.Str.{chars}
-use Rattle.snap_store.specs.FileSplit.{pieces, line_of, past_blank}
+use Rattle.snap_str.specs.Lines.{ended_lines}
+use Rattle.snap_store.specs.FileSplit.{line_of, past_blank}
 use Rattle.snap_store.proofs.legacy.behind_blank.Given as goal
 
 abbrev pub invariant-loop-piece : goal.invariant-loop-piece
 invariant-loop-piece l = record {
   utf8 : shadow (Utf8 l.rest);
-  same : past_blank (map line_of (pieces (chars l.rest))) ≡ past_blank (map line_of (pieces (chars l.fn.text)));
+  same : past_blank (map line_of (ended_lines (chars l.rest))) ≡ past_blank (map line_of (ended_lines (chars l.fn.text)));
 }
 
 abbrev pub decreases-loop-piece : goal.decreases-loop-piece

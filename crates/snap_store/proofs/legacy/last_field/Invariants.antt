@@ -4,15 +4,16 @@ use denote.Shadow.{shadow}
 use Rattle.std.specs.Prelude.{option_map}
 use Rattle.std.specs.Option.{option_or}
 use Rattle.std.specs.Str.{chars}
-use Rattle.snap_store.specs.FileSplit.{pieces, line_of, before_blank, legacy_field}
+use Rattle.snap_str.specs.Lines.{ended_lines}
+use Rattle.snap_store.specs.FileSplit.{line_of, before_blank, legacy_field}
 use Rattle.snap_store.proofs.legacy.last_field.Given as goal
 
 -- what the lines that are left tell, else what was found
 abbrev pub invariant-loop-piece : goal.invariant-loop-piece
 invariant-loop-piece l = record {
   utf8 : shadow (Utf8 l.rest);
-  so_far : option_or (legacy_field (chars l.fn.name) (before_blank (map line_of (pieces (chars l.rest))))) (option_map (λ value. chars value.now) l.found)
-      ≡ legacy_field (chars l.fn.name) (before_blank (map line_of (pieces (chars l.fn.text))));
+  so_far : option_or (legacy_field (chars l.fn.name) (before_blank (map line_of (ended_lines (chars l.rest))))) (option_map (λ value. chars value.now) l.found)
+      ≡ legacy_field (chars l.fn.name) (before_blank (map line_of (ended_lines (chars l.fn.text))));
 }
 
 abbrev pub decreases-loop-piece : goal.decreases-loop-piece

@@ -2,11 +2,12 @@ use Rattle.std.proofs.Common.{◌≡◌, length}
 use denote.Text.{Utf8}
 use denote.Shadow.{shadow}
 use Rattle.std.specs.Str.{chars}
-use Rattle.snap_store.specs.FileSplit.{pieces, past_fence}
+use Rattle.snap_str.specs.Lines.{ended_lines}
+use Rattle.snap_store.specs.FileSplit.{past_fence}
 use Rattle.snap_store.proofs.split.behind_fence.Given as goal
 
 abbrev pub invariant-loop-piece : goal.invariant-loop-piece
-invariant-loop-piece l = record { utf8 : shadow (Utf8 l.rest); same : past_fence (pieces (chars l.rest)) ≡ past_fence (pieces (chars l.fn.text)) }
+invariant-loop-piece l = record { utf8 : shadow (Utf8 l.rest); same : past_fence (ended_lines (chars l.rest)) ≡ past_fence (ended_lines (chars l.fn.text)) }
 
 abbrev pub decreases-loop-piece : goal.decreases-loop-piece
 decreases-loop-piece l = length (chars l.rest)

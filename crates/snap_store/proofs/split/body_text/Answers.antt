@@ -10,5 +10,5 @@ loop-piece-init c =
     let made : c.push_str.new.self ≡ [] ++ line_of piece = cc (c.in_ok-push_str.ensures.ok, c.line_text.ensures, c.empty-body.ensures) in
     record {
       utf8 = search rules;
-      so_far = body_first c.push_str.new.self (chars c.args.text.now) piece (chars c.in-Some.others.now) made c.in-Some.ensures.piece;
+      so_far = body_first c.push_str.new.self (chars c.args.text.now) piece (chars c.in-Some.others.now) made c.in-Some.ensures.line;
     }

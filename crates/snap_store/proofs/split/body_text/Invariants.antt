@@ -3,7 +3,8 @@ use denote.Text.{Utf8}
 use denote.Shadow.{shadow}
 use Rattle.std.specs.List.{flat_map}
 use Rattle.std.specs.Str.{chars}
-use Rattle.snap_store.specs.FileSplit.{pieces, line_of, lines_text}
+use Rattle.snap_str.specs.Lines.{ended_lines}
+use Rattle.snap_store.specs.FileSplit.{line_of, lines_text}
 use Rattle.snap_store.proofs.Pieces.{behind_break}
 use Rattle.snap_store.proofs.split.body_text.Given as goal
 
@@ -11,7 +12,7 @@ use Rattle.snap_store.proofs.split.body_text.Given as goal
 abbrev pub invariant-loop-piece : goal.invariant-loop-piece
 invariant-loop-piece l = record {
   utf8 : shadow (Utf8 l.rest);
-  so_far : l.body ++ flat_map behind_break (map line_of (pieces (chars l.rest))) ≡ lines_text (pieces (chars l.fn.text));
+  so_far : l.body ++ flat_map behind_break (map line_of (ended_lines (chars l.rest))) ≡ lines_text (ended_lines (chars l.fn.text));
 }
 
 abbrev pub decreases-loop-piece : goal.decreases-loop-piece
