@@ -3,4 +3,5 @@ mod Magnitudes
 mod PlainRead
 mod ReadBack
 mod Parsing
+mod NumberPieces
 pub mod OneText

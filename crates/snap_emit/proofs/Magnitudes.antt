@@ -6,10 +6,13 @@ use Rattle.std.proofs.lemmas.Str.Parse.{IsDigitsTest, IsNumeralModel, numerals_b
 use Rattle.std.specs.Char.{is_ascii_digit}
 use Rattle.std.specs.Char.{is_ascii}
 use Rattle.std.specs.List.{list_all}
-use Rattle.std.specs.Prelude.{IsTrue, ◌&&◌}
+use Rattle.std.specs.Prelude.{IsTrue, ◌&&◌, is_some, option_map}
 use Rattle.std.specs.Str.{chars, IsUtf8}
 use Rattle.std.specs.Str.Parse.{digits_value, ParsesUnsigned}
 use Rattle.snap_content.specs.Numbers.{is_digits}
+use Rattle.snap_content.specs.Tree.{Tree}
+use Rattle.snap_content.specs.View.{tree}
+use Rattle.snap_content.specs.declared.content.Content.{Content}
 use Rattle.snap_content.proofs.Ascii.{IsAscii-list_all}
 use Rattle.snap_content.proofs.Ends.{bytes_are}
 
@@ -81,3 +84,10 @@ magnitude-err bs r e u h is d =
     let same = same-bytes bs u (some-digits (chars bs) d) in
     let P : List ℕ → Type 0 = λ x. AreSome x in
     digits-err bs r e h (subst P (sym same) (some-digits (chars bs) d)) is ∙ ap number_of same
+
+-- a tree is there exactly where a test holds
+pub whole-known : (found : Option Content) (test : Bool) (t : Tree) → option_map tree found ≡ (if test then Some t else None) → is_some found ≡ test
+whole-known None true t is = absurd (cc)
+whole-known None false t is = refl
+whole-known (Some made) true t is = refl
+whole-known (Some made) false t is = absurd (cc)

@@ -1,3 +1,4 @@
 pub mod PlainRead
+pub mod Pieces
 pub mod Parsed
 pub mod Examples

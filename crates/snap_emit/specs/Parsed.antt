@@ -1,5 +1,5 @@
 -- What a reading comes to.
-use Rattle.std.specs.Prelude.{◌≡◌, ℕ, List, false, Result, Ok, Err}
+use Rattle.std.specs.Prelude.{◌≡◌, ℕ, List, true, false, Result, Ok, Err}
 use Rattle.snap_content.specs.Lines.{document_of}
 use Rattle.snap_content.specs.Plain.{Plain, content_of}
 use Rattle.snap_content.specs.Readable.{IsWithin}
@@ -7,6 +7,7 @@ use Rattle.snap_content.specs.View.{tree}
 use Rattle.snap_content.specs.declared.content.Content.{Content}
 use Rattle.snap_content.specs.declared.error.Error.{Error}
 use Rattle.snap_content.specs.declared.error.Error.TheVariants.{FailedParsingYaml, UnexpectedDataType, MissingField, FileIo, FloatText, JsonKey, NotText, NoFile, OutOfMemory}
+use Rattle.snap_emit.specs.Pieces.{has_number_piece}
 use Rattle.snap_emit.specs.declared.yaml.Header.{Header}
 
 -- the text may be read as this tree: where it is a printed text, that is the tree that was printed
@@ -23,14 +24,14 @@ pub record IsReadFrom (made : Content) (text : List ℕ) : Type 0 where
   pub tree_is : tree made ≡ content_of plain
   pub printed : MayBeReadAs text plain
 
--- the text is no printed one, and the path is named; or memory was wanting
+-- the text is no printed one, and the path is named; a refused number is a piece of the text; or memory was wanting
 abbrev pub RefusalEnd : List ℕ → List ℕ → Error → Type 0
 RefusalEnd text path (FailedParsingYaml named) = (named ≡ path) × IsUnprinted text
 RefusalEnd text path OutOfMemory = Unit {0}
 RefusalEnd text path UnexpectedDataType = ⊥
 RefusalEnd text path MissingField = ⊥
 RefusalEnd text path (FileIo _) = ⊥
-RefusalEnd text path (FloatText named) = (named ≡ path) × IsUnprinted text
+RefusalEnd text path (FloatText named) = ((named ≡ path) × (has_number_piece text ≡ true)) × IsUnprinted text
 RefusalEnd text path JsonKey = ⊥
 RefusalEnd text path (NotText _) = ⊥
 RefusalEnd text path (NoFile _) = ⊥

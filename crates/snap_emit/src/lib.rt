@@ -3,12 +3,13 @@
 //! and says in laws what holds of every printed text.
 //!
 //! In the order in which data flows: `whole` (texts of whole numbers), `from_value` (the tree of a value), `loaded` (the tree of
-//! a text), `yaml` (the public calls), `laws`.
+//! a text), `pieces` (numbers that stand in a text), `yaml` (the public calls), `laws`.
 #![tactic(auto)]
 
 mod from_value;
 pub mod laws;
 mod loaded;
+mod pieces;
 mod whole;
 pub mod yaml;
 

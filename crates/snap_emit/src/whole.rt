@@ -103,3 +103,10 @@ pub(crate) fn whole_number(text: &str) -> Option<Content>
         Some(_) => natural(text),
     }
 }
+
+/// Whether the text is that of a whole number of at most 128 bits.
+pub(crate) fn is_whole(text: &str) -> bool
+    ensures { result ≡ is_whole (chars text.now) }
+{
+    whole_number(text).is_some()
+}

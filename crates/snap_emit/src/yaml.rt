@@ -10,6 +10,7 @@ ghost use Rattle.snap_owed_json.specs.Bounded.{IsJsonOf};
 ghost use Rattle.snap_emit.specs.Parsed.{ParseEnd, HeaderEnd};
 
 use crate::loaded::{Loaded, load_tree};
+use crate::pieces::number_refusal;
 use snap_content::{Content, Error, OutOfMemory, Text};
 use snap_emitter::printing::{print_body, printed_document};
 use std::alloc::Global;
@@ -47,7 +48,7 @@ pub fn body_to_string(alloc: Global, content: &Content) -> Result<Text, OutOfMem
 /// The tree of a YAML text that is one document: of a printed text the tree that was printed, and of the JSON text of a bounded
 /// tree, whose numbers have 128 bits, that tree. A number that is no whole number
 /// of 128 bits refuses it with `FloatText`, and all else that is no tree with `FailedParsingYaml`, whichever stands first, with
-/// the path.
+/// the path. Where a text is refused with `FloatText`, such a number is a piece of it.
 pub fn parse_str(alloc: Global, text: &str, path: &Text) -> Result<Content, Error>
     ensures end { ParseEnd (chars text.now) path.now result }
     ensures read { (t : Plain) → IsWithin t → chars text.now ≡ document_of t
@@ -62,7 +63,7 @@ pub fn parse_str(alloc: Global, text: &str, path: &Text) -> Result<Content, Erro
         has_number_text,
     } = load_tree(alloc, text)?;
     if has_number_text {
-        return Err(Error::FloatText(path.try_clone(alloc)?));
+        return Err(number_refusal(alloc, text, path)?);
     }
     match content {
         None => Err(Error::FailedParsingYaml(path.try_clone(alloc)?)),

@@ -126,7 +126,7 @@ no_memory_there named e = cc
 pub parse_refused : (path line : List ℕ) (error : Error) → RefusalEnd line path error → ((t : Plain) → IsWithin t → IsJsonOf t line → error ≡ OutOfMemory)
     → LineRefused path line (parsing_refusal error)
 parse_refused path line (FailedParsingYaml named) h memory = (h.0, h.1, λ t within json. no_memory_here named (memory t within json))
-parse_refused path line (FloatText named) h memory = (h.0, h.1, λ t within json. no_memory_there named (memory t within json))
+parse_refused path line (FloatText named) h memory = (h.0.0, h.1, λ t within json. no_memory_there named (memory t within json))
 parse_refused path line OutOfMemory h memory = tt
 parse_refused path line UnexpectedDataType h memory = absurd h
 parse_refused path line MissingField h memory = absurd h
