@@ -1,6 +1,6 @@
 //! Records that are saved.
-use crate::records::{changed, passed, refused, saved, saved_again, text};
-use snap_content::Error;
+use crate::records::{changed, file_text, passed, refused, saved, saved_again, text};
+use snap_content::{Error, Text};
 use snap_outside::MemoryStore;
 use snap_pending::PendingInlineSnapshot;
 use std::alloc::Global;
@@ -53,6 +53,36 @@ fn the_records_of_the_last_run_are_loaded(rt: HostRuntime) -> Result<(), Fail> {
     for row in BATCHES {
         is_saved_again(&rt, rt.alloc(), row)?;
     }
+    Ok(())
+}
+
+/// Saves a record of this line.
+fn add(alloc: Global, store: &mut MemoryStore, path: &Text, line: u32) -> Result<(), Error> {
+    let pending = passed(alloc, "r1", line)?;
+    pending.save(alloc, store, path)
+}
+
+/// Saves a batch of one record of this line.
+fn replace(alloc: Global, store: &mut MemoryStore, path: &Text, line: u32) -> Result<(), Error> {
+    let pending = passed(alloc, "r1", line)?;
+    PendingInlineSnapshot::save_batch(alloc, store, path, &[pending])
+}
+
+const TWO_RECORDS: &str =
+    "{\"run_id\":\"r1\",\"line\":1,\"new\":null,\"old\":null}\n{\"run_id\":\"r1\",\"line\":2,\"new\":null,\"old\":null}\n";
+
+#[test]
+fn records_are_added_and_a_batch_replaces_them(rt: HostRuntime) -> Result<(), Fail> {
+    let path = text(rt.alloc(), "p")?;
+    let mut store = MemoryStore::new(rt.alloc());
+    add(rt.alloc(), &mut store, &path, 1)?;
+    add(rt.alloc(), &mut store, &path, 2)?;
+    assert_eq!(rt; file_text(rt.alloc(), &store, &path)?.as_str(), TWO_RECORDS);
+    replace(rt.alloc(), &mut store, &path, 3)?;
+    assert_eq!(rt;
+        file_text(rt.alloc(), &store, &path)?.as_str(),
+        "{\"run_id\":\"r1\",\"line\":3,\"new\":null,\"old\":null}\n"
+    );
     Ok(())
 }
 
