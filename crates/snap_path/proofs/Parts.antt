@@ -4,7 +4,8 @@ use Rattle.std.specs.List.{filter, flat_map}
 use Rattle.std.proofs.lemmas.List.Elements.{filter-append}
 use Rattle.std.proofs.lemmas.List.{take_more}
 use Rattle.std.specs.Prelude.{option_to_list}
-use Rattle.snap_path.specs.Paths.{between_slashes, is_component, components, slashed, behind_slash, steps_up, all_but_last, last_of, name_of}
+use Rattle.std.proofs.lemmas.List.Concat.{flat_map-append}
+use Rattle.snap_path.specs.Paths.{then_slashed, stand_behind, start, path_of_parts, is_absolute, joined, between_slashes, is_component, components, slashed, behind_slash, steps_up, all_but_last, last_of, name_of}
 use Rattle.snap_str.specs.Lines.{onto}
 use Rattle.snap_path.specs.Names.{Cut, cut_of, later_or_here, cut_last}
 use Rattle.snap_str.specs.Cut.{Lacks, IsCutAtFirst}
@@ -37,6 +38,42 @@ components-one text none = ap (filter is_component) (between-whole text none)
 pub slashed-cons : (part : List ℕ) (parts : List (List ℕ)) → slashed (part ∷ parts) ≡ part ++ flat_map behind_slash parts
 slashed-cons part [] = sym (append-nil part)
 slashed-cons part (next ∷ parts) = ap (λ s. part ++ 47 ∷ s) (slashed-cons next parts)
+
+stands : (parts : List (List ℕ)) → stand_behind true parts ≡ true
+stands [] = refl
+stands (part ∷ parts) = refl
+
+pub stand_behind-append : (behind : Bool) (xs ys : List (List ℕ)) → stand_behind behind (xs ++ ys) ≡ stand_behind (stand_behind behind xs) ys
+stand_behind-append behind [] ys = refl
+stand_behind-append behind (x ∷ xs) ys = sym (stands ys)
+
+then_behind : (xs ys : List (List ℕ)) → then_slashed true (xs ++ ys) ≡ then_slashed true xs ++ then_slashed (stand_behind true xs) ys
+then_behind xs ys = flat_map-append behind_slash xs ys ∙ ap (λ b. flat_map behind_slash xs ++ then_slashed b ys) (sym (stands xs))
+
+pub then_slashed-append : (behind : Bool) (xs ys : List (List ℕ)) → then_slashed behind (xs ++ ys) ≡ then_slashed behind xs ++ then_slashed (stand_behind behind xs) ys
+then_slashed-append true xs ys = then_behind xs ys
+then_slashed-append false [] ys = refl
+then_slashed-append false (x ∷ xs) ys =
+    slashed-cons x (xs ++ ys) ∙ ap (λ more. x ++ more) (flat_map-append behind_slash xs ys) ∙ sym (append_assoc x (flat_map behind_slash xs) (flat_map behind_slash ys))
+    ∙ ap (λ first. first ++ flat_map behind_slash ys) (sym (slashed-cons x xs))
+
+whole-path : (absolute : Bool) (parts : List (List ℕ)) → start absolute ++ then_slashed false parts ≡ path_of_parts absolute parts
+whole-path true parts = refl
+whole-path false parts = refl
+
+-- the components of the tail behind those of the base
+pub joined-below : (base tail first whole : List ℕ) (absolute behind : Bool) → is_absolute tail ≡ false → absolute ≡ is_absolute base → first ≡ start absolute ++ then_slashed false (components base)
+    → behind ≡ stand_behind false (components base) → whole ≡ first ++ then_slashed behind (components tail) → whole ≡ joined base tail
+joined-below base tail first whole absolute behind below root at_first stands_behind at_whole =
+    let parts = components base in
+    at_whole
+    ∙ ap (λ f. f ++ then_slashed behind (components tail)) at_first
+    ∙ ap (λ b. (start absolute ++ then_slashed false parts) ++ then_slashed b (components tail)) stands_behind
+    ∙ append_assoc (start absolute) (then_slashed false parts) (then_slashed (stand_behind false parts) (components tail))
+    ∙ ap (λ t. start absolute ++ t) (sym (then_slashed-append false parts (components tail)))
+    ∙ whole-path absolute (parts ++ components tail)
+    ∙ ap (λ a. path_of_parts a (parts ++ components tail)) root
+    ∙ sym (ap (λ b. cond b (path_of_parts true (components tail)) (path_of_parts (is_absolute base) (parts ++ components tail))) below)
 
 pub steps_up-append : (xs ys : List (List ℕ)) → steps_up (xs ++ ys) ≡ steps_up xs ++ steps_up ys
 steps_up-append [] ys = refl

@@ -1,6 +1,6 @@
 -- Paths as texts.
 use Rattle.std.specs.Prelude.{◌≡◌, ◌==◌, ℕ, List, [], ◌∷◌, ◌++◌, Bool, true, false, not, Option, None, Some, if◌then◌else◌, codes}
-use Rattle.std.specs.List.{filter}
+use Rattle.std.specs.List.{filter, flat_map}
 use Rattle.std.specs.Str.{bytes_eq}
 use Rattle.snap_content.specs.Front.{begins}
 use Rattle.snap_str.specs.Lines.{onto}
@@ -97,3 +97,17 @@ front_of folder = front_behind (is_absolute folder) (components folder)
 -- a slash, and the part behind it
 abbrev pub behind_slash : List ℕ → List ℕ
 behind_slash part = 47 ∷ part
+
+-- the parts with a slash between each two, and one before the first where others stand before it
+abbrev pub then_slashed : Bool → List (List ℕ) → List ℕ
+then_slashed true parts = flat_map behind_slash parts
+then_slashed false parts = slashed parts
+
+-- whether a part stands before what follows
+abbrev pub stand_behind : Bool → List (List ℕ) → Bool
+stand_behind behind [] = behind
+stand_behind behind (part ∷ parts) = true
+
+-- a path of no part
+abbrev pub start : Bool → List ℕ
+start absolute = if absolute then 47 ∷ [] else []

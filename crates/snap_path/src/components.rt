@@ -2,7 +2,7 @@
 ghost use Rattle.std.specs.Prelude.{◌≡◌, [], ◌∷◌, ◌++◌, IfOk, OnOk};
 ghost use Rattle.std.specs.List.{filter, flat_map};
 ghost use Rattle.std.specs.Str.{chars};
-ghost use Rattle.snap_path.specs.Paths.{is_component, components, slashed, path_of_parts, steps_up, behind_slash};
+ghost use Rattle.snap_path.specs.Paths.{is_component, components, slashed, then_slashed, stand_behind, path_of_parts, steps_up, behind_slash};
 
 use snap_content::characters::split_first;
 use snap_content::{OutOfMemory, Text};
@@ -63,6 +63,63 @@ pub fn steps_above(alloc: Global, parts: &[Text]) -> Result<Vec<Text>, OutOfMemo
         steps.push(Text::from_ascii(alloc, "..")?)?;
     }
     Ok(steps)
+}
+
+/// Adds the component: behind a slash, where others stand before it.
+fn push_component(
+    alloc: Global,
+    path: &mut Text,
+    is_behind: bool,
+    part: &str,
+) -> Result<(), OutOfMemory>
+    ensures { OnOk result (path.new ≡ path.old ++ then_slashed is_behind (chars part.now ∷ [])) }
+{
+    if is_behind {
+        path.push(alloc, '/')?;
+    }
+    path.push_str(alloc, part)?;
+    Ok(())
+}
+
+/// Adds the text between two slashes, if it is a component. Whether a component stands in the path then.
+fn push_if_component(
+    alloc: Global,
+    path: &mut Text,
+    is_behind: bool,
+    part: &str,
+) -> Result<bool, OutOfMemory>
+    ensures path { OnOk result (path.new
+        ≡ path.old ++ then_slashed is_behind (filter is_component (chars part.now ∷ []))) }
+    ensures behind { IfOk result (λ behind. behind
+        ≡ stand_behind is_behind (filter is_component (chars part.now ∷ []))) }
+{
+    if !is_component(part) {
+        return Ok(is_behind);
+    }
+    push_component(alloc, path, is_behind, part)?;
+    Ok(true)
+}
+
+/// Adds the components of the text with a slash between each two, and one before the first where others stand before it.
+/// Whether a component stands in the path then.
+pub fn push_components(
+    alloc: Global,
+    path: &mut Text,
+    is_behind: bool,
+    text: &str,
+) -> Result<bool, OutOfMemory>
+    ensures path { OnOk result (path.new
+        ≡ path.old ++ then_slashed is_behind (components (chars text.now))) }
+    ensures behind { IfOk result (λ behind. behind
+        ≡ stand_behind is_behind (components (chars text.now))) }
+{
+    let mut is_behind = is_behind;
+    let mut rest = text;
+    while let Some((part, next)) = split_once(rest, '/') {
+        is_behind = push_if_component(alloc, path, is_behind, part)?;
+        rest = next;
+    }
+    push_if_component(alloc, path, is_behind, rest)
 }
 
 /// Adds each of the parts behind a slash.

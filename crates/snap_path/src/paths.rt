@@ -1,24 +1,37 @@
 //! Paths as texts. The paths that are made here are components with one slash between each two.
 //! The one error of these calls is want of memory.
 ghost use Rattle.std.specs.Prelude.{◌≡◌, IfOk};
-ghost use Rattle.snap_path.specs.Paths.{joined, parent_of, relative_from, front_of, apart};
+ghost use Rattle.snap_path.specs.Paths.{start, joined, parent_of, relative_from, front_of, apart};
 
-use crate::components::{parts_of, path_text, push_copies, steps_above};
+use crate::components::{parts_of, path_text, push_components, push_copies, steps_above};
 use snap_content::characters::begins_with;
 use snap_content::{OutOfMemory, Text};
 use std::alloc::Global;
+
+/// A path of no component, with a slash where it begins at the root.
+fn start(alloc: Global, absolute: bool) -> Result<Text, OutOfMemory>
+    ensures { IfOk result (λ path. path ≡ start absolute) }
+{
+    let mut path = Text::empty();
+    if absolute {
+        path.push(alloc, '/')?;
+    }
+    Ok(path)
+}
 
 /// The tail below the base. An absolute tail stands for itself.
 pub fn path_join(alloc: Global, base: &Text, tail: &Text) -> Result<Text, OutOfMemory>
     ensures { IfOk result (λ path. path ≡ joined base.now tail.now) }
 {
-    let below = parts_of(alloc, tail.as_str())?;
     if begins_with(tail.as_str(), '/') {
-        return path_text(alloc, true, &below);
+        let mut path = start(alloc, true)?;
+        push_components(alloc, &mut path, false, tail.as_str())?;
+        return Ok(path);
     }
-    let mut parts = parts_of(alloc, base.as_str())?;
-    push_copies(alloc, &mut parts, &below)?;
-    path_text(alloc, begins_with(base.as_str(), '/'), &parts)
+    let mut path = start(alloc, begins_with(base.as_str(), '/'))?;
+    let is_behind = push_components(alloc, &mut path, false, base.as_str())?;
+    push_components(alloc, &mut path, is_behind, tail.as_str())?;
+    Ok(path)
 }
 
 /// The path without its last component, where there is one.

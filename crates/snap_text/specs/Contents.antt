@@ -4,7 +4,7 @@ use Rattle.snap_literal.specs.Frame.{inline_legacy}
 use Rattle.snap_literal.specs.Inline.{normalized, inline_normal, inline_width}
 use Rattle.snap_literal.specs.Legacy.{legacy}
 use Rattle.snap_literal.specs.Literal.{literal_reads}
-use Rattle.snap_literal.specs.Normal.{normal}
+use Rattle.snap_literal.specs.Normal.{normal, trimmed}
 use Rattle.snap_literal.specs.OfLiteral.{of_literal}
 use Rattle.snap_literal.specs.Spelled.{IsIndentation}
 use Rattle.snap_text.specs.declared.contents.TextSnapshotContents.{TextSnapshotContents}
@@ -49,6 +49,12 @@ legacy_of contents = legacy_as (kind_of contents) (raw_of contents)
 -- from which byte on each line of the trimmed text is written
 abbrev pub width_of : TextSnapshotContents → ℕ
 width_of contents = width_as (kind_of contents) (raw_of contents)
+
+-- both are texts of files that are one text without the white space at their ends
+pub record AreAlike (a b : TextSnapshotContents) : Type 0 where
+  pub first : kind_of a ≡ File
+  pub second : kind_of b ≡ File
+  pub trimmed : trimmed (raw_of a) ≡ trimmed (raw_of b)
 
 -- what `matches_latest` tells: both have one normal form, each by its kind
 abbrev pub MatchLatest : TextSnapshotContents → TextSnapshotContents → Type 0

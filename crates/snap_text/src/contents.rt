@@ -3,7 +3,7 @@ ghost use Rattle.std.specs.Prelude.{◌≡◌, ◌↔◌, IsTrue, IfOk};
 ghost use Rattle.std.specs.Str.{chars};
 ghost use Rattle.snap_literal.specs.OfLiteral.{of_literal};
 ghost use Rattle.snap_literal.specs.Spelled.{spelled};
-ghost use Rattle.snap_text.specs.declared.contents.TextSnapshotKind.TheVariants.{Inline};
+ghost use Rattle.snap_text.specs.declared.contents.TextSnapshotKind.TheVariants.{Inline, File};
 
 use snap_content::{OutOfMemory, Text};
 use snap_literal::frame::inline_legacy_text;
@@ -33,7 +33,7 @@ pub struct TextSnapshotContents {
 }
 
 impl TextSnapshotContents {
-    ghost use Rattle.snap_text.specs.Contents.{raw_of, kind_of, normal_of, legacy_of, width_of, MatchLatest, InlineLaw};
+    ghost use Rattle.snap_text.specs.Contents.{raw_of, kind_of, normal_of, legacy_of, width_of, AreAlike, MatchLatest, InlineLaw};
 
     /// The contents of a snapshot of this kind.
     pub fn new(contents: Text, kind: TextSnapshotKind) -> TextSnapshotContents
@@ -117,12 +117,23 @@ impl TextSnapshotContents {
         self.raw == other.raw
     }
 
-    /// Whether both are one text of one kind as they were given, as most are that match: then no form is made.
-    fn is_same(&self, other: &TextSnapshotContents) -> bool
-        ensures { IsTrue result → (kind_of self.now ≡ kind_of other.now)
-            × (raw_of self.now ≡ raw_of other.now) }
+    /// Whether both are texts of files that differ at most in the white space at their ends, as most are that match. No form
+    /// is made to tell it.
+    fn is_alike(&self, other: &TextSnapshotContents) -> bool
+        ensures { IsTrue result → AreAlike self.now other.now }
     {
-        self.kind == other.kind && self.matches_fully(other)
+        self.is_of_file()
+            && other.is_of_file()
+            && trimmed_text(self.as_raw()) == trimmed_text(other.as_raw())
+    }
+
+    fn is_of_file(&self) -> bool
+        ensures { IsTrue result ↔ (kind_of self.now ≡ File) }
+    {
+        match self.kind {
+            TextSnapshotKind::Inline => false,
+            TextSnapshotKind::File => true,
+        }
     }
 
     /// Whether both have one older form, each by its kind.
@@ -133,7 +144,7 @@ impl TextSnapshotContents {
     ) -> Result<bool, OutOfMemory>
         ensures { IfOk result (λ same. IsTrue same ↔ (legacy_of self.now ≡ legacy_of other.now)) }
     {
-        if self.is_same(other) {
+        if self.is_alike(other) {
             return Ok(true);
         }
         let mine = self.legacy(alloc)?;
@@ -149,7 +160,7 @@ impl TextSnapshotContents {
     ) -> Result<bool, OutOfMemory>
         ensures { IfOk result (λ same. IsTrue same ↔ MatchLatest self.now other.now) }
     {
-        if self.is_same(other) {
+        if self.is_alike(other) {
             return Ok(true);
         }
         let left = self.normal(alloc)?;
