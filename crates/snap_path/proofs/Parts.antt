@@ -1,11 +1,10 @@
 -- The components of a text: character by character, and from its last slash.
-use Rattle.std.proofs.Common.{◌≡◌, ℕ, List, [], ◌∷◌, ◌++◌, Bool, true, false, ◌==◌, cond, codes, take, get_or, length, ◌<◌, ◌+◌, subst, arith, MatchOption, Option, None, Some, refl, sym, ap, ◌∙◌, append_assoc, append-nil}
+use Rattle.std.proofs.Common.{◌≡◌, ℕ, List, [], ◌∷◌, ◌++◌, Bool, true, false, ◌==◌, cond, codes, length, ◌<◌, subst, arith, Option, None, Some, refl, sym, ap, ◌∙◌, append_assoc, append-nil}
 use Rattle.std.specs.List.{filter, flat_map}
 use Rattle.std.proofs.lemmas.List.Elements.{filter-append}
-use Rattle.std.proofs.lemmas.List.{take_more}
-use Rattle.std.specs.Prelude.{option_to_list}
 use Rattle.std.proofs.lemmas.List.Concat.{flat_map-append}
-use Rattle.snap_path.specs.Paths.{then_slashed, stand_behind, start, path_of_parts, is_absolute, joined, between_slashes, is_component, components, slashed, behind_slash, steps_up, all_but_last, last_of, name_of}
+use Rattle.std.specs.Str.{bytes_eq}
+use Rattle.snap_path.specs.Paths.{then_slashed, stand_behind, start, path_of_parts, is_absolute, joined, between_slashes, is_component, components, slashed, behind_slash, steps_up, all_but_last, last_of, Apart, apart, AreApart, from_apart}
 use Rattle.snap_str.specs.Lines.{onto}
 use Rattle.snap_path.specs.Names.{Cut, cut_of, later_or_here, cut_last}
 use Rattle.snap_str.specs.Cut.{Lacks, IsCutAtFirst}
@@ -43,10 +42,6 @@ stands : (parts : List (List ℕ)) → stand_behind true parts ≡ true
 stands [] = refl
 stands (part ∷ parts) = refl
 
-pub stand_behind-append : (behind : Bool) (xs ys : List (List ℕ)) → stand_behind behind (xs ++ ys) ≡ stand_behind (stand_behind behind xs) ys
-stand_behind-append behind [] ys = refl
-stand_behind-append behind (x ∷ xs) ys = sym (stands ys)
-
 then_behind : (xs ys : List (List ℕ)) → then_slashed true (xs ++ ys) ≡ then_slashed true xs ++ then_slashed (stand_behind true xs) ys
 then_behind xs ys = flat_map-append behind_slash xs ys ∙ ap (λ b. flat_map behind_slash xs ++ then_slashed b ys) (sym (stands xs))
 
@@ -57,7 +52,7 @@ then_slashed-append false (x ∷ xs) ys =
     slashed-cons x (xs ++ ys) ∙ ap (λ more. x ++ more) (flat_map-append behind_slash xs ys) ∙ sym (append_assoc x (flat_map behind_slash xs) (flat_map behind_slash ys))
     ∙ ap (λ first. first ++ flat_map behind_slash ys) (sym (slashed-cons x xs))
 
-whole-path : (absolute : Bool) (parts : List (List ℕ)) → start absolute ++ then_slashed false parts ≡ path_of_parts absolute parts
+pub whole-path : (absolute : Bool) (parts : List (List ℕ)) → start absolute ++ then_slashed false parts ≡ path_of_parts absolute parts
 whole-path true parts = refl
 whole-path false parts = refl
 
@@ -74,13 +69,6 @@ joined-below base tail first whole absolute behind below root at_first stands_be
     ∙ whole-path absolute (parts ++ components tail)
     ∙ ap (λ a. path_of_parts a (parts ++ components tail)) root
     ∙ sym (ap (λ b. cond b (path_of_parts true (components tail)) (path_of_parts (is_absolute base) (parts ++ components tail))) below)
-
-pub steps_up-append : (xs ys : List (List ℕ)) → steps_up (xs ++ ys) ≡ steps_up xs ++ steps_up ys
-steps_up-append [] ys = refl
-steps_up-append (x ∷ xs) ys = ap (λ s. codes ".." ∷ s) (steps_up-append xs ys)
-
-pub steps_up-push : (parts : List (List ℕ)) (i : ℕ) (d : List ℕ) → i < length parts → steps_up (take (i + 1) parts) ≡ steps_up (take i parts) ++ codes ".." ∷ []
-steps_up-push parts i d h = ap steps_up (take_more parts i d h) ∙ steps_up-append (take i parts) (get_or parts i d ∷ [])
 
 pub all_but_last-push : (parts : List (List ℕ)) (last : List ℕ) → all_but_last (parts ++ last ∷ []) ≡ parts
 all_but_last-push [] last = refl
@@ -134,29 +122,66 @@ components-whole text is = ap (filter is_component) (subst (PartsAt text) is (pa
 only : (part : List ℕ) (is : Bool) → is_component part ≡ is → filter is_component (part ∷ []) ≡ cond is (part ∷ []) []
 only part is h = ap (λ b. cond b (part ∷ []) []) h
 
-pub name-behind : (text before behind : List ℕ) → cut_last (codes "/") text ≡ Some (cut_of before behind) → is_component behind ≡ true → Some behind ≡ name_of text
-name-behind text before behind is named =
-    sym (ap last_of (components-cut text before behind is ∙ ap (λ p. components before ++ p) (only behind true named)) ∙ last_of-push (components before) behind)
+-- the first component, and what stands behind it
+pub next-here : (text before behind : List ℕ) → IsCutAtFirst 47 text before behind → is_component before ≡ true → components text ≡ before ∷ components behind
+next-here text before behind at is = components-first text before behind at ∙ ap (λ parts. parts ++ components behind) (only before true is)
 
-pub name-before : (text before behind : List ℕ) → cut_last (codes "/") text ≡ Some (cut_of before behind) → is_component behind ≡ false → name_of before ≡ name_of text
-name-before text before behind is named =
-    sym (ap last_of (components-cut text before behind is ∙ ap (λ p. components before ++ p) (only behind false named) ∙ append-nil (components before)))
+pub next-last : (text : List ℕ) → Lacks 47 text → is_component text ≡ true → components text ≡ text ∷ []
+next-last text none is = components-one text none ∙ only text true is
 
-pub name-whole : (text : List ℕ) → cut_last (codes "/") text ≡ None → is_component text ≡ true → Some text ≡ name_of text
-name-whole text is named = sym (ap last_of (components-whole text is ∙ only text true named))
+pub component-size : (part : List ℕ) → is_component part ≡ true → 0 < length part
+component-size [] is = absurd (cc (is))
+component-size (c ∷ cs) is = omega arith
 
-pub name-none : (text : List ℕ) → cut_last (codes "/") text ≡ None → is_component text ≡ false → None ≡ name_of text
-name-none text is named = sym (ap last_of (components-whole text is ∙ only text false named))
+-- the last component, and what stands before it
+pub behind-here : (text before behind : List ℕ) → cut_last (codes "/") text ≡ Some (cut_of before behind) → is_component behind ≡ true → components text ≡ components before ++ behind ∷ []
+behind-here text before behind at is = components-cut text before behind at ∙ ap (λ parts. components before ++ parts) (only behind true is)
 
--- what `pop` leaves of a list
-pub popped : (old new : List (List ℕ)) (last : Option (List ℕ)) (n m : ℕ) → n ≡ length old → old ≡ new ++ option_to_list last
-    → MatchOption last ((n ≡ 0) × (m ≡ 0)) (λ _. m + 1 ≡ n) → all_but_last old ≡ new
-popped old new (Some last) n m len is count = ap all_but_last is ∙ all_but_last-push new last
-popped [] new None n m len is count = is ∙ append-nil new
-popped (part ∷ old) new None n m len is count = absurd (omega (arith, count.0))
+pub behind-later : (text before behind : List ℕ) → cut_last (codes "/") text ≡ Some (cut_of before behind) → is_component behind ≡ false → components before ≡ components text
+behind-later text before behind at is =
+    sym (components-cut text before behind at ∙ ap (λ parts. components before ++ parts) (only behind false is) ∙ append-nil (components before))
 
-pub slashed-more : (new mid old first : List ℕ) (parts others : List (List ℕ)) → new ≡ mid ++ flat_map behind_slash others → mid ≡ old ++ first → parts ≡ first ∷ others
-    → new ≡ old ++ slashed parts
-slashed-more new mid old first parts others more one is =
-    more ∙ ap (λ m. m ++ flat_map behind_slash others) one ∙ append_assoc old first (flat_map behind_slash others)
-    ∙ ap (λ s. old ++ s) (sym (ap slashed is ∙ slashed-cons first others))
+pub whole-here : (text : List ℕ) → cut_last (codes "/") text ≡ None → is_component text ≡ true → components text ≡ text ∷ []
+whole-here text at is = components-whole text at ∙ only text true is
+
+pub whole-none : (text : List ℕ) → cut_last (codes "/") text ≡ None → is_component text ≡ false → components text ≡ []
+whole-none text at is = components-whole text at ∙ only text false is
+
+-- one more part behind those that stand there
+pub part-pushed : (old new whole part : List ℕ) (behind : Bool) (parts more : List (List ℕ)) → new ≡ old ++ then_slashed behind (part ∷ []) → parts ≡ part ∷ more
+    → old ++ then_slashed behind parts ≡ whole → new ++ then_slashed true more ≡ whole
+part-pushed old new whole part behind parts more pushed is so_far =
+    ap (λ p. p ++ then_slashed true more) pushed ∙ append_assoc old (then_slashed behind (part ∷ [])) (then_slashed true more)
+    ∙ ap (λ t. old ++ t) (sym (then_slashed-append behind (part ∷ []) more) ∙ ap (then_slashed behind) (sym is)) ∙ so_far
+
+pub part-stands : (behind whole : Bool) (part : List ℕ) (parts more : List (List ℕ)) → parts ≡ part ∷ more → stand_behind behind parts ≡ whole → stand_behind true more ≡ whole
+part-stands behind whole part parts more is so_far = stands more ∙ ap (stand_behind behind) (sym is) ∙ so_far
+
+pub all-pushed : (path whole : List ℕ) (behind : Bool) (parts : List (List ℕ)) → parts ≡ [] → path ++ then_slashed behind parts ≡ whole → path ≡ whole
+all-pushed path whole true parts none so_far = sym (append-nil path) ∙ ap (λ ps. path ++ then_slashed true ps) (sym none) ∙ so_far
+all-pushed path whole false parts none so_far = sym (append-nil path) ∙ ap (λ ps. path ++ then_slashed false ps) (sym none) ∙ so_far
+
+pub all-stand : (behind whole : Bool) (parts : List (List ℕ)) → parts ≡ [] → stand_behind behind parts ≡ whole → behind ≡ whole
+all-stand behind whole parts none so_far = ap (stand_behind behind) (sym none) ∙ so_far
+
+-- two lists without their common front
+abbrev apart_of : List (List ℕ) → List (List ℕ) → Apart
+apart_of path base = record { path = path; base = base }
+
+pub apart-both : (path base more others : List (List ℕ)) (part other : List ℕ) → path ≡ part ∷ more → base ≡ other ∷ others → bytes_eq part other ≡ false → AreApart path base
+apart-both path base more others part other is at differ =
+    ap (λ ps. apart ps base) is ∙ ap (apart (part ∷ more)) at ∙ ap (λ b. cond b (apart more others) (apart_of (part ∷ more) (other ∷ others))) differ
+    ∙ ap (λ ps. apart_of ps (other ∷ others)) (sym is) ∙ ap (apart_of path) (sym at)
+
+pub apart-common : (path base more others : List (List ℕ)) (part other : List ℕ) → path ≡ part ∷ more → base ≡ other ∷ others → bytes_eq part other ≡ true
+    → apart path base ≡ apart more others
+apart-common path base more others part other is at same =
+    ap (λ ps. apart ps base) is ∙ ap (apart (part ∷ more)) at ∙ ap (λ b. cond b (apart more others) (apart_of (part ∷ more) (other ∷ others))) same
+
+-- the steps up, and what is left of the path behind them
+pub seen-apart : (seen first none : List ℕ) (behind : Bool) (whole : Apart) (below above : List (List ℕ)) → below ≡ whole.path → above ≡ whole.base → none ≡ []
+    → first ≡ none ++ then_slashed false (steps_up above) → behind ≡ stand_behind false (steps_up above) → seen ≡ first ++ then_slashed behind below → seen ≡ from_apart whole
+seen-apart seen first none behind whole below above is_path is_base empty at_first stands_behind at_seen =
+    at_seen ∙ ap (λ f. f ++ then_slashed behind below) (at_first ∙ ap (λ n. n ++ then_slashed false (steps_up above)) empty)
+    ∙ ap (λ b. then_slashed false (steps_up above) ++ then_slashed b below) stands_behind
+    ∙ sym (then_slashed-append false (steps_up above) below) ∙ ap (λ ps. slashed (steps_up ps ++ below)) is_base ∙ ap (λ ps. slashed (steps_up whole.base ++ ps)) is_path

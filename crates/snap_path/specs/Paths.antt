@@ -64,6 +64,10 @@ apart [] base = record { path = []; base = base }
 apart (p ∷ path) [] = record { path = p ∷ path; base = [] }
 apart (p ∷ path) (b ∷ base) = if bytes_eq p b then apart path base else record { path = p ∷ path; base = b ∷ base }
 
+-- no part of the two is common at their fronts
+abbrev pub AreApart : List (List ℕ) → List (List ℕ) → Type 0
+AreApart path base = apart path base ≡ record { path = path; base = base }
+
 -- one step up for each part
 abbrev pub steps_up : List (List ℕ) → List (List ℕ)
 steps_up [] = []

@@ -1,8 +1,10 @@
-//! A path in its components, and a path of components. The one error is want of memory.
-ghost use Rattle.std.specs.Prelude.{◌≡◌, [], ◌∷◌, ◌++◌, IfOk, OnOk};
-ghost use Rattle.std.specs.List.{filter, flat_map};
+//! A path in its components, which are read off its text: from its front and from its end. The one error is want of memory.
+ghost use Rattle.std.specs.Prelude.{◌≡◌, ◌<◌, [], ◌∷◌, ◌++◌, length, IfOk, IfSome, MatchOption, OnOk, Some, None, IsTrue, false};
+ghost use Rattle.std.specs.Char.{is_ascii};
+ghost use Rattle.std.specs.List.{list_all};
 ghost use Rattle.std.specs.Str.{chars};
-ghost use Rattle.snap_path.specs.Paths.{is_component, components, slashed, then_slashed, stand_behind, path_of_parts, steps_up, behind_slash};
+ghost use Rattle.snap_path.specs.Names.{cut_last, cut_of};
+ghost use Rattle.snap_path.specs.Paths.{is_component, components, then_slashed, stand_behind, steps_up};
 
 use snap_content::characters::split_first;
 use snap_content::{OutOfMemory, Text};
@@ -10,7 +12,7 @@ use snap_str::cut::split_once;
 use std::alloc::Global;
 
 /// Whether the text between two slashes is a component: neither empty nor a dot.
-pub fn is_component(part: &str) -> bool
+fn is_component(part: &str) -> bool
     ensures { result ≡ is_component (chars part.now) }
 {
     match split_first(part) {
@@ -19,50 +21,54 @@ pub fn is_component(part: &str) -> bool
     }
 }
 
-/// Adds the text between two slashes, if it is a component.
-fn push_part(alloc: Global, parts: &mut Vec<Text>, part: &str) -> Result<(), OutOfMemory>
-    ensures { OnOk result (parts.new.items
-        ≡ parts.old.items ++ filter is_component (chars part.now ∷ [])) }
+/// The first component, and what stands behind it; none exactly where there is no component.
+pub fn next_component(path: &str) -> Option<(&str, &str)>
+    ensures component { MatchOption result (components (chars path.now) ≡ [])
+        (λ p. components (chars path.now) ≡ chars p.0.now ∷ components (chars p.1.now)) }
+    ensures shorter { IfSome result (λ p. length (chars p.1.now) < length (chars path.now)) }
 {
-    if is_component(part) {
-        parts.push(Text::from_str(alloc, part)?)?;
-    }
-    Ok(())
-}
-
-/// The components of the path.
-pub fn parts_of(alloc: Global, path: &str) -> Result<Vec<Text>, OutOfMemory>
-    ensures { IfOk result (λ parts. parts.items ≡ components (chars path.now)) }
-{
-    let mut parts = Vec::new(alloc);
     let mut rest = path;
     while let Some((part, next)) = split_once(rest, '/') {
-        push_part(alloc, &mut parts, part)?;
+        if is_component(part) {
+            return Some((part, next));
+        }
         rest = next;
     }
-    push_part(alloc, &mut parts, rest)?;
-    Ok(parts)
+    if is_component(rest) {
+        Some((rest, ""))
+    } else {
+        None
+    }
 }
 
-/// Adds copies of the parts.
-pub fn push_copies(alloc: Global, parts: &mut Vec<Text>, more: &[Text]) -> Result<(), OutOfMemory>
-    ensures { OnOk result (parts.new.items ≡ parts.old.items ++ more.now) }
+/// What stands before and behind the last place of the mark in the text.
+pub fn cut_at_last<'a>(text: &'a str, mark: &str) -> Option<(&'a str, &'a str)>
+    requires ascii { IsTrue (list_all is_ascii mark.now) }
+    requires mark { 0 < length mark.now }
+    ensures cut { MatchOption result (cut_last mark.now (chars text.now) ≡ None)
+        (λ p. cut_last mark.now (chars text.now) ≡ Some (cut_of (chars p.0.now) (chars p.1.now))) }
+    ensures shorter { IfSome result (λ p. length (chars p.0.now) < length (chars text.now)) }
 {
-    for part in more {
-        parts.push(part.try_clone(alloc)?)?;
-    }
-    Ok(())
+    text.rsplit_once(mark)
 }
 
-/// One step up for each of the parts.
-pub fn steps_above(alloc: Global, parts: &[Text]) -> Result<Vec<Text>, OutOfMemory>
-    ensures { IfOk result (λ steps. steps.items ≡ steps_up parts.now) }
+/// The last component, behind what stands before it; none exactly where there is no component.
+pub fn last_component(path: &str) -> Option<(&str, &str)>
+    ensures { MatchOption result (components (chars path.now) ≡ [])
+        (λ p. components (chars path.now) ≡ components (chars p.0.now) ++ chars p.1.now ∷ []) }
 {
-    let mut steps = Vec::new(alloc);
-    for _part in parts {
-        steps.push(Text::from_ascii(alloc, "..")?)?;
+    let mut rest = path;
+    while let Some((front, part)) = cut_at_last(rest, "/") {
+        if is_component(part) {
+            return Some((front, part));
+        }
+        rest = front;
     }
-    Ok(steps)
+    if is_component(rest) {
+        Some(("", rest))
+    } else {
+        None
+    }
 }
 
 /// Adds the component: behind a slash, where others stand before it.
@@ -81,25 +87,6 @@ fn push_component(
     Ok(())
 }
 
-/// Adds the text between two slashes, if it is a component. Whether a component stands in the path then.
-fn push_if_component(
-    alloc: Global,
-    path: &mut Text,
-    is_behind: bool,
-    part: &str,
-) -> Result<bool, OutOfMemory>
-    ensures path { OnOk result (path.new
-        ≡ path.old ++ then_slashed is_behind (filter is_component (chars part.now ∷ []))) }
-    ensures behind { IfOk result (λ behind. behind
-        ≡ stand_behind is_behind (filter is_component (chars part.now ∷ []))) }
-{
-    if !is_component(part) {
-        return Ok(is_behind);
-    }
-    push_component(alloc, path, is_behind, part)?;
-    Ok(true)
-}
-
 /// Adds the components of the text with a slash between each two, and one before the first where others stand before it.
 /// Whether a component stands in the path then.
 pub fn push_components(
@@ -115,44 +102,27 @@ pub fn push_components(
 {
     let mut is_behind = is_behind;
     let mut rest = text;
-    while let Some((part, next)) = split_once(rest, '/') {
-        is_behind = push_if_component(alloc, path, is_behind, part)?;
+    while let Some((part, next)) = next_component(rest) {
+        push_component(alloc, path, is_behind, part)?;
+        is_behind = true;
         rest = next;
     }
-    push_if_component(alloc, path, is_behind, rest)
+    Ok(is_behind)
 }
 
-/// Adds each of the parts behind a slash.
-fn push_behind_slashes(alloc: Global, path: &mut Text, parts: &[Text]) -> Result<(), OutOfMemory>
-    ensures { OnOk result (path.new ≡ path.old ++ flat_map behind_slash parts.now) }
+/// Adds one step up for each component of the text, with a slash between each two. Whether a step stands there then.
+pub fn push_steps(alloc: Global, path: &mut Text, text: &str) -> Result<bool, OutOfMemory>
+    ensures path { OnOk result (path.new
+        ≡ path.old ++ then_slashed false (steps_up (components (chars text.now)))) }
+    ensures behind { IfOk result (λ behind. behind
+        ≡ stand_behind false (steps_up (components (chars text.now)))) }
 {
-    for part in parts {
-        path.push(alloc, '/')?;
-        path.push_text(alloc, part)?;
+    let mut is_behind = false;
+    let mut rest = text;
+    while let Some((_, next)) = next_component(rest) {
+        push_component(alloc, path, is_behind, "..")?;
+        is_behind = true;
+        rest = next;
     }
-    Ok(())
-}
-
-/// Adds the parts with a slash between each two.
-fn push_slashed(alloc: Global, path: &mut Text, parts: &[Text]) -> Result<(), OutOfMemory>
-    ensures { OnOk result (path.new ≡ path.old ++ slashed parts.now) }
-{
-    let Some((first, others)) = parts.split_first() else {
-        return Ok(());
-    };
-    path.push_text(alloc, first)?;
-    push_behind_slashes(alloc, path, others)?;
-    Ok(())
-}
-
-/// The path that the parts make.
-pub fn path_text(alloc: Global, absolute: bool, parts: &[Text]) -> Result<Text, OutOfMemory>
-    ensures { IfOk result (λ path. path ≡ path_of_parts absolute parts.now) }
-{
-    let mut path = Text::empty();
-    if absolute {
-        path.push(alloc, '/')?;
-    }
-    push_slashed(alloc, &mut path, parts)?;
-    Ok(path)
+    Ok(is_behind)
 }

@@ -1,39 +1,22 @@
 //! The names that a path tells: its last component, and the name and the module of a snapshot.
-ghost use Rattle.std.specs.Prelude.{◌≡◌, ◌<◌, length, IfOk, IfSome, MatchOption, Some, None, option_map, IsTrue};
-ghost use Rattle.std.specs.Char.{is_ascii};
-ghost use Rattle.std.specs.List.{list_all};
+ghost use Rattle.std.specs.Prelude.{◌≡◌, IfOk, option_map};
 ghost use Rattle.std.specs.Str.{chars};
-ghost use Rattle.snap_path.specs.Names.{cut_last, cut_of, stem_of, snapshot_name, module_name};
+ghost use Rattle.snap_path.specs.Names.{stem_of, snapshot_name, module_name};
 ghost use Rattle.snap_path.specs.Paths.{name_of};
 
-use crate::components::is_component;
+use crate::components::{cut_at_last, last_component};
 use snap_content::characters::is_same;
 use snap_content::{OutOfMemory, Text};
 use std::alloc::Global;
-
-/// What stands before and behind the last place of the mark in the text.
-fn cut_at_last<'a>(text: &'a str, mark: &str) -> Option<(&'a str, &'a str)>
-    requires ascii { IsTrue (list_all is_ascii mark.now) }
-    requires mark { 0 < length mark.now }
-    ensures cut { MatchOption result (cut_last mark.now (chars text.now) ≡ None)
-        (λ p. cut_last mark.now (chars text.now) ≡ Some (cut_of (chars p.0.now) (chars p.1.now))) }
-    ensures shorter { IfSome result (λ p. length (chars p.0.now) < length (chars text.now)) }
-{
-    text.rsplit_once(mark)
-}
 
 /// The last component; none exactly where there is no component.
 pub fn path_name(path: &Text) -> Option<&str>
     ensures { option_map (λ name. chars name.now) result ≡ name_of path.now }
 {
-    let mut rest = path.as_str();
-    while let Some((front, part)) = cut_at_last(rest, "/") {
-        if is_component(part) {
-            return Some(part);
-        }
-        rest = front;
+    match last_component(path.as_str()) {
+        Some((_, name)) => Some(name),
+        None => None,
     }
-    if is_component(rest) { Some(rest) } else { None }
 }
 
 /// The name without its last part behind a dot. A dot in front begins no such part.

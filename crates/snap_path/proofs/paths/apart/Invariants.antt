@@ -1,10 +1,17 @@
 use Rattle.std.proofs.Common.{◌≡◌, length}
-use Rattle.snap_path.specs.Paths.{apart}
+use denote.Text.{Utf8}
+use denote.Shadow.{shadow}
+use Rattle.std.specs.Str.{chars}
+use Rattle.snap_path.specs.Paths.{apart, components}
 use Rattle.snap_path.proofs.paths.apart.Given as goal
 
 -- what is left falls apart as the whole does
-abbrev pub invariant-loop-part : goal.invariant-loop-part
-invariant-loop-part l = apart l.path_left l.base_left ≡ apart l.initial.path_left l.initial.base_left
+abbrev pub invariant-loop-path_rest : goal.invariant-loop-path_rest
+invariant-loop-path_rest l = record {
+  path_utf8 : shadow (Utf8 l.path_left);
+  base_utf8 : shadow (Utf8 l.base_left);
+  same : apart (components (chars l.path_left)) (components (chars l.base_left)) ≡ apart (components (chars l.initial.path)) (components (chars l.initial.base));
+}
 
-abbrev pub decreases-loop-part : goal.decreases-loop-part
-decreases-loop-part l = length l.path_left
+abbrev pub decreases-loop-path_rest : goal.decreases-loop-path_rest
+decreases-loop-path_rest l = length (chars l.path_left)

@@ -1,15 +1,16 @@
-use Rattle.std.proofs.Common.{◌≡◌, ◌++◌, length}
+use Rattle.std.proofs.Common.{◌≡◌, ◌≤◌, length}
 use denote.Text.{Utf8}
 use denote.Shadow.{shadow}
 use Rattle.std.specs.Str.{chars}
 use Rattle.snap_path.specs.Paths.{components}
-use Rattle.snap_path.proofs.components.parts_of.Given as goal
+use Rattle.snap_path.proofs.components.next_component.Given as goal
 
--- the components so far, and those of what is left
+-- what is left has the same components, and is no longer
 abbrev pub invariant-loop-part : goal.invariant-loop-part
 invariant-loop-part l = record {
   utf8 : shadow (Utf8 l.rest);
-  so_far : l.parts.items ++ components (chars l.rest) ≡ components (chars l.initial.path);
+  same : components (chars l.rest) ≡ components (chars l.initial.path);
+  bound : length (chars l.rest) ≤ length (chars l.initial.path);
 }
 
 abbrev pub decreases-loop-part : goal.decreases-loop-part

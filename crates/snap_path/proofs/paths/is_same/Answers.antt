@@ -1,0 +1,6 @@
+use Rattle.std.proofs.Common.{◌∙◌}
+use Rattle.snap_content.proofs.Ends.{same_texts}
+use Rattle.snap_path.proofs.paths.is_same.Goals as goal
+
+pub returns : goal.returns
+returns c = c.eq.ensures ∙ same_texts c.args.part.now c.args.other.now c.utf8.part c.utf8.other
