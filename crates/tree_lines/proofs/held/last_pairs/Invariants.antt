@@ -1,5 +1,5 @@
 use Rattle.std.proofs.Common.{◌≡◌, ◌++◌, ◌∷◌, [], length, reverse, flat_map}
-use Rattle.json_lines.proofs.held.last_pairs.Given as goal
+use Rattle.tree_lines.proofs.held.last_pairs.Given as goal
 
 abbrev pub invariant-loop-pair : goal.invariant-loop-pair
 invariant-loop-pair g l = record {

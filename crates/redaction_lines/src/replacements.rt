@@ -1,0 +1,110 @@
+//! What stands in place of a value, by its name in a column.
+//!
+//! `put` and a tree is that tree, `sorted` the value with its list in order. The others are a caller's own: `depth` is an object that
+//! puts the number of steps to a value, `listed` a function that puts the value
+//! into a list, and `none` a function that promises to put no value.
+//! Each function makes its own box: a function may not make one and hand it out.
+use snap_content::{Content, Items, OutOfMemory};
+use snap_select::{Answers, ContentPath, FnRedactor, PathItem, Redaction, Redactor, Selector};
+use std::alloc::Global;
+use thiserror::Error;
+use tree_lines::tree_of_column;
+
+/// A column that names nothing to put.
+#[derive(Clone, Copy, Debug, Error)]
+#[error("NoReplacement")]
+pub struct NoReplacement;
+
+/// The tree with what is named in place of what the selector hits.
+pub fn put(
+    alloc: Global,
+    tree: Content,
+    selector: &Selector<'_>,
+    name: &str,
+) -> Result<Content, anyhow::Error> {
+    match name {
+        "sorted" => Ok(selector.redact(alloc, tree, &Redaction::Sorted)?),
+        "depth" => Ok(put_depth(alloc, tree, selector)?),
+        "listed" => Ok(put_listed(alloc, tree, selector)?),
+        "none" => Ok(put_none(alloc, tree, selector)?),
+        _ => put_tree(alloc, tree, selector, name),
+    }
+}
+
+fn put_tree(
+    alloc: Global,
+    tree: Content,
+    selector: &Selector<'_>,
+    name: &str,
+) -> Result<Content, anyhow::Error> {
+    let Some(words) = name.strip_prefix("put ") else {
+        return Err(NoReplacement.into());
+    };
+    let redaction = Redaction::from_content(tree_of_column(alloc, words)?);
+    Ok(selector.redact(alloc, tree, &redaction)?)
+}
+
+/// Puts the number of steps to it in place of each value.
+#[derive(Drop)]
+struct Depth;
+
+impl Redactor for Depth {
+    ghost use Rattle.std.specs.Prelude.{◌≡◌, length};
+    ghost use Rattle.snap_content.specs.Tree as t;
+
+    ghost allows = { λ _ _ steps out. out ≡ t.u64 (length steps) };
+
+    fn redact(
+        &self,
+        _alloc: Global,
+        _value: Content,
+        path: ContentPath<'_>,
+    ) -> Result<Content, OutOfMemory> {
+        Ok(Content::U64(path.items().len() as u64))
+    }
+}
+
+fn put_depth(
+    alloc: Global,
+    tree: Content,
+    selector: &Selector<'_>,
+) -> Result<Content, OutOfMemory> {
+    let redaction = Redaction::Dynamic(Box::new(alloc, Depth)?);
+    selector.redact(alloc, tree, &redaction)
+}
+
+fn put_listed(
+    alloc: Global,
+    tree: Content,
+    selector: &Selector<'_>,
+) -> Result<Content, OutOfMemory> {
+    let function = FnRedactor::new(Box::new(
+        alloc,
+        |alloc: Global, value: Content, _path: &[PathItem]| -> Result<Content, OutOfMemory> {
+            let mut items = Items::new(alloc);
+            items.push(value)?;
+            Ok(Content::Seq(items))
+        },
+    )?);
+    selector.redact(alloc, tree, &Redaction::Function(function))
+}
+
+/// Each answer is no value.
+struct EachNone;
+
+impl Answers for EachNone {
+    ghost use Rattle.std.specs.Prelude.{◌≡◌};
+    ghost use Rattle.snap_content.specs.Tree as t;
+
+    ghost answers = { λ _ _ out. out ≡ t.none };
+}
+
+fn put_none(alloc: Global, tree: Content, selector: &Selector<'_>) -> Result<Content, OutOfMemory> {
+    let function = FnRedactor::promising::<EachNone>(Box::new(
+        alloc,
+        |_alloc: Global, _value: Content, _path: &[PathItem]| -> Result<Content, OutOfMemory> {
+            Ok(Content::None)
+        },
+    )?);
+    selector.redact(alloc, tree, &Redaction::Function(function))
+}
