@@ -1,0 +1,27 @@
+//! The calls, each with its columns. They use one store, which is empty at first, and the file `p` in it.
+//!
+//! - `save RUN LINE NEW OLD`: a record is saved, of snapshots in three columns each; the last ones may be left out.
+//! - `again TEXT`: the batch of a file is loaded and saved.
+//! - `steps STEP..`: records without snapshots, one after the other: `add LINE` saves one, `replace LINE` saves a batch of one, and
+//!   `fail CALL` lets that call of the store fail.
+use crate::records::{saved, saved_again};
+use crate::steps::taken;
+use crate::stored::store_line;
+use snap_content::{OutOfMemory, Text};
+use snap_outside::MemoryStore;
+use snapshot_lines::first_column;
+use std::alloc::Global;
+
+/// The answer to a row.
+pub fn called(alloc: Global, row: &str) -> Result<Text, OutOfMemory> {
+    let (call, columns) = first_column(row);
+    let path = Text::from_ascii(alloc, "p")?;
+    let mut store = MemoryStore::new(alloc);
+    let end = match call {
+        "save" => saved(alloc, &mut store, &path, columns),
+        "again" => saved_again(alloc, &mut store, &path, columns),
+        "steps" => taken(alloc, &mut store, &path, columns),
+        _ => return Text::from_ascii(alloc, "no call"),
+    };
+    store_line(alloc, &store, &path, end)
+}

@@ -1,0 +1,74 @@
+//! Copies and agreement.
+//!
+//! Contents stand in one column: `text=` and a text, `payload=` and bytes, or `absent`.
+use crate::shown::{add_metadata, add_snapshot};
+use row_lines::text_of;
+use snap_content::{OutOfMemory, Text};
+use snap_store::SnapshotContents;
+use snap_text::{TextSnapshotContents, TextSnapshotKind};
+use snapshot_lines::{bytes_of, first_column, metadata_of, snapshot_of};
+use std::alloc::Global;
+
+/// The copy of metadata.
+pub fn metadata_line(alloc: Global, column: &str) -> Result<Text, OutOfMemory> {
+    let metadata = metadata_of(alloc, column)?;
+    let copy = metadata.try_clone(alloc)?;
+    let mut line = Text::empty();
+    add_metadata(alloc, &mut line, &copy)?;
+    Ok(line)
+}
+
+/// The copy of a snapshot.
+pub fn snapshot_line(alloc: Global, columns: &str) -> Result<Text, OutOfMemory> {
+    let (snapshot, _) = snapshot_of(alloc, Text::empty(), TextSnapshotKind::File, columns)?;
+    let copy = snapshot.try_clone(alloc)?;
+    let mut line = Text::empty();
+    add_snapshot(alloc, &mut line, &copy)?;
+    Ok(line)
+}
+
+fn contents_of(alloc: Global, column: &str) -> Result<SnapshotContents, OutOfMemory> {
+    let (kind, held) = column.split_once('=').unwrap_or((column, ""));
+    match kind {
+        "text" => Ok(SnapshotContents::from_text(TextSnapshotContents::new(
+            text_of(alloc, held)?,
+            TextSnapshotKind::File,
+        ))),
+        "payload" => Ok(SnapshotContents::Binary(Some(bytes_of(alloc, held)?))),
+        _ => Ok(SnapshotContents::Binary(None)),
+    }
+}
+
+fn agree(
+    alloc: Global,
+    left: &SnapshotContents,
+    right: &SnapshotContents,
+) -> Result<Text, OutOfMemory> {
+    if left.agrees(alloc, right)? {
+        Text::from_ascii(alloc, "agree")
+    } else {
+        Text::from_ascii(alloc, "differ")
+    }
+}
+
+/// What the copy of contents is, and whether it agrees with them.
+pub fn contents_line(alloc: Global, column: &str) -> Result<Text, OutOfMemory> {
+    let contents = contents_of(alloc, column)?;
+    let copy = contents.try_clone(alloc)?;
+    let kind = if copy.is_binary() {
+        "binary\t"
+    } else {
+        "text\t"
+    };
+    let mut line = Text::from_ascii(alloc, kind)?;
+    line.push_text(alloc, &agree(alloc, &contents, &copy)?)?;
+    Ok(line)
+}
+
+/// Whether the contents of two columns agree.
+pub fn agree_line(alloc: Global, columns: &str) -> Result<Text, OutOfMemory> {
+    let (left, right) = first_column(columns);
+    let left = contents_of(alloc, left)?;
+    let right = contents_of(alloc, right)?;
+    agree(alloc, &left, &right)
+}

@@ -1,0 +1,75 @@
+//! Files that are cut, and files that are read.
+use crate::shown::{add_metadata, add_snapshot};
+use row_lines::{add_escaped, text_of};
+use snap_content::{Error, OutOfMemory, Text};
+use snap_outside::SteadyStore;
+use snap_store::Snapshot;
+use snap_store::legacy::{legacy_metadata, legacy_text};
+use snap_store::split::split_file;
+use snapshot_lines::{bytes_of, first_column};
+use std::alloc::Global;
+
+/// The header and the body of a file.
+pub fn split_line(alloc: Global, columns: &str) -> Result<Text, OutOfMemory> {
+    let file = text_of(alloc, columns)?;
+    let mut line = Text::empty();
+    match split_file(alloc, file.as_str())? {
+        Some(headed) => {
+            add_escaped(alloc, &mut line, headed.header.as_str())?;
+            line.push_ascii(alloc, "\t")?;
+            add_escaped(alloc, &mut line, headed.body.as_str())?;
+        }
+        None => line.push_ascii(alloc, "no header")?,
+    }
+    Ok(line)
+}
+
+/// The metadata and the body of a file that has no header.
+pub fn legacy_line(alloc: Global, columns: &str) -> Result<Text, OutOfMemory> {
+    let file = text_of(alloc, columns)?;
+    let metadata = legacy_metadata(alloc, file.as_str())?;
+    let mut line = Text::empty();
+    add_metadata(alloc, &mut line, &metadata)?;
+    line.push_ascii(alloc, "\t")?;
+    add_escaped(
+        alloc,
+        &mut line,
+        legacy_text(alloc, file.as_str())?.as_str(),
+    )?;
+    Ok(line)
+}
+
+/// The snapshot of a store's file.
+fn snapshot_line(alloc: Global, store: &mut SteadyStore, path: &Text) -> Result<Text, Error> {
+    let snapshot = Snapshot::from_file(alloc, store, path)?;
+    let mut line = Text::empty();
+    add_snapshot(alloc, &mut line, &snapshot)?;
+    Ok(line)
+}
+
+/// The snapshot of a file at a path.
+pub fn read_line(alloc: Global, columns: &str) -> Result<Text, Error> {
+    let (path, file) = first_column(columns);
+    let path = text_of(alloc, path)?;
+    let file = text_of(alloc, file)?;
+    let mut store = SteadyStore::new(alloc);
+    store.put(&path, file.as_str().as_bytes())?;
+    snapshot_line(alloc, &mut store, &path)
+}
+
+/// The snapshot of a file of these bytes, which may be no text.
+pub fn read_bytes_line(alloc: Global, columns: &str) -> Result<Text, Error> {
+    let (path, bytes) = first_column(columns);
+    let path = text_of(alloc, path)?;
+    let file = bytes_of(alloc, bytes)?;
+    let mut store = SteadyStore::new(alloc);
+    store.put(&path, file.as_slice())?;
+    snapshot_line(alloc, &mut store, &path)
+}
+
+/// What is read where no file is.
+pub fn missing_line(alloc: Global, columns: &str) -> Result<Text, Error> {
+    let path = text_of(alloc, columns)?;
+    let mut store = SteadyStore::new(alloc);
+    snapshot_line(alloc, &mut store, &path)
+}

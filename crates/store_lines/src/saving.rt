@@ -1,0 +1,48 @@
+//! Snapshots that are saved.
+use row_lines::{add_escaped, text_of};
+use snap_content::{Error, OutOfMemory, Text};
+use snap_outside::SteadyStore;
+use snap_text::TextSnapshotKind;
+use snapshot_lines::{first_column, snapshot_of};
+use std::alloc::Global;
+use std::str;
+
+/// The path of a file, how many files the store has, and that file's text.
+fn stored_line(alloc: Global, store: &SteadyStore, path: &Text) -> Result<Text, OutOfMemory> {
+    let mut line = Text::empty();
+    add_escaped(alloc, &mut line, path.as_str())?;
+    let counted = format!(in alloc; "\t{}\t", store.len())?;
+    line.push_str(alloc, counted.as_str())?;
+    add_file(alloc, &mut line, store.get(path))?;
+    Ok(line)
+}
+
+fn add_file(alloc: Global, line: &mut Text, file: Option<&[u8]>) -> Result<(), OutOfMemory> {
+    let Some(bytes) = file else {
+        return line.push_ascii(alloc, "no file");
+    };
+    match str::from_utf8(bytes) {
+        Ok(text) => add_escaped(alloc, line, text),
+        Err(_) => line.push_ascii(alloc, "no text"),
+    }
+}
+
+/// The file of a snapshot that is saved.
+pub fn save_line(alloc: Global, columns: &str) -> Result<Text, Error> {
+    let (path, columns) = first_column(columns);
+    let path = text_of(alloc, path)?;
+    let (snapshot, _) = snapshot_of(alloc, Text::empty(), TextSnapshotKind::File, columns)?;
+    let mut store = SteadyStore::new(alloc);
+    snapshot.save(alloc, &mut store, &path)?;
+    Ok(stored_line(alloc, &store, &path)?)
+}
+
+/// The file in which a snapshot waits for a review.
+pub fn save_new_line(alloc: Global, columns: &str) -> Result<Text, Error> {
+    let (path, columns) = first_column(columns);
+    let path = text_of(alloc, path)?;
+    let (snapshot, _) = snapshot_of(alloc, Text::empty(), TextSnapshotKind::File, columns)?;
+    let mut store = SteadyStore::new(alloc);
+    let pending = snapshot.save_new(alloc, &mut store, &path)?;
+    Ok(stored_line(alloc, &store, &pending)?)
+}

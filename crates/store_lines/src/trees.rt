@@ -1,0 +1,90 @@
+//! Metadata of trees, and trees of metadata.
+//!
+//! A map stands in one column: pairs `NAME=WORD` of a text and a tree of one word, with `; ` between each two.
+use crate::shown::{add_metadata, add_tree};
+use row_lines::text_of;
+use snap_content::{Content, Error, OutOfMemory, Pairs, Text};
+use snap_store::MetaData;
+use snapshot_lines::tree_of_word;
+use std::alloc::Global;
+
+fn pair_of(alloc: Global, pair: &str) -> Result<(Content, Content), OutOfMemory> {
+    let (name, word) = pair.split_once('=').unwrap_or((pair, ""));
+    let tree = tree_of_word(alloc, word)?;
+    Ok((Content::String(text_of(alloc, name)?), tree))
+}
+
+fn map_of(alloc: Global, column: &str) -> Result<Content, OutOfMemory> {
+    let mut pairs = Pairs::new(alloc);
+    for pair in column.split("; ") {
+        pairs.push(pair_of(alloc, pair)?)?;
+    }
+    Ok(Content::Map(pairs))
+}
+
+/// The metadata that a tree tells.
+fn told_line(alloc: Global, tree: &Content) -> Result<Text, Error> {
+    let metadata = MetaData::from_content(alloc, tree)?;
+    let mut line = Text::empty();
+    add_metadata(alloc, &mut line, &metadata)?;
+    Ok(line)
+}
+
+/// The metadata that a map tells.
+pub fn tree_line(alloc: Global, column: &str) -> Result<Text, Error> {
+    let map = map_of(alloc, column)?;
+    told_line(alloc, &map)
+}
+
+/// The metadata that a map in a wrapper tells.
+pub fn wrapped_line(alloc: Global, column: &str) -> Result<Text, Error> {
+    let map = wrapped_map(alloc, column)?;
+    told_line(alloc, &map)
+}
+
+fn wrapped_map(alloc: Global, column: &str) -> Result<Content, OutOfMemory> {
+    let map = map_of(alloc, column)?;
+    Ok(Content::Some(Box::new(alloc, map)?))
+}
+
+/// The metadata that a tree of one word tells.
+pub fn other_line(alloc: Global, column: &str) -> Result<Text, Error> {
+    let tree = tree_of_word(alloc, column)?;
+    told_line(alloc, &tree)
+}
+
+/// The tree that is made of the metadata of a map.
+pub fn made_line(alloc: Global, column: &str) -> Result<Text, Error> {
+    let map = map_of(alloc, column)?;
+    let metadata = MetaData::from_content(alloc, &map)?;
+    Ok(pairs_line(alloc, metadata.to_content(alloc)?)?)
+}
+
+/// The pairs of a map, as they stand in a column.
+fn pairs_line(alloc: Global, tree: Content) -> Result<Text, OutOfMemory> {
+    let Content::Map(pairs) = tree else {
+        return Text::from_ascii(alloc, "no map");
+    };
+    let mut line = Text::empty();
+    for (name, value) in pairs.as_slice() {
+        add_pair(alloc, &mut line, name, value)?;
+    }
+    Ok(line)
+}
+
+fn add_pair(
+    alloc: Global,
+    line: &mut Text,
+    name: &Content,
+    value: &Content,
+) -> Result<(), OutOfMemory> {
+    if line.len() > 0 {
+        line.push_ascii(alloc, "; ")?;
+    }
+    match name {
+        Content::String(text) => line.push_text(alloc, text)?,
+        _ => line.push_ascii(alloc, "?")?,
+    }
+    line.push_ascii(alloc, "=")?;
+    add_tree(alloc, line, value)
+}
