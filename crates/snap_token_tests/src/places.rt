@@ -95,6 +95,7 @@ fn errors_are_printed(rt: HostRuntime) -> Result<(), Fail> {
         let printed = format!(in rt.alloc(); "{error}")?;
         assert_eq!(rt; printed.as_str(), text);
     }
+    assert_eq!(rt; ScanInfo::S23.text(), "recursion limit exceeded");
     assert_eq!(rt; ScanInfo::S25.text(), "\"-\" is only valid inside a block");
     let printed = format!(in rt.alloc(); "{}", ScanError::from(OutOfMemory))?;
     assert_eq!(rt; printed.as_str(), "OutOfMemory");
