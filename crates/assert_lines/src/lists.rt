@@ -1,0 +1,46 @@
+//! Lists of one redaction.
+use crate::columns::{add_column, add_taken, cut};
+use row_lines::text_of;
+use snap_assert::Redactions;
+use snap_content::{Content, OutOfMemory, Text};
+use snap_emit::yaml;
+use snap_select::Redaction;
+use std::alloc::Global;
+
+/// The redaction that puts a text.
+pub fn put(alloc: Global, text: &str) -> Result<Redaction, OutOfMemory> {
+    Ok(Redaction::from_content(Content::from_str(alloc, text)?))
+}
+
+/// The list of one redaction.
+pub fn list_of(
+    alloc: Global,
+    selector: &str,
+    text: &str,
+) -> Result<Vec<(Text, Redaction)>, OutOfMemory> {
+    let selector = Text::from_str(alloc, selector)?;
+    let mut list = Vec::new(alloc);
+    list.push((selector, put(alloc, text)?))?;
+    Ok(list)
+}
+
+/// The text of the tree that redactions make of 42.
+fn applied(alloc: Global, redactions: &Redactions) -> Result<Text, anyhow::Error> {
+    let made = redactions.apply(alloc, Content::U8(42))?;
+    Ok(yaml::to_string(alloc, &made, false)?)
+}
+
+/// What a list of one redaction makes of 42.
+pub fn list_line(alloc: Global, columns: &str) -> Result<Text, anyhow::Error> {
+    let (selector, text) = cut(columns);
+    let text = text_of(alloc, text)?;
+    let mut line = Text::empty();
+    match Redactions::from_list(alloc, list_of(alloc, selector, text.as_str())?) {
+        Ok(redactions) => {
+            let made = applied(alloc, &redactions)?;
+            add_column(alloc, &mut line, made.as_str())?;
+        }
+        Err(error) => add_taken(alloc, &mut line, Err(error))?,
+    }
+    Ok(line)
+}

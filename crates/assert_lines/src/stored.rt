@@ -1,0 +1,72 @@
+//! Redactions by stored functions and by an object of one's own.
+use crate::asserted::add_saved;
+use crate::columns::{add_taken, cut};
+use snap_assert::Settings;
+use snap_content::{Content, OutOfMemory, Text};
+use snap_select::{ContentPath, FnRedactor, PathItem, Redaction, Redactor};
+use std::alloc::Global;
+
+/// Puts its number in place of each value.
+#[derive(Drop)]
+struct Numbered(u8);
+
+impl Redactor for Numbered {
+    ghost use Rattle.std.specs.Prelude.{◌≡◌};
+    ghost use Rattle.snap_content.specs.Tree as t;
+
+    ghost allows = { λ s _ _ out. out ≡ t.u8 s.0 };
+
+    fn redact(
+        &self,
+        _alloc: Global,
+        _value: Content,
+        _path: ContentPath<'_>,
+    ) -> Result<Content, OutOfMemory> {
+        Ok(Content::U8(self.0))
+    }
+}
+
+/// A stored function that puts a text in place of each value.
+pub fn function_line(alloc: Global, selector: &str) -> Result<Text, anyhow::Error> {
+    let mut settings = Settings::new(alloc)?;
+    let function = FnRedactor::new(Box::new(
+        alloc,
+        |alloc: Global, _value: Content, _path: &[PathItem]| -> Result<Content, OutOfMemory> {
+            Content::from_str(alloc, "[id]")
+        },
+    )?);
+    let mut line = Text::empty();
+    let taken = settings.add_dynamic_redaction(selector, function);
+    add_taken(alloc, &mut line, taken)?;
+    add_saved(alloc, &mut line, &settings)?;
+    Ok(line)
+}
+
+/// A stored function that puts the count of the steps to a value in its place.
+pub fn depth_line(alloc: Global, selector: &str) -> Result<Text, anyhow::Error> {
+    let mut settings = Settings::new(alloc)?;
+    let function = FnRedactor::new(Box::new(
+        alloc,
+        |_alloc: Global, _value: Content, path: &[PathItem]| -> Result<Content, OutOfMemory> {
+            Ok(Content::U64(path.len() as u64))
+        },
+    )?);
+    let mut line = Text::empty();
+    let taken = settings.add_dynamic_redaction(selector, function);
+    add_taken(alloc, &mut line, taken)?;
+    add_saved(alloc, &mut line, &settings)?;
+    Ok(line)
+}
+
+/// An object that puts its number in place of each value.
+pub fn object_line(alloc: Global, columns: &str) -> Result<Text, anyhow::Error> {
+    let (selector, digits) = cut(columns);
+    let number = digits.parse::<u8>().unwrap_or(0);
+    let mut settings = Settings::new(alloc)?;
+    let object = Redaction::Dynamic(Box::new(alloc, Numbered(number))?);
+    let mut line = Text::empty();
+    let taken = settings.add_redaction(selector, object);
+    add_taken(alloc, &mut line, taken)?;
+    add_saved(alloc, &mut line, &settings)?;
+    Ok(line)
+}

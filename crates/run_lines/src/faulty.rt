@@ -1,0 +1,67 @@
+//! Runs over forms of which a call may fail.
+use crate::answers::{add_ending, add_files};
+use crate::cases::{Case, case_of, files_of, input_of, words_of};
+use crate::columns::add_number;
+use snap_content::{OutOfMemory, Text};
+use snap_outside::{MemorySink, MemorySource, MemoryStore};
+use snap_run::run;
+use std::alloc::Global;
+
+/// The store of the files before.
+fn store_of(alloc: Global, case: Case<'_>) -> Result<MemoryStore, OutOfMemory> {
+    let mut store = MemoryStore::new(alloc);
+    for (path, bytes) in files_of(alloc, case.files)? {
+        store.put(&path, bytes.as_str().as_bytes())?;
+    }
+    store.fail_at(vec![in alloc; case.outside.store]?);
+    Ok(store)
+}
+
+/// The source of the input.
+fn source_of(alloc: Global, case: Case<'_>) -> Result<MemorySource, OutOfMemory> {
+    let input = input_of(alloc, case.input)?;
+    let mut source = MemorySource::new(input, case.outside.piece);
+    source.fail_at(vec![in alloc; case.outside.read]?);
+    Ok(source)
+}
+
+/// The sink of the lines.
+fn sink_of(alloc: Global, case: Case<'_>) -> Result<MemorySink, OutOfMemory> {
+    let mut sink = MemorySink::new(alloc);
+    sink.fail_at(vec![in alloc; case.outside.write]?);
+    Ok(sink)
+}
+
+/// Runs over the store, and adds how that ended.
+fn add_run(
+    alloc: Global,
+    line: &mut Text,
+    case: Case<'_>,
+    store: &mut MemoryStore,
+) -> Result<(), anyhow::Error> {
+    let words = words_of(alloc, case.words)?;
+    let mut source = source_of(alloc, case)?;
+    let mut sink = sink_of(alloc, case)?;
+    let status = run(alloc, &words, &mut source, &mut sink, store);
+    add_ending(alloc, line, &status, sink.written())
+}
+
+/// Adds how often the store failed, and its files. No call of it fails any more.
+fn add_store(alloc: Global, line: &mut Text, store: &mut MemoryStore) -> Result<(), anyhow::Error> {
+    store.fail_at(Vec::new(alloc));
+    add_number(alloc, line, "faults", store.faults())?;
+    add_number(alloc, line, "files", store.len() as u64)?;
+    add_files(alloc, line, store)
+}
+
+/// The answer to the columns of a case.
+pub fn run_line(alloc: Global, columns: &str) -> Result<Text, anyhow::Error> {
+    let case = case_of(columns);
+    let mut store = store_of(alloc, case)?;
+    let mut line = Text::empty();
+    for _run in 0..case.outside.times {
+        add_run(alloc, &mut line, case, &mut store)?;
+    }
+    add_store(alloc, &mut line, &mut store)?;
+    Ok(line)
+}

@@ -1,0 +1,46 @@
+//! A run over an input that no memory holds.
+ghost use Rattle.std.specs.Prelude.{None};
+
+use crate::answers::add_ending;
+use crate::cases::words_of;
+use crate::columns::{add_number, cut};
+use snap_content::Text;
+use snap_outside::{Fault, MemorySink, MemoryStore, Source};
+use snap_run::run;
+use std::alloc::Global;
+
+/// So many line ends. It tells nothing of them.
+#[derive(Drop)]
+struct LineEnds {
+    left: usize,
+}
+
+impl Source for LineEnds {
+    ghost left = { λ _. None };
+
+    ghost faults = { λ _. 0 };
+
+    fn read(&mut self, buffer: &mut [u8]) -> Result<usize, Fault> {
+        let count = buffer.len().min(self.left);
+        buffer.fill(b'\n');
+        self.left -= count;
+        Ok(count)
+    }
+}
+
+/// How a run over so many line ends ends, how many files there are then, and how many line ends were not read.
+pub fn long_line(alloc: Global, columns: &str) -> Result<Text, anyhow::Error> {
+    let (words, digits) = cut(columns);
+    let words = words_of(alloc, words)?;
+    let mut source = LineEnds {
+        left: digits.parse().unwrap_or(0),
+    };
+    let mut sink = MemorySink::new(alloc);
+    let mut store = MemoryStore::new(alloc);
+    let mut line = Text::empty();
+    let status = run(alloc, &words, &mut source, &mut sink, &mut store);
+    add_ending(alloc, &mut line, &status, sink.written())?;
+    add_number(alloc, &mut line, "files", store.len() as u64)?;
+    add_number(alloc, &mut line, "left", source.left as u64)?;
+    Ok(line)
+}

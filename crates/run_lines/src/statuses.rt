@@ -1,0 +1,62 @@
+//! The text of each status.
+use crate::columns::{add_column, add_number, cut};
+use row_lines::text_of;
+use snap_content::{OutOfMemory, Text};
+use snap_run::{RefusalKind, Status};
+use std::alloc::Global;
+
+/// The kind of this name.
+fn kind_named(name: &str) -> RefusalKind {
+    match name {
+        "DoctestNeedsName" => RefusalKind::DoctestNeedsName,
+        "DuplicateDiffers" => RefusalKind::DuplicateDiffers,
+        "NamesExhausted" => RefusalKind::NamesExhausted,
+        _ => RefusalKind::NameClash,
+    }
+}
+
+/// The status of this name that tells of no document.
+fn plain_status(name: &str) -> Status {
+    match name {
+        "AllPassed" => Status::AllPassed,
+        "SomeFailed" => Status::SomeFailed,
+        "ReadFault" => Status::ReadFault,
+        "WriteFault" => Status::WriteFault,
+        "OutOfMemory" => Status::OutOfMemory,
+        "InputTooLong" => Status::InputTooLong,
+        _ => Status::BadWords,
+    }
+}
+
+/// The status of this name, with the number of its document, and its path or its kind, where it has these.
+fn status_named(
+    alloc: Global,
+    name: &str,
+    document: u64,
+    rest: &str,
+) -> Result<Status, OutOfMemory> {
+    match name {
+        "BadRequest" => Ok(Status::BadRequest { document }),
+        "Refused" => Ok(Status::Refused {
+            document,
+            kind: kind_named(rest),
+        }),
+        "FileIo" => Ok(Status::FileIo {
+            document,
+            path: text_of(alloc, rest)?,
+        }),
+        _ => Ok(plain_status(name)),
+    }
+}
+
+/// The exit status of a status, and what it says.
+pub fn status_line(alloc: Global, columns: &str) -> Result<Text, anyhow::Error> {
+    let (name, rest) = cut(columns);
+    let (document, rest) = cut(rest);
+    let status = status_named(alloc, name, document.parse().unwrap_or(0), rest)?;
+    let mut line = Text::empty();
+    add_number(alloc, &mut line, "status", u64::from(status.code()))?;
+    let said = status.describe(alloc)?;
+    add_column(alloc, &mut line, said.as_str())?;
+    Ok(line)
+}

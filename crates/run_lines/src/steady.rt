@@ -1,0 +1,44 @@
+//! Runs over forms that never fail.
+use crate::answers::{add_ending, add_files};
+use crate::cases::{Case, case_of, files_of, input_of, words_of};
+use crate::columns::add_number;
+use snap_content::{OutOfMemory, Text};
+use snap_outside::{SteadySink, SteadySource, SteadyStore};
+use snap_run::run;
+use std::alloc::Global;
+
+/// The store of the files before.
+fn store_of(alloc: Global, case: Case<'_>) -> Result<SteadyStore, OutOfMemory> {
+    let mut store = SteadyStore::new(alloc);
+    for (path, bytes) in files_of(alloc, case.files)? {
+        store.put(&path, bytes.as_str().as_bytes())?;
+    }
+    Ok(store)
+}
+
+/// Runs over the store, and adds how that ended.
+fn add_run(
+    alloc: Global,
+    line: &mut Text,
+    case: Case<'_>,
+    store: &mut SteadyStore,
+) -> Result<(), anyhow::Error> {
+    let words = words_of(alloc, case.words)?;
+    let mut source = SteadySource::new(input_of(alloc, case.input)?, case.outside.piece);
+    let mut sink = SteadySink::new(alloc);
+    let status = run(alloc, &words, &mut source, &mut sink, store);
+    add_ending(alloc, line, &status, sink.written())
+}
+
+/// The answer to the columns of a case.
+pub fn steady_line(alloc: Global, columns: &str) -> Result<Text, anyhow::Error> {
+    let case = case_of(columns);
+    let mut store = store_of(alloc, case)?;
+    let mut line = Text::empty();
+    for _run in 0..case.outside.times {
+        add_run(alloc, &mut line, case, &mut store)?;
+    }
+    add_number(alloc, &mut line, "files", store.len() as u64)?;
+    add_files(alloc, &mut line, &mut store)?;
+    Ok(line)
+}
