@@ -1,6 +1,7 @@
 -- How the scan for the first document goes on.
-use Rattle.std.proofs.Common.{◌≡◌, ℕ, ◌+◌, ◌<◌, Bool, true, false, cond, nat_eq, ◌&&◌, ◌==◌, List, [], ◌∷◌, ◌++◌, length, take, drop, get_or, refl, sym, ◌∙◌, ap, arith, drop-cons, add-one}
-use Rattle.std.proofs.lemmas.List.{drop_all, take_all, take_more}
+use Rattle.std.proofs.Common.{◌≡◌, ℕ, ◌+◌, ◌<◌, Bool, true, false, cond, nat_eq, zero, suc, ◌≤◌, subst, ◌&&◌, ◌==◌, List, [], ◌∷◌, ◌++◌, length, take, drop, get_or, refl, sym, ◌∙◌, ap, arith, drop-cons, add-one, ◌-◌, length-drop}
+use Rattle.memchr.specs.Find.{Nowhere, Passes, is_byte}
+use Rattle.std.proofs.lemmas.List.{get_or-drop, drop-drop, drop_all, take_all, take_more}
 use Rattle.std.specs.List.{concat}
 use Rattle.snap_str.specs.Lines.{onto}
 use Rattle.snap_request.specs.Cut.{begins_document, documents}
@@ -48,6 +49,60 @@ pub ends : (bs : List ℕ) (i : ℕ) → i < length bs → ends_here bs i ≡ tr
 ends bs i h here w =
     w.so_far ∙ ap (prepended (take i bs)) (at_byte bs i h ∙ ap (λ b. cond b ((get_or bs i 0 ∷ []) ∷ documents (drop (i + 1) bs)) (onto (get_or bs i 0) (documents (drop (i + 1) bs)))) here)
     ∙ prepended-first (take i bs) (get_or bs i 0 ∷ []) _ ∙ ap (λ t. t ∷ documents (drop (i + 1) bs)) (sym (take_more bs i 0 h))
+
+other_byte : (bs : List ℕ) (e k : ℕ) → ¬ Passes (is_byte 10) (drop e bs) k → ends_here bs (e + k) ≡ false
+other_byte bs e k none = by (nat_eq (get_or bs (e + k) 0) 10) refl
+  where
+    by : (b : Bool) → nat_eq (get_or bs (e + k) 0) 10 ≡ b → (b && begins_document (drop ((e + k) + 1) bs)) ≡ false
+    by true is = absurd (none (ap (λ x. nat_eq x 10) (get_or-drop e bs k 0) ∙ is))
+    by false is = refl
+
+-- no document ends in a line before its end
+pub along_line : (bs : List ℕ) (e k : ℕ) → e + k ≤ length bs → Nowhere (Passes (is_byte 10) (drop e bs)) 0 k → IsWithin bs e → IsWithin bs (e + k)
+along_line bs e zero le none w = let same : e ≡ e + 0 = omega arith in subst (IsWithin bs) same w
+along_line bs e (suc k) le none w =
+    let before = along_line bs e k (omega (arith, le)) (λ j low high. none j low (omega (arith, high))) w in
+    let at : e + k < length bs = omega (arith, le) in
+    let next : (e + k) + 1 ≡ e + suc k = omega arith in
+    subst (IsWithin bs) next (goes_on bs (e + k) at (other_byte bs e k (none k (omega arith) (omega arith))) before)
+
+-- the line ends at place k of what is left
+pub line_place : (bs rest : List ℕ) (e k : ℕ) → rest ≡ drop e bs → e ≤ length bs → k < length rest → e + k < length bs
+line_place bs rest e k is le lt = let n : length rest ≡ length bs - e = ap length is ∙ length-drop e bs in omega (arith, n)
+
+pub line_behind : (bs rest behind : List ℕ) (e k : ℕ) → rest ≡ drop e bs → behind ≡ drop (k + 1) rest → behind ≡ drop (e + (k + 1)) bs
+line_behind bs rest behind e k is at = at ∙ ap (drop (k + 1)) is ∙ drop-drop (k + 1) e bs
+
+further : (e k : ℕ) → (e + k) + 1 ≡ e + (k + 1)
+further e k = omega arith
+
+line_end : (bs rest behind : List ℕ) (e k : ℕ) (ahead : Bool) → rest ≡ drop e bs → behind ≡ drop (k + 1) rest → Passes (is_byte 10) rest k → begins_document behind ≡ ahead → ends_here bs (e + k) ≡ ahead
+line_end bs rest behind e k ahead is at byte begins =
+    ap (λ b. b && begins_document (drop ((e + k) + 1) bs)) (ap (λ x. nat_eq x 10) (sym (get_or-drop e bs k 0) ∙ ap (λ r. get_or r k 0) (sym is)) ∙ byte)
+    ∙ ap begins_document (ap (λ n. drop n bs) (further e k) ∙ sym (line_behind bs rest behind e k is at)) ∙ begins
+
+along : (bs rest : List ℕ) (e k : ℕ) → rest ≡ drop e bs → e + k ≤ length bs → Nowhere (Passes (is_byte 10) rest) 0 k → IsWithin bs e → IsWithin bs (e + k)
+along bs rest e k is le none w =
+    let P : List ℕ → Type 0 = λ r. Nowhere (Passes (is_byte 10) r) 0 k in
+    along_line bs e k le (subst P is none) w
+
+pub line_ends : (bs rest behind : List ℕ) (e k : ℕ) → rest ≡ drop e bs → e + k < length bs → Nowhere (Passes (is_byte 10) rest) 0 k → Passes (is_byte 10) rest k → behind ≡ drop (k + 1) rest → begins_document behind ≡ true → IsWithin bs e
+    → documents bs ≡ take (e + (k + 1)) bs ∷ documents (drop (e + (k + 1)) bs)
+line_ends bs rest behind e k is lt none byte at begins w =
+    let P : ℕ → Type 0 = λ n. documents bs ≡ take n bs ∷ documents (drop n bs) in
+    subst P (further e k) (ends bs (e + k) lt (line_end bs rest behind e k true is at byte begins) (along bs rest e k is (omega (arith, lt)) none w))
+
+pub line_goes_on : (bs rest behind : List ℕ) (e k : ℕ) → rest ≡ drop e bs → e + k < length bs → Nowhere (Passes (is_byte 10) rest) 0 k → Passes (is_byte 10) rest k → behind ≡ drop (k + 1) rest → begins_document behind ≡ false → IsWithin bs e
+    → IsWithin bs (e + (k + 1))
+line_goes_on bs rest behind e k is lt none byte at begins w =
+    subst (IsWithin bs) (further e k) (goes_on bs (e + k) lt (line_end bs rest behind e k false is at byte begins) (along bs rest e k is (omega (arith, lt)) none w))
+
+-- no line ends in what is left
+pub last_line : (bs rest : List ℕ) (e : ℕ) → rest ≡ drop e bs → e ≤ length bs → Nowhere (Passes (is_byte 10) rest) 0 (length rest) → IsWithin bs e → IsWithin bs (length bs)
+last_line bs rest e is le none w =
+    let n : length rest ≡ length bs - e = ap length is ∙ length-drop e bs in
+    let whole : e + length rest ≡ length bs = omega (arith, n) in
+    subst (IsWithin bs) whole (along bs rest e (length rest) is (omega (arith, n)) none w)
 
 pub one_document : (bs : List ℕ) → 0 < length bs → IsWithin bs (length bs) → documents bs ≡ take (length bs) bs ∷ documents (drop (length bs) bs)
 one_document [] h w = absurd (omega arith)

@@ -2,6 +2,8 @@
 ghost use Rattle.std.specs.Prelude.{◌≡◌, ◌==◌, ◌&&◌, ◌<◌, ◌≤◌, List, ℕ, ◌∷◌, false, length, take, drop, MatchOption};
 ghost use Rattle.snap_request.specs.Cut.{documents, begins_document, ends_line, ends_returned};
 
+use memchr::memchr;
+
 /// What follows the byte, where the bytes begin with it.
 fn after_byte(bytes: &[u8], byte: u8) -> Option<&[u8]>
     ensures { MatchOption result ((rest : List ℕ) → bytes.now ≡ byte ∷ rest → ⊥)
@@ -51,13 +53,6 @@ fn is_document_ahead(bytes: &[u8]) -> bool
     }
 }
 
-/// Whether a document ends with this byte, in front of the rest.
-fn ends_document(byte: u8, rest: &[u8]) -> bool
-    ensures { result ≡ (byte == 10) && begins_document rest.now }
-{
-    byte == b'\n' && is_document_ahead(rest)
-}
-
 /// Where the first document ends.
 pub fn first_document_end(bytes: &[u8]) -> usize
     requires { 0 < length bytes.now }
@@ -65,11 +60,15 @@ pub fn first_document_end(bytes: &[u8]) -> usize
     ensures within { result ≤ length bytes.now }
     ensures cut { documents bytes.now ≡ take result bytes.now ∷ documents (drop result bytes.now) }
 {
-    for (i, byte) in bytes.iter().enumerate() {
-        let (_, rest) = bytes.split_at(i + 1);
-        if ends_document(*byte, rest) {
-            return i + 1;
+    let mut end = 0;
+    let mut rest = bytes;
+    while let Some(at) = memchr(b'\n', rest) {
+        let (_, behind) = rest.split_at(at + 1);
+        end += at + 1;
+        if is_document_ahead(behind) {
+            return end;
         }
+        rest = behind;
     }
     bytes.len()
 }
