@@ -193,8 +193,3 @@ pub pairs_total : IsTotalOrder pairs_cmp
 pairs_total =
     as_total (on (λ ps. pairs ps []) parts_cmp) pairs_cmp (on_total (λ ps. pairs ps []) (lists_total part_total))
     (λ ps qs. pairs_first ps qs [] [] ∙ then_equal (pairs_cmp ps qs))
-
-pub fields_total : IsTotalOrder fields_cmp
-fields_total =
-    as_total (on (λ fs. fields fs []) parts_cmp) fields_cmp (on_total (λ fs. fields fs []) (lists_total part_total))
-    (λ fs gs. fields_first fs gs [] [] ∙ then_equal (fields_cmp fs gs))
