@@ -1,4 +1,6 @@
 //! Lists of one redaction.
+//!
+//! Each function that asks for a redaction makes it: a function may not make one and hand it out.
 use crate::columns::{add_column, add_taken, cut};
 use row_lines::text_of;
 use snap_assert::Redactions;
@@ -7,20 +9,15 @@ use snap_emit::yaml;
 use snap_select::Redaction;
 use std::alloc::Global;
 
-/// The redaction that puts a text.
-pub fn put(alloc: Global, text: &str) -> Result<Redaction, OutOfMemory> {
-    Ok(Redaction::from_content(Content::from_str(alloc, text)?))
-}
-
 /// The list of one redaction.
 pub fn list_of(
     alloc: Global,
     selector: &str,
-    text: &str,
+    redaction: Redaction,
 ) -> Result<Vec<(Text, Redaction)>, OutOfMemory> {
     let selector = Text::from_str(alloc, selector)?;
     let mut list = Vec::new(alloc);
-    list.push((selector, put(alloc, text)?))?;
+    list.push((selector, redaction))?;
     Ok(list)
 }
 
@@ -33,9 +30,10 @@ fn applied(alloc: Global, redactions: &Redactions) -> Result<Text, anyhow::Error
 /// What a list of one redaction makes of 42.
 pub fn list_line(alloc: Global, columns: &str) -> Result<Text, anyhow::Error> {
     let (selector, text) = cut(columns);
-    let text = text_of(alloc, text)?;
+    let put = Content::String(text_of(alloc, text)?);
+    let list = list_of(alloc, selector, Redaction::from_content(put))?;
     let mut line = Text::empty();
-    match Redactions::from_list(alloc, list_of(alloc, selector, text.as_str())?) {
+    match Redactions::from_list(alloc, list) {
         Ok(redactions) => {
             let made = applied(alloc, &redactions)?;
             add_column(alloc, &mut line, made.as_str())?;
