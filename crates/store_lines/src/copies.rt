@@ -4,27 +4,45 @@
 use crate::shown::{add_metadata, add_snapshot};
 use row_lines::text_of;
 use snap_content::{OutOfMemory, Text};
-use snap_store::SnapshotContents;
+use snap_store::{MetaData, Snapshot, SnapshotContents};
 use snap_text::{TextSnapshotContents, TextSnapshotKind};
 use snapshot_lines::{bytes_of, first_column, metadata_of, snapshot_of};
 use std::alloc::Global;
 
-/// The copy of metadata.
+/// What metadata tell.
+fn metadata_shown(alloc: Global, metadata: &MetaData) -> Result<Text, OutOfMemory> {
+    let mut line = Text::empty();
+    add_metadata(alloc, &mut line, metadata)?;
+    Ok(line)
+}
+
+fn metadata_copied(alloc: Global, metadata: &MetaData) -> Result<Text, OutOfMemory> {
+    let copy = metadata.try_clone(alloc)?;
+    metadata_shown(alloc, &copy)
+}
+
+/// The copy of metadata. Metadata that are alive make each early return dear to prove, so each function here has one behind them at most.
 pub fn metadata_line(alloc: Global, column: &str) -> Result<Text, OutOfMemory> {
     let metadata = metadata_of(alloc, column)?;
-    let copy = metadata.try_clone(alloc)?;
+    metadata_copied(alloc, &metadata)
+}
+
+/// What a snapshot tells.
+fn snapshot_shown(alloc: Global, snapshot: &Snapshot) -> Result<Text, OutOfMemory> {
     let mut line = Text::empty();
-    add_metadata(alloc, &mut line, &copy)?;
+    add_snapshot(alloc, &mut line, snapshot)?;
     Ok(line)
+}
+
+fn snapshot_copied(alloc: Global, snapshot: &Snapshot) -> Result<Text, OutOfMemory> {
+    let copy = snapshot.try_clone(alloc)?;
+    snapshot_shown(alloc, &copy)
 }
 
 /// The copy of a snapshot.
 pub fn snapshot_line(alloc: Global, columns: &str) -> Result<Text, OutOfMemory> {
     let (snapshot, _) = snapshot_of(alloc, Text::empty(), TextSnapshotKind::File, columns)?;
-    let copy = snapshot.try_clone(alloc)?;
-    let mut line = Text::empty();
-    add_snapshot(alloc, &mut line, &copy)?;
-    Ok(line)
+    snapshot_copied(alloc, &snapshot)
 }
 
 fn contents_of(alloc: Global, column: &str) -> Result<SnapshotContents, OutOfMemory> {

@@ -1,7 +1,11 @@
 //! Snapshots that are saved.
+ghost use Rattle.std.specs.Prelude.{IsSome};
+ghost use Rattle.snap_store.specs.Views.{contents_in, text_in};
+
 use row_lines::{add_escaped, text_of};
 use snap_content::{Error, OutOfMemory, Text};
 use snap_outside::SteadyStore;
+use snap_store::Snapshot;
 use snap_text::TextSnapshotKind;
 use snapshot_lines::{first_column, snapshot_of};
 use std::alloc::Global;
@@ -27,14 +31,28 @@ fn add_file(alloc: Global, line: &mut Text, file: Option<&[u8]>) -> Result<(), O
     }
 }
 
+fn saved(alloc: Global, path: &Text, snapshot: &Snapshot) -> Result<Text, Error>
+    requires { IsSome (text_in (contents_in snapshot.now)) }
+{
+    let mut store = SteadyStore::new(alloc);
+    snapshot.save(alloc, &mut store, path)?;
+    Ok(stored_line(alloc, &store, path)?)
+}
+
 /// The file of a snapshot that is saved.
 pub fn save_line(alloc: Global, columns: &str) -> Result<Text, Error> {
     let (path, columns) = first_column(columns);
     let path = text_of(alloc, path)?;
     let (snapshot, _) = snapshot_of(alloc, Text::empty(), TextSnapshotKind::File, columns)?;
+    saved(alloc, &path, &snapshot)
+}
+
+fn saved_new(alloc: Global, path: &Text, snapshot: &Snapshot) -> Result<Text, Error>
+    requires { IsSome (text_in (contents_in snapshot.now)) }
+{
     let mut store = SteadyStore::new(alloc);
-    snapshot.save(alloc, &mut store, &path)?;
-    Ok(stored_line(alloc, &store, &path)?)
+    let pending = snapshot.save_new(alloc, &mut store, path)?;
+    Ok(stored_line(alloc, &store, &pending)?)
 }
 
 /// The file in which a snapshot waits for a review.
@@ -42,7 +60,5 @@ pub fn save_new_line(alloc: Global, columns: &str) -> Result<Text, Error> {
     let (path, columns) = first_column(columns);
     let path = text_of(alloc, path)?;
     let (snapshot, _) = snapshot_of(alloc, Text::empty(), TextSnapshotKind::File, columns)?;
-    let mut store = SteadyStore::new(alloc);
-    let pending = snapshot.save_new(alloc, &mut store, &path)?;
-    Ok(stored_line(alloc, &store, &pending)?)
+    saved_new(alloc, &path, &snapshot)
 }
