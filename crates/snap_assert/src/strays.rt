@@ -5,7 +5,6 @@ ghost use Rattle.std.specs.Str.{chars};
 ghost use Rattle.snap_outside.specs.Causes.{StoreCause};
 ghost use Rattle.snap_outside.specs.Files.{Files};
 ghost use Rattle.snap_path.specs.Paths.{joined, parent_of};
-ghost use Rattle.snap_place.specs.Place.{holds_slash};
 ghost use Rattle.snap_assert.specs.Steps.{is_stray};
 ghost use Rattle.snap_place.specs.SnapshotPath.{IsFilePath};
 ghost use Rattle.snap_assert.specs.Strays.{AreStrays, AllStray};
@@ -13,14 +12,9 @@ ghost use Rattle.snap_assert.specs.Strays.{AreStrays, AllStray};
 use snap_content::{OutOfMemory, Text};
 use snap_outside::{Store, StoreError};
 use snap_path::{path_join, path_name};
+use snap_place::file_path::holds_slash;
 use snap_place::front::{behind, behind_ascii};
 use std::alloc::Global;
-
-fn holds_slash_text(text: &str) -> bool
-    ensures { result ≡ holds_slash (chars text.now) }
-{
-    text.chars().any(|c| c == '/')
-}
 
 /// Whether a file of this name is left behind by payloads of the file that stands beside it.
 fn is_stray_name(file: &str, name: &str) -> bool
@@ -30,7 +24,7 @@ fn is_stray_name(file: &str, name: &str) -> bool
         None => false,
         Some(rest) => match behind_ascii(rest, ".new.") {
             None => false,
-            Some(rest) => !holds_slash_text(rest),
+            Some(rest) => !holds_slash(rest),
         },
     }
 }

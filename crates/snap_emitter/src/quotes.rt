@@ -1,38 +1,38 @@
-//! Which texts are written in double quotes. Most texts begin neither as a word that is reserved nor as a number, so two looks at
-//! their characters tell.
-ghost use Rattle.std.specs.Prelude.{◌≡◌, ◌||◌};
+//! Which texts are written in double quotes. Most texts begin neither as a word that is reserved nor as a number, which their first
+//! two characters tell, so two looks at all of them do.
+ghost use Rattle.std.specs.Prelude.{◌≡◌, ◌∷◌, ◌||◌};
 ghost use Rattle.std.specs.List.{list_any};
 ghost use Rattle.std.specs.Str.{chars};
 ghost use Rattle.snap_content.specs.Quotes.{is_special, is_leading, ends_badly, needs_quotes};
-ghost use Rattle.snap_emitter.specs.Words.{begins_word};
+ghost use Rattle.snap_emitter.specs.Words.{fronts_word, begins_word};
 
 use snap_content::characters::{split_first, split_last};
 use snap_print::need_quotes;
 
-/// Whether a text that begins so may be a reserved word or a number.
-fn begins_as_word(first: char) -> bool
-    ensures { result ≡ begins_word first }
+/// Whether a text that begins with both may be a reserved word or a number.
+fn fronts_word(first: char, second: char) -> bool
+    ensures { result ≡ fronts_word first second }
 {
-    matches!(
-        first,
-        '0'..='9'
-            | 'y'
-            | 'Y'
-            | 'n'
-            | 'N'
-            | 't'
-            | 'T'
-            | 'f'
-            | 'F'
-            | 'o'
-            | 'O'
-            | '~'
-            | '+'
-            | '-'
-            | '.'
-            | 'i'
-            | 'I'
-    )
+    match first {
+        '0'..='9' | '~' | '+' | '-' | '.' => true,
+        'n' | 'N' => matches!(second, 'a' | 'A' | 'o' | 'O' | 'u' | 'U'),
+        'i' | 'I' => matches!(second, 'n' | 'N'),
+        'y' | 'Y' => matches!(second, 'e' | 'E'),
+        't' | 'T' => matches!(second, 'r' | 'R'),
+        'f' | 'F' => matches!(second, 'a' | 'A'),
+        'o' | 'O' => matches!(second, 'n' | 'N' | 'f' | 'F'),
+        _ => false,
+    }
+}
+
+/// Whether a text of this first character and this rest may be one. One character alone may.
+fn begins_as_word(first: char, rest: &str) -> bool
+    ensures { result ≡ begins_word (first ∷ chars rest.now) }
+{
+    match split_first(rest) {
+        None => true,
+        Some((second, _)) => fronts_word(first, second),
+    }
 }
 
 /// Whether the character makes a text quoted where it begins it.
@@ -84,10 +84,10 @@ fn is_quoted_within(text: &str) -> bool
 pub fn is_quoted(text: &str) -> bool
     ensures { result ≡ needs_quotes (chars text.now) }
 {
-    let Some((first, _)) = split_first(text) else {
+    let Some((first, rest)) = split_first(text) else {
         return true;
     };
-    if begins_as_word(first) {
+    if begins_as_word(first, rest) {
         return need_quotes(text);
     }
     if is_leading_char(first) {

@@ -109,8 +109,8 @@ fn push_quoted(out: &mut Text, alloc: Global, value: &str) -> Result<(), OutOfMe
     out.push(alloc, '"')
 }
 
-/// Adds the text, in double quotes where it needs them.
-fn push_string(out: &mut Text, alloc: Global, value: &Text) -> Result<(), OutOfMemory>
+/// Adds the text as it is spelled: in double quotes where it needs them. After want of memory a beginning of that was added.
+pub fn push_spelled_text(out: &mut Text, alloc: Global, value: &Text) -> Result<(), OutOfMemory>
     ensures ok { OnOk result (out.new ≡ out.old ++ spell_text value.now) }
     ensures err { OnErr result (IsBegun out.old out.new (spell_text value.now)) }
 {
@@ -155,7 +155,7 @@ pub fn push_spelled(out: &mut Text, alloc: Global, tree: &Yaml) -> Result<(), Ou
     match tree {
         Yaml::Real(text) => push_all(out, alloc, text),
         Yaml::Integer(value) => push_number(out, alloc, *value),
-        Yaml::String(text) => push_string(out, alloc, text),
+        Yaml::String(text) => push_spelled_text(out, alloc, text),
         Yaml::Boolean(true) => push_word(out, alloc, "true"),
         Yaml::Boolean(false) => push_word(out, alloc, "false"),
         Yaml::Array(_) => push_word(out, alloc, "[]"),

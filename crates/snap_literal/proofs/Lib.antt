@@ -14,3 +14,4 @@ mod Leads
 pub mod InlineLaw
 mod Frames
 pub mod Written
+mod Bytes

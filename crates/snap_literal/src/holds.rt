@@ -1,9 +1,11 @@
 //! What a text holds.
-ghost use Rattle.std.specs.Prelude.{◌≡◌};
+ghost use Rattle.std.specs.Prelude.{◌≡◌, true, false};
 ghost use Rattle.std.specs.List.{list_any};
 ghost use Rattle.std.specs.Str.{chars};
-ghost use Rattle.snap_literal.specs.Lines.{is_line_end};
+ghost use Rattle.snap_literal.specs.Lines.{is_line_end, is_return};
 ghost use Rattle.snap_literal.specs.Spelled.{is_control, is_hidden, is_marked};
+
+use memchr::memchr;
 
 pub fn is_control(c: char) -> bool
     ensures { result ≡ is_control c }
@@ -38,4 +40,14 @@ pub fn holds_line_end(text: &str) -> bool
     ensures { result ≡ list_any is_line_end (chars text.now) }
 {
     text.chars().any(|c| c == '\n')
+}
+
+/// Whether no return stands in the text.
+pub fn is_free_of_returns(text: &str) -> bool
+    ensures { result ≡ true → list_any is_return (chars text.now) ≡ false }
+{
+    match memchr(b'\r', text.as_bytes()) {
+        None => true,
+        Some(_) => false,
+    }
 }

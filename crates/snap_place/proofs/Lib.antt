@@ -1,2 +1,3 @@
 pub mod FilePaths
 mod LastPart
+mod BelowPaths

@@ -2,7 +2,7 @@
 ghost use Rattle.std.specs.Prelude.{◌≡◌};
 ghost use Rattle.std.specs.Str.{chars};
 ghost use Rattle.snap_path.specs.Paths.{is_component};
-ghost use Rattle.snap_place.specs.Place.{last_part, names_file};
+ghost use Rattle.snap_place.specs.Place.{holds_slash, last_part, names_file};
 
 use snap_content::characters::{is_same, split_first};
 
@@ -21,7 +21,15 @@ fn last_part_of(path: &str) -> &str
     last
 }
 
-fn is_component_text(part: &str) -> bool
+/// Whether the text holds a slash.
+pub fn holds_slash(text: &str) -> bool
+    ensures { result ≡ holds_slash (chars text.now) }
+{
+    text.chars().any(|c| c == '/')
+}
+
+/// Whether the text, where it holds no slash, is a component: neither empty nor a dot.
+pub(crate) fn is_component(part: &str) -> bool
     ensures { result ≡ is_component (chars part.now) }
 {
     match split_first(part) {
@@ -38,5 +46,5 @@ pub fn is_file_path(path: &str) -> bool
     ensures { result ≡ names_file (chars path.now) }
 {
     let part = last_part_of(path);
-    is_component_text(part) && !is_same(part, "..")
+    is_component(part) && !is_same(part, "..")
 }

@@ -1,9 +1,10 @@
 //! Where an assertion stands, and the path of its snapshot.
 //!
 //! In the order in which data flows: `file_path` (which paths are those of a file), `place`, `front` (what stands behind the
-//! front of a text), `paths` (the path of a snapshot, and what its header tells), `laws`.
+//! front of a text), `below` (paths below others), `paths` (the path of a snapshot, and what its header tells), `laws`.
 #![tactic(auto)]
 
+mod below;
 pub mod file_path;
 pub mod front;
 pub mod laws;

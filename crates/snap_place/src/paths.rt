@@ -8,11 +8,12 @@ ghost use Rattle.snap_settings.specs.Settings.{settings_of};
 ghost use Rattle.snap_place.specs.Place.{place_of};
 ghost use Rattle.snap_place.specs.SnapshotPath.{flat_character, dotless_character, flat_module, is_doctest, file_of_doctest, place_prefix, file_name, path_of, new_meta};
 
+use crate::below::{path_below, seen_below};
 use crate::front::behind_ascii;
 use crate::place::Place;
 use snap_content::characters::split_first;
 use snap_content::{OutOfMemory, Text};
-use snap_path::{path_join, path_name, path_parent, path_relative_from};
+use snap_path::{path_name, path_parent};
 use snap_settings::settings::Settings;
 use snap_store::MetaData;
 use std::alloc::Global;
@@ -152,10 +153,15 @@ pub fn snapshot_path(
     ensures { IfOk result (λ path. path ≡ path_of (settings_of settings.now)
         (place_of place.now) name.now) }
 {
-    let folder = path_join(alloc, place.workspace(), &path_parent(alloc, place.file())?)?;
-    let folder = path_join(alloc, &folder, settings.snapshot_folder())?;
+    let folder = path_parent(alloc, place.file())?;
     let file = snapshot_file_name(alloc, settings, place, name)?;
-    path_join(alloc, &folder, &file)
+    path_below(
+        alloc,
+        place.workspace(),
+        &folder,
+        settings.snapshot_folder(),
+        &file,
+    )
 }
 
 /// The metadata of a new snapshot.
@@ -167,8 +173,7 @@ pub fn new_metadata(
     ensures { IfOk result (λ made. meta_of made
         ≡ new_meta (settings_of settings.now) (place_of place.now)) }
 {
-    let file = path_join(alloc, place.workspace(), place.file())?;
-    let source = path_relative_from(alloc, &file, place.workspace())?;
+    let source = seen_below(alloc, place.workspace(), place.file())?;
     let mut metadata = MetaData::empty();
     metadata.set_source(Some(source));
     metadata.set_assertion_line(Some(place.line()));

@@ -14,7 +14,7 @@ use snap_assert::error::AssertError;
 use snap_assert::outcome::{Outcome, Verdict};
 use snap_assert::session::Session;
 use snap_content::{OutOfMemory, Text};
-use snap_emit::spelled_text;
+use snap_emit::push_spelled_text;
 use snap_outside::{Sink, Store};
 use snap_place::place::Place;
 use snap_request::cut::first_document_end;
@@ -50,7 +50,7 @@ fn line(alloc: Global, verdict: Verdict, path: &Text) -> Result<Text, OutOfMemor
         Verdict::Pending => Text::from_ascii(alloc, "pending ")?,
         Verdict::Rejected => Text::from_ascii(alloc, "rejected ")?,
     };
-    line.push_text(alloc, &spelled_text(alloc, path)?)?;
+    push_spelled_text(&mut line, alloc, path)?;
     line.push(alloc, '\n')?;
     Ok(line)
 }

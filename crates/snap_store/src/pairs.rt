@@ -15,13 +15,28 @@ pub(crate) fn last_named<'a>(pairs: &'a [(Content, Content)], name: &str) -> Opt
     ensures { option_map (λ value. tree value.now) result
         ≡ last_in name.now (pair_trees pairs.now) }
 {
-    let mut found = None;
-    for (key, value) in pairs {
-        if is_named(key, name) {
-            found = Some(value);
+    let mut left = pairs;
+    while let Some((pair, front)) = left.split_last() {
+        match lent_if_named(pair, name) {
+            Some(value) => return Some(value),
+            None => left = front,
         }
     }
-    found
+    None
+}
+
+/// The value of the pair, where it has this name.
+fn lent_if_named<'a>(pair: &'a (Content, Content), name: &str) -> Option<&'a Content>
+    requires { IsTrue (list_all is_ascii name.now) }
+    ensures { option_map (λ value. tree value.now) result
+        ≡ (if is_key name.now (tree pair.now.0) then Some (tree pair.now.1) else None) }
+{
+    let (key, value) = pair;
+    if is_named(key, name) {
+        Some(value)
+    } else {
+        None
+    }
 }
 
 /// The same, taken out of the pairs.
@@ -39,7 +54,7 @@ pub(crate) fn last_taken(pairs: Vec<(Content, Content)>, name: &str) -> Option<C
     None
 }
 
-/// The value of the pair, where it has this name.
+/// The value of the pair, where it has this name, taken out of it.
 fn value_if_named(pair: (Content, Content), name: &str) -> Option<Content>
     requires { IsTrue (list_all is_ascii name.now) }
     ensures { option_map tree result

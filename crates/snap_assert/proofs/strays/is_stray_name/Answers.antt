@@ -10,4 +10,4 @@ returns-in-None-behind_ascii c = not_new (chars c.args.file.now) (chars c.args.n
 
 pub returns-in-Some-behind_ascii : goal.returns-in-Some-behind_ascii
 returns-in-Some-behind_ascii c =
-    behind_new (chars c.args.file.now) (chars c.args.name.now) _ _ _ c.in-Some.ensures c.in-Some-behind_ascii.ensures c.holds_slash_text.ensures
+    behind_new (chars c.args.file.now) (chars c.args.name.now) _ _ _ c.in-Some.ensures c.in-Some-behind_ascii.ensures c.holds_slash.ensures

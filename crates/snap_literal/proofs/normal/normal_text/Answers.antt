@@ -1,20 +1,11 @@
-use Rattle.std.proofs.Common.{◌≡◌, ◌∷◌, ◌++◌, [], ◌∙◌, sym, ap, rules}
+use Rattle.std.proofs.Common.{◌∙◌, sym, ap}
+use Rattle.std.proofs.lemmas.Result.{IfOk-weaker}
 use Rattle.std.specs.Str.{chars}
-use Rattle.snap_literal.specs.Lines.{without_returns}
-use Rattle.snap_literal.proofs.Returns.{past_line, unreturned-unbroken}
+use Rattle.snap_literal.specs.Normal.{unreturned}
+use Rattle.snap_literal.proofs.Returns.{unreturned-free}
 use Rattle.snap_literal.proofs.normal.normal_text.Goals as goal
 
-pub loop-line-preserved : goal.loop-line-preserved
-loop-line-preserved c =
-    let line = chars c.in-Some.line.now in
-    let more : c.push.new.self ≡ c.loop-line.made ++ without_returns line ++ 10 ∷ [] = cc (c.in_ok-push_str.ensures.ok, c.in_ok-push.ensures.ok, c.trim_returns.ensures) in
-    record {
-      utf8 = search rules;
-      so_far = past_line c.push.new.self c.loop-line.made (chars c.loop-line.rest.now) line (chars c.in-Some.more.now) _ c.in-Some.ensures.line more c.loop-line.invariant.so_far;
-    }
-
-pub returns : goal.returns
-returns c =
-    let made = c.loop-line.made in
-    c.in_ok-push_str-2.ensures.ok ∙ ap (λ t. made ++ t) (sym (unreturned-unbroken (chars c.loop-line.rest.now) c.in_default.ensures.line))
-    ∙ c.loop-line.invariant.so_far
+pub returns-then-is_free_of_returns : goal.returns-then-is_free_of_returns
+returns-then-is_free_of_returns c =
+    let free = unreturned-free (chars c.trimmed_text-trimmed.result.now) (c.is_free_of_returns.ensures c.if-is_free_of_returns.true) in
+    IfOk-weaker c.from_str.result _ _ (λ made h. h ∙ sym free ∙ ap unreturned c.trimmed_text-trimmed.ensures) c.from_str.ensures

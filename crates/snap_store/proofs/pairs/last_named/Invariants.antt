@@ -1,8 +1,10 @@
-use Rattle.std.proofs.Common.{◌≡◌, take}
-use Rattle.std.specs.Prelude.{option_map}
-use Rattle.snap_content.specs.View.{tree}
-use Rattle.snap_store.proofs.Lookups.{last_where, of_trees, named}
+use Rattle.std.proofs.Common.{◌≡◌, length}
+use Rattle.snap_content.specs.View.{pair_trees}
+use Rattle.snap_store.specs.TreeFields.{last_in}
 use Rattle.snap_store.proofs.pairs.last_named.Given as goal
 
-abbrev pub invariant-loop-key : goal.invariant-loop-key
-invariant-loop-key l = option_map (λ value. tree value.now) l.found ≡ option_map tree (last_where (of_trees (named l.name)) (take l.key-index l.pairs))
+abbrev pub invariant-loop-pair : goal.invariant-loop-pair
+invariant-loop-pair l = last_in l.name (pair_trees l.left) ≡ last_in l.name (pair_trees l.fn.pairs)
+
+abbrev pub decreases-loop-pair : goal.decreases-loop-pair
+decreases-loop-pair l = length l.left
