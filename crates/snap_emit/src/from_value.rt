@@ -67,7 +67,7 @@ fn trees_of(
     ensures number { IfOk result (λ made. IfSome made
         (λ _. found.new ≡ (found.old || have_number_texts (array_values items.items)))) }
 {
-    let mut made = Vec::new(alloc);
+    let mut made = Vec::with_capacity(alloc, items.len())?;
     for item in items {
         match tree_of(alloc, item, found)? {
             None => return Ok(None),
@@ -89,7 +89,7 @@ fn pairs_of(
     ensures number { IfOk result (λ made. IfSome made
         (λ _. found.new ≡ (found.old || are_number_texts_in (hash_values pairs.items)))) }
 {
-    let mut made = Vec::new(alloc);
+    let mut made = Vec::with_capacity(alloc, pairs.len())?;
     for (key, value) in pairs {
         let Some(key) = tree_of(alloc, key, found)? else {
             return Ok(None);

@@ -43,7 +43,7 @@ trees_of-loop-item-init t c =
       can_next = tt;
       is_finite = tt;
       counted = omega (arith, counted, c.into_iter-item-iterator.ensures.into_iter_gives.1, c.args.items.ok.0);
-      made = subst P (sym c.new-made.ensures.items) (none-made (into_iter_items c.into_iter-item-iterator.result) c.args.items.items same);
+      made = subst P (sym c.in_ok-made.ensures.items) (none-made (into_iter_items c.into_iter-item-iterator.result) c.args.items.items same);
       number = none-found c.args.found.now (into_iter_items c.into_iter-item-iterator.result) c.args.items.items same;
     }
 
@@ -71,7 +71,7 @@ pairs_of-loop-key-init t c =
       can_next = tt;
       is_finite = tt;
       counted = omega (arith, counted, c.into_iter-key-iterator.ensures.into_iter_gives.1, c.args.pairs.ok.0);
-      made = subst P (sym c.new-made.ensures.items) (no-pairs-made (into_iter_items c.into_iter-key-iterator.result) c.args.pairs.items same);
+      made = subst P (sym c.in_ok-made.ensures.items) (no-pairs-made (into_iter_items c.into_iter-key-iterator.result) c.args.pairs.items same);
       number = none-found-in c.args.found.now (into_iter_items c.into_iter-key-iterator.result) c.args.pairs.items same;
     }
 
