@@ -1,9 +1,10 @@
 -- Which paths are left behind by payloads.
-use Rattle.std.proofs.Common.{◌≡◌, ◌==◌, ◌||◌, ◌&&◌, ℕ, Bool, true, false, not, cond, List, [], ◌∷◌, ◌++◌, map, Option, None, Some, refl, sym, ap, ◌∙◌, subst, append_assoc, eq-eqb, codes, IsPermutation}
+use Rattle.std.proofs.Common.{◌≡◌, ◌==◌, ◌||◌, ◌&&◌, ◌≤◌, ℕ, Bool, true, false, not, cond, List, [], ◌∷◌, ◌++◌, map, length, Option, None, Some, refl, sym, ap, ◌∙◌, subst, append_assoc, eq-eqb, codes, arith, length-append, IsPermutation}
+use Rattle.std.proofs.lemmas.Str.{encodes-chars, encodes-append, length-le-encodes}
 use Rattle.std.specs.Prelude.{is_some, IsSome}
 use Rattle.std.specs.List.{list_any, filter, All}
 use Rattle.std.proofs.lemmas.List.Sorted.{list_any-IsPermutation}
-use Rattle.std.specs.Str.{bytes_eq}
+use Rattle.std.specs.Str.{bytes_eq, chars, encode_utf8_all, IsUtf8}
 use Rattle.std.specs.FinMap.{get}
 use Rattle.std.proofs.lemmas.List.Elements.{All-head, All-tail}
 use Rattle.std.proofs.lemmas.Map.Views.{any-filter_same}
@@ -109,6 +110,22 @@ strays_of_names m path folder names f is l = record {
       ∙ chosen (is_stray path q) (list_any (bytes_eq q) (map (joined folder) names)) (is_some (get m q))
       (λ s. among_names m folder q names l (subst (λ d. IsNamedIn d q) (sym is) (stray_named path q f s)));
 }
+
+-- a text that has no more bytes than the path is no stray
+pub no_longer : (path q : List ℕ) → IsUtf8 path → IsUtf8 q → length q ≤ length path → false ≡ is_stray (chars path) (chars q)
+no_longer path q utf8 other short = by (is_stray (chars path) (chars q)) refl
+  where
+    by : (b : Bool) → is_stray (chars path) (chars q) ≡ b → false ≡ b
+    by false h = refl
+    by true h =
+        let stray = stray_behind (chars path) (chars q) h in
+        let front = stray_front (chars path) in
+        let whole = ap length (sym (encodes-chars q other) ∙ ap encode_utf8_all stray.is ∙ encodes-append front stray.rest)
+        ∙ length-append (encode_utf8_all front) (encode_utf8_all stray.rest) in
+        let begun = ap length (encodes-append (chars path) (codes ".new.")) ∙ length-append (encode_utf8_all (chars path)) (encode_utf8_all (codes ".new.")) in
+        let same = ap length (encodes-chars path utf8) in
+        let more = length-le-encodes (codes ".new.") in
+        absurd (omega (arith, short, whole, begun, same, more))
 
 -- a text that does not begin with the path is no stray
 pub not_behind : (path q : List ℕ) → past_mark path q ≡ None → false ≡ is_stray path q

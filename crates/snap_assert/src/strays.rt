@@ -16,10 +16,13 @@ use snap_place::file_path::holds_slash;
 use snap_place::front::{behind, behind_ascii};
 use std::alloc::Global;
 
-/// Whether a file of this name is left behind by payloads of the file that stands beside it.
+/// Whether a file of this name is left behind by payloads of the file that stands beside it. Such a name is longer.
 fn is_stray_name(file: &str, name: &str) -> bool
     ensures { result ≡ is_stray (chars file.now) (chars name.now) }
 {
+    if name.len() <= file.len() {
+        return false;
+    }
     match behind(name, file) {
         None => false,
         Some(rest) => match behind_ascii(rest, ".new.") {

@@ -74,15 +74,18 @@ text_asked (word ∷ []) = if bytes_eq word (codes "--help") then Some USAGE.now
 text_asked _ = None
 
 -- a request is made in the workspace, with no function
-abbrev pub place_by : List ℕ → RequestView → PlaceView
-place_by workspace request = record {
+abbrev pub place_at : List ℕ → List ℕ → List ℕ → ℕ → List ℕ → PlaceView
+place_at workspace module_name file line expr = record {
   workspace = workspace;
   function = [];
-  module_name = request.module_name;
-  file = request.file;
-  line = request.line;
-  expr = request.expr;
+  module_name = module_name;
+  file = file;
+  line = line;
+  expr = expr;
 }
+
+abbrev pub place_by : List ℕ → RequestView → PlaceView
+place_by workspace request = place_at workspace request.module_name request.file request.line request.expr
 
 -- and with new settings but for its sorting and its redactions
 abbrev pub settings_by : RequestView → SettingsView

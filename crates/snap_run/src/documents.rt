@@ -2,9 +2,8 @@
 ghost use Rattle.std.specs.Prelude.{◌≡◌, ◌<◌, ◌≤◌, ◌^◌, List, ℕ, IfOk, IfErr, length, true};
 ghost use Rattle.snap_request.specs.Cut.{documents};
 ghost use Rattle.snap_place.specs.Place.{names_file, place_of};
-ghost use Rattle.snap_request.specs.RequestOf.{request_of};
 ghost use Rattle.snap_run.specs.Runner.{IsReady, words_of};
-ghost use Rattle.snap_run.specs.Answers.{line_text, place_by};
+ghost use Rattle.snap_run.specs.Answers.{line_text, place_at};
 ghost use Rattle.snap_run.specs.Status.{Ended};
 ghost use Rattle.snap_run.specs.Runs.{RanOne, StopsAt, Stops, IsDocumentAnswered, AssertionStops, StoreCount, SinkCount, StopStoreCount, StopSinkCount};
 
@@ -55,37 +54,24 @@ fn line(alloc: Global, verdict: Verdict, path: &Text) -> Result<Text, OutOfMemor
     Ok(line)
 }
 
-/// Where the request of a document stands.
+/// Where the request of a document stands, of its texts.
 fn place_of_request(
     alloc: Global,
     runner: &Runner,
-    request: &Request,
+    module_name: Text,
+    file: Text,
+    line: u32,
+    expr: Text,
 ) -> Result<Place, DocumentError>
-    requires { names_file request.now.file ≡ true }
+    requires { names_file file ≡ true }
     ensures place { IfOk result (λ place. place_of place
-        ≡ place_by runner.now.workspace (request_of request.now)) }
+        ≡ place_at runner.now.workspace module_name file line expr) }
     ensures memory { IfErr result (λ error. error ≡ DocumentError.OutOfMemory) }
 {
     let Ok(workspace) = runner.workspace.try_clone(alloc) else {
         return Err(DocumentError::OutOfMemory);
     };
-    let Ok(module_name) = request.module_name.try_clone(alloc) else {
-        return Err(DocumentError::OutOfMemory);
-    };
-    let Ok(file) = request.file.try_clone(alloc) else {
-        return Err(DocumentError::OutOfMemory);
-    };
-    let Ok(expr) = request.expr.try_clone(alloc) else {
-        return Err(DocumentError::OutOfMemory);
-    };
-    match Place::new(
-        workspace,
-        Text::empty(),
-        module_name,
-        file,
-        request.line,
-        expr,
-    ) {
+    match Place::new(workspace, Text::empty(), module_name, file, line, expr) {
         Ok(place) => Ok(place),
         Err(_) => unreachable!(),
     }
@@ -126,18 +112,26 @@ fn assert_document<F: Store>(
         Err(RequestError::NoRequest) => return Err(DocumentError::NoRequest),
         Err(RequestError::OutOfMemory) => return Err(DocumentError::OutOfMemory),
     };
-    let place = match place_of_request(alloc, runner, &request) {
+    let Request {
+        module_name,
+        file,
+        line,
+        name,
+        expr,
+        value,
+        redactions,
+        sort,
+    } = request;
+    let place = match place_of_request(alloc, runner, module_name, file, line, expr) {
         Ok(place) => place,
         Err(_) => return Err(DocumentError::OutOfMemory),
     };
-    let Ok(redactions) = Redactions::from_replacements(alloc, request.redactions) else {
+    let Ok(redactions) = Redactions::from_replacements(alloc, redactions) else {
         return Err(DocumentError::OutOfMemory);
     };
-    let Ok(settings) = Settings::of_parts(alloc, request.sort, redactions) else {
+    let Ok(settings) = Settings::of_parts(alloc, sort, redactions) else {
         return Err(DocumentError::OutOfMemory);
     };
-    let value = request.value;
-    let name = request.name;
     match assert_content(
         alloc,
         session,

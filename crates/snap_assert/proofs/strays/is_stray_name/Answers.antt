@@ -1,6 +1,9 @@
 use Rattle.std.specs.Str.{chars}
-use Rattle.snap_assert.proofs.StrayPaths.{not_behind, not_new, behind_new}
+use Rattle.snap_assert.proofs.StrayPaths.{no_longer, not_behind, not_new, behind_new}
 use Rattle.snap_assert.proofs.strays.is_stray_name.Goals as goal
+
+pub returns-then-name-file : goal.returns-then-name-file
+returns-then-name-file c = no_longer c.args.file.now c.args.name.now c.utf8.file c.utf8.name c.if-name-file.true
 
 pub returns-in-None : goal.returns-in-None
 returns-in-None c = not_behind (chars c.args.file.now) (chars c.args.name.now) c.in-None.ensures
