@@ -7,3 +7,4 @@ pub mod Quoting
 pub mod Trees
 pub mod Walked
 pub mod Beginnings
+mod Bytes

@@ -45,22 +45,31 @@ fn is_leading_char(c: char) -> bool
     )
 }
 
-/// Whether the character makes a text quoted wherever it stands.
-fn is_special_char(c: char) -> bool
-    ensures { result ≡ is_special c }
+/// Whether the byte makes a text quoted wherever it stands. Letters, digits and blanks are told first, since most bytes are such;
+/// bytes of wide characters do not.
+fn is_special_byte(byte: u8) -> bool
+    ensures { result ≡ is_special byte }
 {
-    matches!(
-        c,
-        ':' | '{' | '}' | '[' | ']' | ',' | '#' | '"' | '\'' | '\\' | '`' | '\t' | '\n' | '\r' |
-        '\0'..='\u{6}' | '\u{e}'..='\u{1a}' | '\u{1c}'..='\u{1f}'
-    )
+    match byte {
+        b'a'..=b'z' | b'A'..=b'Z' | b'0'..=b'9' | b' ' => false,
+        b':' | b'{' | b'}' | b'[' | b']' | b',' | b'#' | b'"' | b'\'' | b'\\' | b'`' => true,
+        b'\t' | b'\n' | b'\r' | 0..=6 | 14..=26 | 28..=31 => true,
+        _ => false,
+    }
 }
 
-/// Whether a character of the text makes it quoted.
+/// Whether one of the bytes makes a text quoted.
+fn hold_special(bytes: &[u8]) -> bool
+    ensures { result ≡ list_any is_special bytes.now }
+{
+    bytes.iter().any(|byte| is_special_byte(*byte))
+}
+
+/// Whether a character of the text makes it quoted. Each such character is one byte.
 fn holds_special(text: &str) -> bool
     ensures { result ≡ list_any is_special (chars text.now) }
 {
-    text.chars().any(is_special_char)
+    hold_special(text.as_bytes())
 }
 
 /// Whether white space ends the text.
