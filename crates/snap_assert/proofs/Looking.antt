@@ -2,6 +2,7 @@
 use Rattle.std.proofs.Common.{◌≡◌, ℕ, Bool, true, false, List, [], ◌∷◌, Option, Some, Result, Ok, Err, refl, sym, ap, ◌∙◌, subst, inl, inr}
 use Rattle.std.specs.Prelude.{IfOk}
 use Rattle.std.specs.FinMap.{get}
+use Rattle.snap_content.specs.List.{items_of}
 use Rattle.snap_content.specs.Lines.{text_of}
 use Rattle.snap_content.specs.declared.error.Error.{Error}
 use Rattle.snap_content.specs.declared.error.Error.TheVariants.{FailedParsingYaml, UnexpectedDataType, MissingField, FileIo, FloatText, JsonKey, NotText, NoFile, OutOfMemory}
@@ -22,7 +23,7 @@ use Rattle.snap_store.specs.declared.metadata.SnapshotKind.TheVariants as kind
 use Rattle.snap_store.specs.declared.snapshot.Snapshot.{Snapshot}
 use Rattle.snap_assert.specs.Judging.{May}
 use Rattle.snap_assert.specs.Steps.{Asked}
-use Rattle.snap_assert.specs.Outcomes.{AreWarnings, PassWarns, IsHeadedFile, IsNotUnderstood, warnings_in}
+use Rattle.snap_assert.specs.Outcomes.{AreWarnings, PassWarns, IsHeadedFile, IsNotUnderstood}
 use Rattle.snap_assert.specs.Prepared.{IsPrepared, IsJudged, TextsMatch, TextsDiffer, OlderAs, NoPass, RefusedEnd, IsCompared, said_if, said}
 use Rattle.snap_assert.specs.Kept.{NamesOnly}
 use Rattle.snap_assert.specs.declared.error.AssertError.{AssertError}
@@ -100,7 +101,7 @@ read_compared : (asked : Asked) (m : Files) (file : Option (List ℕ)) (snapshot
     → IsJudged asked m judged
 read_compared asked m file snapshot new judged is r printed in_file c =
     let May_at : Option (List ℕ) → Type 0 = λ f. May judged.passed f asked.tree in
-    let Warned_at : Option (List ℕ) → Type 0 = λ f. AreWarnings asked.path f judged.passed (text_of asked.tree) (warnings_in judged.warnings) in
+    let Warned_at : Option (List ℕ) → Type 0 = λ f. AreWarnings asked.path f judged.passed (text_of asked.tree) (items_of judged.warnings) in
     let Warned_by : List Warning → Type 0 = λ ws. AreWarnings asked.path file judged.passed (text_of asked.tree) ws in
     let pass = warned_pass file snapshot new judged.passed c.older (text_of asked.tree) r printed (λ yes. c.tells.0 yes) c.older_is in
     let warned = warned_file asked.path file (legacy_in snapshot) (number_text_in snapshot) c.older judged.passed r.text (text_of asked.tree) (meta_in snapshot) r.there r.metadata r.numbers pass in
@@ -125,10 +126,10 @@ judge_read asked m prepared files snapshot was number old new judged p told r wa
     (compared_with was number old new judged snapshot was_is number_is old_is c)
 
 not_passed : (asked : Asked) (m : Files) (file : Option (List ℕ)) (judged : Judged) → file ≡ get m asked.path → judged.passed ≡ false
-    → May false file asked.tree → AreWarnings asked.path file judged.passed (text_of asked.tree) (warnings_in judged.warnings) → IsJudged asked m judged
+    → May false file asked.tree → AreWarnings asked.path file judged.passed (text_of asked.tree) (items_of judged.warnings) → IsJudged asked m judged
 not_passed asked m file judged is none may warned =
     let May_at : Option (List ℕ) → Type 0 = λ f. May judged.passed f asked.tree in
-    let Warned_at : Option (List ℕ) → Type 0 = λ f. AreWarnings asked.path f judged.passed (text_of asked.tree) (warnings_in judged.warnings) in
+    let Warned_at : Option (List ℕ) → Type 0 = λ f. AreWarnings asked.path f judged.passed (text_of asked.tree) (items_of judged.warnings) in
     let Passed_at : Bool → Type 0 = λ b. May b file asked.tree in
     record { allowed = subst May_at is (subst Passed_at (sym none) may); warned = subst Warned_at is warned }
 
@@ -137,21 +138,21 @@ by_error : (asked : Asked) (m : Files) (file : Option (List ℕ)) (error : Error
 by_error asked m file error (Err e) is h end = tt
 by_error asked m file (NoFile named) (Ok judged) is h end =
     not_passed asked m file judged is end.0 (refused_no_pass asked.path file asked.tree (NoFile named) h (λ n e. cc) (λ e. cc))
-    (no_warning asked.path file judged.passed (text_of asked.tree) (warnings_in judged.warnings) end.1 (inl (h.1, refl)))
+    (no_warning asked.path file judged.passed (text_of asked.tree) (items_of judged.warnings) end.1 (inl (h.1, refl)))
 by_error asked m file (FileIo named) (Ok judged) is h end = absurd (cc end)
 by_error asked m file OutOfMemory (Ok judged) is h end = absurd (cc end)
 by_error asked m file (NotText named) (Ok judged) is h end =
     not_passed asked m file judged is end.0 (refused_no_pass asked.path file asked.tree (NotText named) h (λ n e. cc) (λ e. cc))
-    (one_warning asked.path file judged.passed (text_of asked.tree) (warnings_in judged.warnings) (NotText named) end.1 h)
+    (one_warning asked.path file judged.passed (text_of asked.tree) (items_of judged.warnings) (NotText named) end.1 h)
 by_error asked m file (FailedParsingYaml named) (Ok judged) is h end =
     not_passed asked m file judged is end.0 (refused_no_pass asked.path file asked.tree (FailedParsingYaml named) h (λ n e. cc) (λ e. cc))
-    (one_warning asked.path file judged.passed (text_of asked.tree) (warnings_in judged.warnings) (FailedParsingYaml named) end.1 h)
+    (one_warning asked.path file judged.passed (text_of asked.tree) (items_of judged.warnings) (FailedParsingYaml named) end.1 h)
 by_error asked m file UnexpectedDataType (Ok judged) is h end =
     not_passed asked m file judged is end.0 (refused_no_pass asked.path file asked.tree UnexpectedDataType h (λ n e. cc) (λ e. cc))
-    (one_warning asked.path file judged.passed (text_of asked.tree) (warnings_in judged.warnings) UnexpectedDataType end.1 h)
+    (one_warning asked.path file judged.passed (text_of asked.tree) (items_of judged.warnings) UnexpectedDataType end.1 h)
 by_error asked m file MissingField (Ok judged) is h end =
     not_passed asked m file judged is end.0 (refused_no_pass asked.path file asked.tree MissingField h (λ n e. cc) (λ e. cc))
-    (one_warning asked.path file judged.passed (text_of asked.tree) (warnings_in judged.warnings) MissingField end.1 h)
+    (one_warning asked.path file judged.passed (text_of asked.tree) (items_of judged.warnings) MissingField end.1 h)
 by_error asked m file (FloatText named) (Ok judged) is h end = absurd h
 by_error asked m file JsonKey (Ok judged) is h end = absurd h
 

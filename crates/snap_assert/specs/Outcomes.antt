@@ -1,6 +1,7 @@
 -- What an assertion answers.
 use Rattle.std.specs.Prelude.{◌≡◌, ◌⊎◌, ◌&&◌, ℕ, Bool, true, not, List, [], ◌∷◌, Option, None, Some, Result, Ok, Err}
 use Rattle.std.specs.FinMap.{get}
+use Rattle.snap_content.specs.List.{items_of}
 use Rattle.snap_content.specs.Lines.{text_of}
 use Rattle.snap_content.specs.Plain.{dict, Entries}
 use Rattle.snap_content.specs.declared.error.Error.{Error}
@@ -20,10 +21,6 @@ use Rattle.snap_assert.specs.declared.error.AssertError.TheVariants.{FileIo, Out
 use Rattle.snap_assert.specs.declared.outcome.Outcome.{Outcome}
 use Rattle.snap_assert.specs.declared.outcome.Warning.{Warning}
 use Rattle.snap_assert.specs.declared.outcome.Warning.TheVariants.{LegacyFile, NumberAsText, Unreadable, LegacyContents}
-use Rattle.snap_assert.specs.declared.outcome.Warnings.{Warnings}
-
-abbrev pub warnings_in : Warnings → List Warning
-warnings_in warnings = warnings.items.items
 
 -- the file has a header, which is read as that of a snapshot
 pub record IsHeadedFile (file : Option (List ℕ)) : Type 0 where
@@ -71,7 +68,7 @@ pub record IsAnswered (config : Config) (assertion : Assertion) (outcome : Outco
   pub allowed : (m : Files) → files ≡ Some m → May passed (get m (asked_in assertion session).path) (asked_in assertion session).tree
   pub stands : (m : Files) → files ≡ Some m → files' ≡ Some (left_by config assertion passed m session).files
   pub warned : (m : Files) → files ≡ Some m → AreWarnings (asked_in assertion session).path (get m (asked_in assertion session).path) passed
-      (text_of (asked_in assertion session).tree) (warnings_in outcome.warnings)
+      (text_of (asked_in assertion session).tree) (items_of outcome.warnings)
 
 -- the only refusals while names are given and no block is open
 abbrev pub ErrorCause : ℕ → ℕ → AssertError → Type 0

@@ -1,6 +1,7 @@
 -- What is ready before anything is looked at, and what was seen.
 use Rattle.std.specs.Prelude.{◌≡◌, ◌↔◌, ℕ, Bool, true, IsTrue, List, [], ◌∷◌, ◌++◌, false, Option, Some, Result, Ok, Err}
 use Rattle.std.specs.FinMap.{get}
+use Rattle.snap_content.specs.List.{items_of}
 use Rattle.snap_content.specs.Lines.{text_of, lines_of}
 use Rattle.snap_content.specs.Printed.{AreLines}
 use Rattle.snap_outside.specs.Files.{Files}
@@ -13,7 +14,7 @@ use Rattle.snap_settings.specs.declared.config.Config.{Config}
 use Rattle.snap_place.specs.SnapshotPath.{IsFilePath}
 use Rattle.snap_assert.specs.Strays.{AreStrays}
 use Rattle.snap_assert.specs.Judging.{May}
-use Rattle.snap_assert.specs.Outcomes.{AreWarnings, warnings_in}
+use Rattle.snap_assert.specs.Outcomes.{AreWarnings}
 use Rattle.snap_content.specs.declared.error.Error.{Error}
 use Rattle.snap_content.specs.declared.error.Error.TheVariants as refusal
 use Rattle.snap_assert.specs.declared.error.AssertError.{AssertError}
@@ -39,7 +40,7 @@ pub record IsPrepared (asked : Asked) (prepared : Prepared) : Type 0 where
 -- whether it passes, and what is to be said of the file
 pub record IsJudged (asked : Asked) (m : Files) (judged : Judged) : Type 0 where
   pub allowed : May judged.passed (get m asked.path) asked.tree
-  pub warned : AreWarnings asked.path (get m asked.path) judged.passed (text_of asked.tree) (warnings_in judged.warnings)
+  pub warned : AreWarnings asked.path (get m asked.path) judged.passed (text_of asked.tree) (items_of judged.warnings)
 
 -- the same, and what is to go
 pub record IsSeen (asked : Asked) (m : Files) (seen : Seen) : Type 0 where
@@ -53,7 +54,7 @@ pub record IsSettled (config : Config) (asked : Asked) (m : Files) (judged : Jud
 
 -- no pass, with these warnings
 abbrev pub NoPass : List Warning → Result Judged AssertError → Type 0
-NoPass warnings (Ok judged) = (judged.passed ≡ false) × (warnings_in judged.warnings ≡ warnings)
+NoPass warnings (Ok judged) = (judged.passed ≡ false) × (items_of judged.warnings ≡ warnings)
 NoPass warnings (Err OutOfMemory) = Unit {0}
 NoPass warnings (Err _) = ⊥
 
@@ -89,7 +90,7 @@ pub record IsCompared (was_legacy number_as_text : Bool) (old new : SnapshotCont
   pub tells : IsTrue judged.passed ↔ Agree old new
   pub older : Bool
   pub older_is : OlderAs judged.passed older (text_in old) (text_in new)
-  pub said_is : warnings_in judged.warnings ≡ said was_legacy number_as_text older
+  pub said_is : items_of judged.warnings ≡ said was_legacy number_as_text older
 
 -- a missing file is no pass, a fault and want of memory are handed on, and any other refusal is a warning
 abbrev pub RefusedEnd : Error → Result Judged AssertError → Type 0

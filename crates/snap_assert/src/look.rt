@@ -1,13 +1,14 @@
 //! What stands in the store: whether the tree passes, and what is to go.
 ghost use Rattle.std.specs.Prelude.{◌≡◌, [], ◌∷◌, false, Some, IfOk};
 ghost use Rattle.snap_outside.specs.Files.{Files};
-ghost use Rattle.snap_assert.specs.Outcomes.{AssertCause, warnings_in};
+ghost use Rattle.snap_assert.specs.Outcomes.{AssertCause};
 ghost use Rattle.snap_assert.specs.Steps.{Asked};
 ghost use Rattle.snap_assert.specs.Prepared.{IsPrepared, IsJudged, IsSeen, NoPass, RefusedEnd, DifferAs, OlderAs, IsCompared, said};
 ghost use Rattle.snap_assert.specs.Kept.{NamesOnly, NamesOwn};
 ghost use Rattle.snap_assert.specs.Strays.{AllStray};
 ghost use Rattle.snap_settings.specs.declared.config.Update.{Update};
 ghost use Rattle.snap_store.specs.Views.{text_in};
+ghost use Rattle.snap_content.specs.List.{items_of};
 
 use crate::error::AssertError;
 use crate::outcome::{Warning, Warnings};
@@ -35,7 +36,7 @@ pub struct Seen {
 
 fn no_pass(alloc: Global) -> Judged
     ensures passed { result.passed ≡ false }
-    ensures warnings { warnings_in result.warnings ≡ [] }
+    ensures warnings { items_of result.warnings ≡ [] }
 {
     Judged {
         passed: false,
@@ -114,7 +115,7 @@ fn file_warnings(
     older: bool,
 ) -> Result<Warnings, OutOfMemory>
     ensures { IfOk result (λ warnings.
-        warnings_in warnings ≡ said was_legacy number_as_text older) }
+        items_of warnings ≡ said was_legacy number_as_text older) }
 {
     let mut warnings = Warnings::new(alloc);
     if was_legacy {

@@ -14,4 +14,5 @@ mod KeyOrdered
 mod OneOrder
 mod Settled
 mod Visits
+mod ListOrder
 pub mod WalkTurns

@@ -5,10 +5,9 @@ use Rattle.std.specs.declared.cmp.Ordering.{Ordering}
 use Rattle.std.specs.declared.cmp.Ordering.TheVariants.{Less, Equal}
 use Rattle.std.specs.Ordering.{ordering_then, nat_cmp}
 use Rattle.snap_content.specs.Tree as t
-use Rattle.snap_content.specs.View.{tree, item_trees, pair_trees, field_list, field_trees}
+use Rattle.snap_content.specs.View.{tree, item_trees, pair_trees, field_list, field_trees, Fields}
 use Rattle.snap_content.specs.Orders.{tree_cmp, trees_cmp, pairs_cmp, fields_cmp, text_cmp}
 use Rattle.snap_content.specs.declared.content.Content.{Content, Struct, StructVariant}
-use Rattle.snap_content.specs.declared.lists.Fields.{Fields}
 use Rattle.snap_content.proofs.Views.{tree-Struct, tree-StructVariant}
 
 -- an order that comes behind others which are equal

@@ -2,6 +2,7 @@ pub mod Text
 pub mod Blob
 pub mod Lent
 pub mod Tree
+pub mod List
 pub mod View
 pub mod Access
 pub mod Lending

@@ -188,13 +188,3 @@ pub trees_total : IsTotalOrder trees_cmp
 trees_total =
     as_total (on (λ xs. items xs []) parts_cmp) trees_cmp (on_total (λ xs. items xs []) (lists_total part_total))
     (λ xs ys. items_first xs ys [] [] ∙ then_equal (trees_cmp xs ys))
-
-pub pairs_total : IsTotalOrder pairs_cmp
-pairs_total =
-    as_total (on (λ ps. pairs ps []) parts_cmp) pairs_cmp (on_total (λ ps. pairs ps []) (lists_total part_total))
-    (λ ps qs. pairs_first ps qs [] [] ∙ then_equal (pairs_cmp ps qs))
-
-pub fields_total : IsTotalOrder fields_cmp
-fields_total =
-    as_total (on (λ fs. fields fs []) parts_cmp) fields_cmp (on_total (λ fs. fields fs []) (lists_total part_total))
-    (λ fs gs. fields_first fs gs [] [] ∙ then_equal (fields_cmp fs gs))

@@ -32,7 +32,7 @@ pub use content::Content;
 pub use error::Error;
 pub use key::Key;
 pub use lent::Lent;
-pub use lists::{Fields, Items, Pairs};
+pub use lists::{Fields, Items, List, Pairs};
 pub use memory::OutOfMemory;
 pub use text::Text;
 pub use to_content::ToContent;

@@ -3,13 +3,11 @@ use Rattle.std.proofs.Common.{◌≡◌, ℕ, Bool, true, false, ◌||◌, List,
 use Rattle.std.specs.Prelude.{option_and_then}
 use Rattle.snap_content.specs.Plain as p
 use Rattle.snap_content.specs.Tree as t
-use Rattle.snap_content.specs.View.{tree, pair_tree, item_trees, pair_list, pair_trees}
+use Rattle.snap_content.specs.View.{tree, pair_tree, item_trees, pair_list, pair_trees, Pairs}
 use Rattle.snap_content.specs.declared.content.Content.{Content, Map}
-use Rattle.snap_content.specs.declared.lists.Pairs.{Pairs}
 use Rattle.snap_content.proofs.Views.{tree-Map}
 use Rattle.snap_yaml.specs.Value as v
-use Rattle.snap_yaml.specs.View.{value_of, array_values, hash_list, hash_values}
-use Rattle.snap_yaml.specs.declared.lists.Hash.{Hash}
+use Rattle.snap_yaml.specs.View.{value_of, array_values, hash_list, hash_values, Hash}
 use Rattle.snap_yaml.specs.declared.yaml.Yaml.{Yaml}
 use Rattle.snap_yaml.specs.declared.yaml.Yaml as held
 use Rattle.snap_emit.specs.PlainRead.{plain_read, plains_read, entries_read, has_number_text, have_number_texts, are_number_texts_in}

@@ -4,16 +4,11 @@ use Rattle.std.proofs.lemmas.List.{take_more, map-append}
 use Rattle.snap_content.specs.Tree as t
 use Rattle.snap_content.specs.Plain as p
 use Rattle.snap_content.specs.Spell.{spell_text}
-use Rattle.snap_content.specs.View.{tree, item_list, item_trees, pair_list, pair_trees, field_list, field_trees}
+use Rattle.snap_content.specs.View.{tree, item_list, item_trees, pair_list, pair_trees, field_list, field_trees, Items, Pairs, Fields}
 use Rattle.snap_content.specs.declared.content.Content as content
 use Rattle.snap_content.specs.declared.content.Content.{Content}
-use Rattle.snap_content.specs.declared.lists.Items.{Items}
-use Rattle.snap_content.specs.declared.lists.Pairs.{Pairs}
-use Rattle.snap_content.specs.declared.lists.Fields.{Fields}
-use Rattle.snap_yaml.specs.View.{array_list, hash_list}
+use Rattle.snap_yaml.specs.View.{array_list, hash_list, Array, Hash}
 use Rattle.snap_yaml.specs.declared.yaml.Yaml as yaml
-use Rattle.snap_yaml.specs.declared.lists.Array.{Array}
-use Rattle.snap_yaml.specs.declared.lists.Hash.{Hash}
 use Rattle.snap_emitter.specs.FromContent.{content_shape, pair_shape, field_shape, byte_shape}
 use Rattle.snap_emitter.specs.Shape as s
 use Rattle.snap_emitter.specs.Shape.{shape_of, pair_shapes}

@@ -6,12 +6,9 @@ use Rattle.std.specs.List.{All}
 use Rattle.snap_content.specs.Tree as t
 use Rattle.snap_content.specs.Plain as p
 use Rattle.snap_content.specs.Readable.{IsWithin, AreWithin, AreEntriesWithin}
-use Rattle.snap_content.specs.View.{tree, item_list, item_trees, pair_list, pair_trees, field_list, field_trees}
+use Rattle.snap_content.specs.View.{tree, item_list, item_trees, pair_list, pair_trees, field_list, field_trees, Items, Pairs, Fields}
 use Rattle.snap_content.specs.declared.content.Content as content
 use Rattle.snap_content.specs.declared.content.Content.{Content}
-use Rattle.snap_content.specs.declared.lists.Items.{Items}
-use Rattle.snap_content.specs.declared.lists.Pairs.{Pairs}
-use Rattle.snap_content.specs.declared.lists.Fields.{Fields}
 use Rattle.snap_emitter.specs.FromContent.{IsContentWithin, IsPairWithin, IsFieldWithin, IsByteWithin}
 
 items_within : (cs : List Content) → All IsContentWithin cs → AreWithin (p.plains (item_trees cs))

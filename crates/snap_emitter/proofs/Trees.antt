@@ -3,10 +3,8 @@ use Rattle.std.proofs.Common.{◌≡◌, ℕ, ◌+◌, ◌++◌, List, [], ◌�
 use Rattle.std.proofs.lemmas.Bool.Decides.{nat_tests}
 use Rattle.std.specs.List.{flat_map}
 use Rattle.snap_yaml.specs.Value as v
-use Rattle.snap_yaml.specs.View.{value_of, array_list, array_values, hash_list, hash_values}
+use Rattle.snap_yaml.specs.View.{value_of, array_list, array_values, hash_list, hash_values, Array, Hash}
 use Rattle.snap_yaml.specs.declared.yaml.Yaml.{Yaml, the_lemmas, Array as array, Hash as hash}
-use Rattle.snap_yaml.specs.declared.lists.Array.{Array}
-use Rattle.snap_yaml.specs.declared.lists.Hash.{Hash}
 use Rattle.snap_emitter.specs.Columns.{marked, text_at, items_at, pairs_at}
 use Rattle.snap_emitter.specs.Emitted.{item_line, list_text, pair_line, pair_of, dict_text}
 use Rattle.snap_emitter.specs.Shape as s

@@ -2,12 +2,9 @@
 use Rattle.std.proofs.Common.{◌≡◌, ℕ, ◌+◌, List, [], ◌∷◌, refl, sym, ap, ◌∙◌, rules}
 use Rattle.snap_content.specs.Tree as t
 use Rattle.snap_content.specs.Plain as p
-use Rattle.snap_content.specs.View.{tree, item_list, item_trees, pair_list, pair_trees, field_list, field_trees}
+use Rattle.snap_content.specs.View.{tree, item_list, item_trees, pair_list, pair_trees, field_list, field_trees, Items, Pairs, Fields}
 use Rattle.snap_content.specs.declared.content.Content as content
 use Rattle.snap_content.specs.declared.content.Content.{Content}
-use Rattle.snap_content.specs.declared.lists.Items.{Items}
-use Rattle.snap_content.specs.declared.lists.Pairs.{Pairs}
-use Rattle.snap_content.specs.declared.lists.Fields.{Fields}
 use Rattle.std.specs.declared.boxed.Box.{Box}
 use Rattle.std.specs.declared.alloc.Global.{Global}
 use Rattle.snap_json.specs.Layout.{opening, closing}

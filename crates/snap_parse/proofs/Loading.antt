@@ -30,8 +30,7 @@ use Rattle.snap_parser.specs.declared.error.LoadError.TheVariants as l
 use Rattle.snap_parser.specs.Errors.{IsLoadFounded}
 use Rattle.snap_scan.specs.Sound.{IsFounded}
 use Rattle.std.specs.Prelude.{ℕ, Result, IfOk}
-use Rattle.snap_yaml.specs.declared.lists.Array.{Array}
-use Rattle.snap_yaml.specs.View.{value_of, array_list}
+use Rattle.snap_yaml.specs.View.{value_of, array_list, Array}
 use Rattle.snap_parse.specs.declared.loader.Loader.{Loader}
 use Rattle.snap_parse.specs.Loader.{HasLoaded, HoldsDocuments}
 use Rattle.snap_yaml.specs.Value.{Value}

@@ -3,9 +3,8 @@ use Rattle.std.proofs.Common.{◌≡◌, ℕ, ◌^◌, ℤ, pos, negsuc, Bool, t
 use Rattle.snap_content.specs.Plain as p
 use Rattle.snap_content.specs.Plain.{Plain, Plains, Entries, dict}
 use Rattle.snap_content.specs.Tree as t
-use Rattle.snap_content.specs.View.{tree, item_trees, item_list}
+use Rattle.snap_content.specs.View.{tree, item_trees, item_list, Items}
 use Rattle.snap_content.specs.declared.content.Content.{Content, Seq}
-use Rattle.snap_content.specs.declared.lists.Items.{Items}
 use Rattle.snap_content.proofs.Views.{tree-Seq}
 use Rattle.snap_select.specs.Selected.{selected}
 use Rattle.snap_select.specs.Parts.{Parts}

@@ -5,11 +5,8 @@ use Rattle.std.proofs.lemmas.Cmp.{lists_total, then_total, on_total, nat_cmp_tot
 use Rattle.snap_content.specs.Tree as t
 use Rattle.snap_content.specs.Orders.{tree_cmp}
 use Rattle.snap_content.specs.TotalOrder.{tree_total}
-use Rattle.snap_content.specs.View.{tree, item_list, pair_tree, pair_list, field_tree, field_list}
+use Rattle.snap_content.specs.View.{tree, item_list, pair_tree, pair_list, field_tree, field_list, Fields, Items, Pairs}
 use Rattle.snap_content.specs.declared.content.Content.{Content, Seq, Map, Struct, StructVariant}
-use Rattle.snap_content.specs.declared.lists.Fields.{Fields}
-use Rattle.snap_content.specs.declared.lists.Items.{Items}
-use Rattle.snap_content.specs.declared.lists.Pairs.{Pairs}
 use Rattle.snap_content.proofs.Views.{tree-Seq, tree-Map, tree-Struct, tree-StructVariant}
 use Rattle.snap_select.specs.InOrder.{ordered, items_in, pairs_in, fields_in, pair_cmp, field_cmp, in_order}
 

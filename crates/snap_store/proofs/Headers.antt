@@ -3,9 +3,8 @@ use Rattle.std.proofs.Common.{◌≡◌, ℕ, List, [], ◌∷◌, ◌++◌, Opt
 use Rattle.std.specs.Prelude.{pos, codes}
 use Rattle.snap_content.specs.Plain.{plain, text, int, dict, Entries, entry, no_entries, pair_entries}
 use Rattle.snap_content.specs.Tree as t
-use Rattle.snap_content.specs.View.{tree, pair_list, pair_trees}
+use Rattle.snap_content.specs.View.{tree, pair_list, pair_trees, Pairs}
 use Rattle.snap_content.specs.declared.content.Content.{Content, String, U32, Map, the_lemmas}
-use Rattle.snap_content.specs.declared.lists.Pairs.{Pairs}
 use Rattle.snap_content.proofs.Views.{tree-Map}
 use Rattle.snap_store.specs.Header.{in_front}
 use Rattle.snap_store.specs.Meta.{Meta, text_field, line_field, info_field, kind_fields, header_tree}

@@ -2,10 +2,9 @@
 use Rattle.std.proofs.Common.{◌≡◌, ℕ, List, [], ◌∷◌, map, Option, Some, None, refl, sym, ap, ◌∙◌, rules, option_map, slice_get, option_copied, Bor}
 use Rattle.std.proofs.lemmas.Option.{slice_get-map}
 use Rattle.snap_yaml.specs.Value as v
-use Rattle.snap_yaml.specs.View.{value_of, array_list, array_values}
+use Rattle.snap_yaml.specs.View.{value_of, array_list, array_values, Array}
 use Rattle.snap_yaml.specs.Readers.{listed, array_in, items_in}
 use Rattle.snap_yaml.specs.declared.yaml.Yaml as y
-use Rattle.snap_yaml.specs.declared.lists.Array.{Array}
 
 pub value-String : (text : List ℕ) → value_of (y.String text) ≡ v.string text
 value-String text = search (rules, y.the_lemmas)

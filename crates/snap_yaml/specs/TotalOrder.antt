@@ -7,7 +7,7 @@ use Rattle.std.specs.Cmp.{IsTotalOrder}
 use Rattle.std.proofs.lemmas.Cmp.{on_total}
 use Rattle.snap_content.specs.Tree as t
 use Rattle.snap_content.specs.Orders as o
-use Rattle.snap_content.specs.TotalOrder.{tree_total, trees_total, pairs_total}
+use Rattle.snap_content.specs.TotalOrder.{tree_total}
 use Rattle.snap_yaml.specs.Value as v
 use Rattle.snap_yaml.specs.Orders.{value_cmp, values_cmp, pairs_cmp}
 
@@ -77,9 +77,3 @@ as_total R S order same = record {
 
 pub value_total : IsTotalOrder value_cmp
 value_total = as_total (on coded o.tree_cmp) value_cmp (on_total coded tree_total) same_value
-
-pub values_total : IsTotalOrder values_cmp
-values_total = as_total (on coded_values o.trees_cmp) values_cmp (on_total coded_values trees_total) same_values
-
-pub value_pairs_total : IsTotalOrder pairs_cmp
-value_pairs_total = as_total (on coded_pairs o.pairs_cmp) pairs_cmp (on_total coded_pairs pairs_total) same_pairs

@@ -2,38 +2,38 @@
 use Rattle.std.specs.Prelude.{List, map}
 use Rattle.snap_yaml.specs.Value as v
 use Rattle.snap_yaml.specs.declared.yaml.Yaml.{Yaml}
-use Rattle.snap_yaml.specs.declared.lists.Array.{Array, out-Array}
-use Rattle.snap_yaml.specs.declared.yaml.Yaml.TheOpen.{Array-F, Hash-F, Yaml-F}
+use Rattle.snap_yaml.specs.declared.yaml.Yaml.TheOpen.{Yaml-F}
 use Rattle.snap_yaml.specs.declared.yaml.Yaml.TheFolds.{fold-Yaml}
-use Rattle.snap_yaml.specs.declared.lists.Hash.{Hash, out-Hash}
+use Rattle.snap_content.specs.declared.lists.List as l
+use Rattle.snap_content.specs.List.{items_of}
 
 -- one level, with each value inside already seen
-abbrev pub yaml_step : Yaml-F v.Value v.Values v.ValuePairs → v.Value
+abbrev pub yaml_step : Yaml-F v.Value → v.Value
 yaml_step (Yaml-F.Real text) = v.real text
 yaml_step (Yaml-F.Integer z) = v.integer z
 yaml_step (Yaml-F.String text) = v.string text
 yaml_step (Yaml-F.Boolean b) = v.boolean b
-yaml_step (Yaml-F.Array items) = v.array items
-yaml_step (Yaml-F.Hash pairs) = v.hash pairs
+yaml_step (Yaml-F.Array items) = v.array (v.values_of (items_of items))
+yaml_step (Yaml-F.Hash pairs) = v.hash (v.pairs_of (items_of pairs))
 yaml_step Yaml-F.Null = v.null
 yaml_step Yaml-F.BadValue = v.bad_value
 
-abbrev pub array_step : Array-F v.Value v.Values v.ValuePairs → v.Values
-array_step a = v.values_of a.items.items
-
-abbrev pub hash_step : Hash-F v.Value v.Values v.ValuePairs → v.ValuePairs
-hash_step h = v.pairs_of h.pairs.items
-
 -- the value that a `Yaml` means
 abbrev pub value_of : Yaml → v.Value
-value_of = fold-Yaml v.Value v.Values v.ValuePairs yaml_step array_step hash_step
+value_of = fold-Yaml v.Value yaml_step
 
--- the elements of a list type
+-- the list types, and their elements
+abbrev pub Array : Type 0
+Array = l.List Yaml
+
+abbrev pub Hash : Type 0
+Hash = l.List (Yaml × Yaml)
+
 abbrev pub array_list : Array → List Yaml
-array_list array = (out-Array array).items.items
+array_list = items_of
 
 abbrev pub hash_list : Hash → List (Yaml × Yaml)
-hash_list hash = (out-Hash hash).pairs.items
+hash_list = items_of
 
 -- the values of lists of elements
 abbrev pub array_values : List Yaml → v.Values

@@ -18,42 +18,38 @@ impl Yaml {
             Yaml::Integer(number) => Ok(Yaml::Integer(*number)),
             Yaml::String(text) => Ok(Yaml::String(text.try_clone(alloc)?)),
             Yaml::Boolean(truth) => Ok(Yaml::Boolean(*truth)),
-            Yaml::Array(items) => Ok(Yaml::Array(items.try_clone(alloc)?)),
-            Yaml::Hash(pairs) => Ok(Yaml::Hash(pairs.try_clone(alloc)?)),
+            Yaml::Array(items) => Ok(Yaml::Array(clone_array(items, alloc)?)),
+            Yaml::Hash(pairs) => Ok(Yaml::Hash(clone_hash(pairs, alloc)?)),
             Yaml::Null => Ok(Yaml::Null),
             Yaml::BadValue => Ok(Yaml::BadValue),
         }
     }
 }
 
-impl Array {
-    /// An equal list.
-    #[cycle(clone)]
-    pub fn try_clone(&self, alloc: Global) -> Result<Array, OutOfMemory>
-        ensures { IfOk result (λ copy. array_values (array_list copy)
-            ≡ array_values (array_list self.now)) }
-    {
-        let mut copy = Array::new(alloc);
-        for item in self.as_slice() {
-            copy.push(item.try_clone(alloc)?)?;
-        }
-        Ok(copy)
+/// An equal list.
+#[cycle(clone)]
+fn clone_array(array: &Array, alloc: Global) -> Result<Array, OutOfMemory>
+    ensures { IfOk result (λ copy. array_values (array_list copy)
+        ≡ array_values (array_list array.now)) }
+{
+    let mut copy = Array::new(alloc);
+    for item in array.as_slice() {
+        copy.push(item.try_clone(alloc)?)?;
     }
+    Ok(copy)
 }
 
-impl Hash {
-    /// An equal list.
-    #[cycle(clone)]
-    pub fn try_clone(&self, alloc: Global) -> Result<Hash, OutOfMemory>
-        ensures { IfOk result (λ copy. hash_values (hash_list copy)
-            ≡ hash_values (hash_list self.now)) }
-    {
-        let mut copy = Hash::new(alloc);
-        for (key, found) in self.as_slice() {
-            let key = key.try_clone(alloc)?;
-            let found = found.try_clone(alloc)?;
-            copy.push((key, found))?;
-        }
-        Ok(copy)
+/// An equal list.
+#[cycle(clone)]
+fn clone_hash(hash: &Hash, alloc: Global) -> Result<Hash, OutOfMemory>
+    ensures { IfOk result (λ copy. hash_values (hash_list copy)
+        ≡ hash_values (hash_list hash.now)) }
+{
+    let mut copy = Hash::new(alloc);
+    for (key, found) in hash.as_slice() {
+        let key = key.try_clone(alloc)?;
+        let found = found.try_clone(alloc)?;
+        copy.push((key, found))?;
     }
+    Ok(copy)
 }

@@ -56,7 +56,7 @@ impl Yaml {
             ≡ value_at_text (chars key.now) (value_of self.now) }
     {
         match self {
-            Yaml::Hash(pairs) => pairs.first_value(Key::Text(key)),
+            Yaml::Hash(pairs) => first_value_of(pairs, Key::Text(key)),
             _ => None,
         }
     }
@@ -68,23 +68,21 @@ impl Yaml {
     {
         match self {
             Yaml::Array(items) => items.get(index),
-            Yaml::Hash(pairs) => pairs.first_value(Key::Number(index)),
+            Yaml::Hash(pairs) => first_value_of(pairs, Key::Number(index)),
             _ => None,
         }
     }
 }
 
-impl Hash {
-    /// The value of the first pair with this key.
-    fn first_value(&self, sought: Key<'_>) -> Option<&Yaml>
-        ensures { option_map (λ found. value_of found.now) result
-            ≡ first_value (is_key sought.entry) (hash_values (hash_list self.now)) }
-    {
-        for (key, found) in self.as_slice() {
-            if sought.is(key) {
-                return Some(found);
-            }
+/// The value of the first pair with this key.
+fn first_value_of<'a>(hash: &'a Hash, sought: Key<'_>) -> Option<&'a Yaml>
+    ensures { option_map (λ found. value_of found.now) result
+        ≡ first_value (is_key sought.entry) (hash_values (hash_list hash.now)) }
+{
+    for (key, found) in hash.as_slice() {
+        if sought.is(key) {
+            return Some(found);
         }
-        None
     }
+    None
 }

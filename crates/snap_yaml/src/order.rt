@@ -60,64 +60,60 @@ impl Yaml {
             Yaml::Boolean(left) =>
                 same_variant!(other, by_place, Yaml::Boolean(right) => left.cmp(right)),
             Yaml::Array(left) =>
-                same_variant!(other, by_place, Yaml::Array(right) => left.compare(right)),
+                same_variant!(other, by_place, Yaml::Array(right) => compare_arrays(left, right)),
             Yaml::Hash(left) =>
-                same_variant!(other, by_place, Yaml::Hash(right) => left.compare(right)),
+                same_variant!(other, by_place, Yaml::Hash(right) => compare_hashes(left, right)),
             Yaml::Null => same_variant!(other, by_place, Yaml::Null => Ordering::Equal),
             Yaml::BadValue => same_variant!(other, by_place, Yaml::BadValue => Ordering::Equal),
         }
     }
 }
 
-impl Array {
-    /// Item by item, a list before one that begins with it.
-    #[cycle(order)]
-    pub fn compare(&self, other: &Array) -> Ordering
-        ensures { result ≡ values_cmp (array_values (array_list self.now))
-            (array_values (array_list other.now)) }
-    {
-        let mut rest = other.as_slice();
-        for item in self.as_slice() {
-            match rest {
-                [] => return Ordering::Greater,
-                [first, later @ ..] => match item.compare(first) {
-                    Ordering::Equal => rest = later,
-                    unequal => return unequal,
-                },
-            }
+/// Item by item, a list before one that begins with it.
+#[cycle(order)]
+fn compare_arrays(array: &Array, other: &Array) -> Ordering
+    ensures { result ≡ values_cmp (array_values (array_list array.now))
+        (array_values (array_list other.now)) }
+{
+    let mut rest = other.as_slice();
+    for item in array.as_slice() {
+        match rest {
+            [] => return Ordering::Greater,
+            [first, later @ ..] => match item.compare(first) {
+                Ordering::Equal => rest = later,
+                unequal => return unequal,
+            },
         }
-        if rest.is_empty() {
-            Ordering::Equal
-        } else {
-            Ordering::Less
-        }
+    }
+    if rest.is_empty() {
+        Ordering::Equal
+    } else {
+        Ordering::Less
     }
 }
 
-impl Hash {
-    /// Pair by pair, the key first, a list before one that begins with it.
-    #[cycle(order)]
-    pub fn compare(&self, other: &Hash) -> Ordering
-        ensures { result ≡ pairs_cmp (hash_values (hash_list self.now))
-            (hash_values (hash_list other.now)) }
-    {
-        let mut rest = other.as_slice();
-        for (key, found) in self.as_slice() {
-            match rest {
-                [] => return Ordering::Greater,
-                [first, later @ ..] => match in_turn!(
-                    key.compare(&first.0),
-                    found.compare(&first.1)
-                ) {
-                    Ordering::Equal => rest = later,
-                    unequal => return unequal,
-                },
-            }
+/// Pair by pair, the key first, a list before one that begins with it.
+#[cycle(order)]
+fn compare_hashes(hash: &Hash, other: &Hash) -> Ordering
+    ensures { result ≡ pairs_cmp (hash_values (hash_list hash.now))
+        (hash_values (hash_list other.now)) }
+{
+    let mut rest = other.as_slice();
+    for (key, found) in hash.as_slice() {
+        match rest {
+            [] => return Ordering::Greater,
+            [first, later @ ..] => match in_turn!(
+                key.compare(&first.0),
+                found.compare(&first.1)
+            ) {
+                Ordering::Equal => rest = later,
+                unequal => return unequal,
+            },
         }
-        if rest.is_empty() {
-            Ordering::Equal
-        } else {
-            Ordering::Less
-        }
+    }
+    if rest.is_empty() {
+        Ordering::Equal
+    } else {
+        Ordering::Less
     }
 }

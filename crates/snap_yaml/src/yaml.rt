@@ -5,7 +5,6 @@ use crate::lists::{Array, Hash};
 use snap_content::Text;
 
 /// A value of a document.
-#[cycle(yaml)]
 #[derive(Debug, Drop)]
 pub enum Yaml {
     /// A number that is no whole number of 64 bits, as its text. Nothing computes it.

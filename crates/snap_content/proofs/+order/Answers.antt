@@ -14,14 +14,14 @@ content::Content::compare-returns-in-Equal-cmp-13 t c =
     c.in-Equal-cmp-11.is c.cmp-in-Equal-cmp-11.ensures c.in-Equal-cmp-12.is c.cmp-in-Equal-cmp-12.ensures c.in-Equal-cmp-13.is
     c.compare-in-Equal-cmp-13.ensures
 
-pub lists::Items::compare-returns-else-is_empty : goal.lists::Items::compare-returns-else-is_empty
-lists::Items::compare-returns-else-is_empty t c =
+pub order::Items::compare-returns-else-is_empty : goal.order::Items::compare-returns-else-is_empty
+order::Items::compare-returns-else-is_empty t c =
     items_end _ _ _ (drop_all _ _ c.loop-item-test.false) (sym c.is_empty.ensures ∙ c.if-is_empty.false) c.loop-item.invariant
 
-pub lists::Pairs::compare-returns-else-is_empty : goal.lists::Pairs::compare-returns-else-is_empty
-lists::Pairs::compare-returns-else-is_empty t c =
+pub order::Pairs::compare-returns-else-is_empty : goal.order::Pairs::compare-returns-else-is_empty
+order::Pairs::compare-returns-else-is_empty t c =
     pairs_end _ _ _ (drop_all _ _ c.loop-key-test.false) (sym c.is_empty.ensures ∙ c.if-is_empty.false) c.loop-key.invariant
 
-pub lists::Fields::compare-returns-else-is_empty : goal.lists::Fields::compare-returns-else-is_empty
-lists::Fields::compare-returns-else-is_empty t c =
+pub order::Fields::compare-returns-else-is_empty : goal.order::Fields::compare-returns-else-is_empty
+order::Fields::compare-returns-else-is_empty t c =
     fields_end _ _ _ (drop_all _ _ c.loop-name-test.false) (sym c.is_empty.ensures ∙ c.if-is_empty.false) c.loop-name.invariant

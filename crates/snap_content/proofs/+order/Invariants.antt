@@ -4,17 +4,17 @@ use Rattle.snap_content.specs.Orders.{trees_cmp, pairs_cmp, fields_cmp}
 use Rattle.snap_content.proofs.+order.Given as goal
 
 -- what is left compares as the whole does
-abbrev pub invariant-lists::Items::compare-loop-item : goal.invariant-lists::Items::compare-loop-item
-invariant-lists::Items::compare-loop-item l =
+abbrev pub invariant-order::Items::compare-loop-item : goal.invariant-order::Items::compare-loop-item
+invariant-order::Items::compare-loop-item l =
     trees_cmp (item_trees (drop l.item-index l.item-items)) (item_trees l.rest)
     ≡ trees_cmp (item_trees (item_list l.self)) (item_trees (item_list l.other))
 
-abbrev pub invariant-lists::Pairs::compare-loop-key : goal.invariant-lists::Pairs::compare-loop-key
-invariant-lists::Pairs::compare-loop-key l =
+abbrev pub invariant-order::Pairs::compare-loop-key : goal.invariant-order::Pairs::compare-loop-key
+invariant-order::Pairs::compare-loop-key l =
     pairs_cmp (pair_trees (drop l.key-index l.key-items)) (pair_trees l.rest)
     ≡ pairs_cmp (pair_trees (pair_list l.self)) (pair_trees (pair_list l.other))
 
-abbrev pub invariant-lists::Fields::compare-loop-name : goal.invariant-lists::Fields::compare-loop-name
-invariant-lists::Fields::compare-loop-name l =
+abbrev pub invariant-order::Fields::compare-loop-name : goal.invariant-order::Fields::compare-loop-name
+invariant-order::Fields::compare-loop-name l =
     fields_cmp (field_trees (drop l.name-index l.name-items)) (field_trees l.rest)
     ≡ fields_cmp (field_trees (field_list l.self)) (field_trees (field_list l.other))
