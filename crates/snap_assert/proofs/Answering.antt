@@ -1,15 +1,7 @@
 -- What is answered.
-use Rattle.std.proofs.Common.{◌≡◌, ◌&&◌, Bool, not, Option, Some, Ok, refl, sym, ap}
-use Rattle.snap_outside.specs.Files.{Files}
-use Rattle.snap_assert.specs.Assertions.{Assertion, asked_in}
-use Rattle.snap_assert.specs.Outcomes.{IsAnswered}
-use Rattle.snap_assert.specs.Prepared.{IsPrepared, IsSettled}
-use Rattle.snap_assert.specs.Session.{empty_session}
-use Rattle.snap_assert.specs.Steps.{Asked, verdict_of, is_failure}
+use Rattle.snap_assert.proofs.Prelude.{◌≡◌, ◌&&◌, Bool, not, Option, Some, Ok, refl, sym, ap, Files, Assertion, asked_in, IsAnswered, IsPrepared, IsSettled, empty_session, Asked, verdict_of, is_failure, Judged, Prepared}
 use Rattle.snap_settings.specs.declared.config.Config.{Config}
-use Rattle.snap_assert.specs.declared.look.Judged.{Judged}
 use Rattle.snap_assert.specs.declared.outcome.Verdict.{Verdict}
-use Rattle.snap_assert.specs.declared.prepare.Prepared.{Prepared}
 
 pub answered : (config : Config) (assertion : Assertion) (prepared : Prepared) (judged : Judged) (verdict : Verdict) (fails : Bool) (files files' : Option Files)
     → IsPrepared (asked_in assertion empty_session) prepared → verdict ≡ verdict_of config.update judged.passed → fails ≡ (is_failure verdict && not config.force_pass)

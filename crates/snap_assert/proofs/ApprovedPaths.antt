@@ -1,10 +1,5 @@
 -- The approved path, beside those of what waits for it.
-use Rattle.std.proofs.Common.{◌≡◌, ℕ, Bool, false, cond, ◌||◌, ◌&&◌, List, [], ◌∷◌, ◌++◌, None, refl, ap, ◌∙◌, eq-eqb, codes}
-use Rattle.std.specs.Str.{bytes_eq}
-use Rattle.snap_path.specs.Names.{past_mark}
-use Rattle.snap_assert.specs.Kept.{is_written, may_change}
-use Rattle.snap_assert.specs.Steps.{is_slashless, is_stray, pending_path}
-use Rattle.snap_settings.specs.declared.config.Update.TheVariants.{InPlace, NewFile, NoUpdate}
+use Rattle.snap_assert.proofs.Prelude.{◌≡◌, ℕ, Bool, false, cond, ◌||◌, ◌&&◌, List, [], ◌∷◌, ◌++◌, None, refl, ap, ◌∙◌, eq-eqb, codes, bytes_eq, past_mark, is_written, may_change, is_slashless, is_stray, pending_path, InPlace, NewFile, NoUpdate}
 
 shorter : (path : List ℕ) (c : ℕ) (cs : List ℕ) → bytes_eq path (path ++ c ∷ cs) ≡ false
 shorter [] c cs = refl

@@ -1,18 +1,10 @@
 -- What the crates below prove of printed texts and of files.
-use Rattle.std.proofs.Common.{◌≡◌, ℕ, List, [], ◌∷◌, ◌++◌, refl, sym, ap, subst, codes, append_assoc}
-use Rattle.std.specs.List.{flat_map}
-use Rattle.snap_content.specs.Plain.{Plain}
-use Rattle.snap_content.specs.Lines.{text_of, document_of, lines_of, ended}
+use Rattle.snap_assert.proofs.Prelude.{◌≡◌, ℕ, List, [], ◌∷◌, ◌++◌, refl, sym, ap, subst, codes, append_assoc, flat_map, Plain, text_of, document_of, lines_of, ended, IsWithin, normal, unreturned, legacy, FallsInto, file_of}
 use Rattle.snap_content.specs.Printed.{AreLines}
-use Rattle.snap_content.specs.Readable.{IsWithin}
 use Rattle.snap_print.proofs.LineFacts.{printed_lines}
-use Rattle.snap_text.specs.Normal.{normal, unreturned}
-use Rattle.snap_text.specs.Legacy.{legacy}
 use Rattle.snap_text.proofs.NormalForms.{normal-lines}
 use Rattle.snap_text.proofs.OlderForms.{legacy-lines}
 use Rattle.snap_text.proofs.Trimming.{trimmed-push}
-use Rattle.snap_store.specs.FileSplit.{FallsInto}
-use Rattle.snap_store.specs.Image.{file_of}
 use Rattle.snap_store.proofs.Splitting.{has_line, file-split}
 
 -- a printed text is its own normal form, but for the end of its last line

@@ -1,18 +1,7 @@
 -- What open blocks do to an assertion.
-use Rattle.std.proofs.Common.{◌≡◌, ℕ, Bool, cond, List, [], ◌∷◌, Option, None, Some, refl, ap, ◌∙◌}
+use Rattle.snap_assert.proofs.Prelude.{◌≡◌, ℕ, Bool, cond, List, [], ◌∷◌, Option, None, Some, refl, ap, ◌∙◌, false_from_ne_true, bytes_eq-Decides, some_same, Files, legacy_of, Agree, SnapshotContents, Text, Binary, Assertion, Left, asked_in, key_in, new_contents, goes_on, is_refused, in_block, by_blocks, assertion_step, SessionView, Update}
 use Rattle.std.specs.Bool.{Decides}
-use Rattle.std.proofs.lemmas.Bool.{false_from_ne_true}
-use Rattle.std.proofs.lemmas.Slice.Eq.{bytes_eq-Decides}
-use Rattle.snap_content.proofs.Booleans.{some_same}
-use Rattle.snap_outside.specs.Files.{Files}
-use Rattle.snap_text.specs.Contents.{legacy_of}
-use Rattle.snap_store.specs.Agreement.{Agree}
-use Rattle.snap_store.specs.declared.contents.SnapshotContents.{SnapshotContents}
-use Rattle.snap_store.specs.declared.contents.SnapshotContents.TheVariants.{Text, Binary}
-use Rattle.snap_assert.specs.Assertions.{Assertion, Left, asked_in, key_in, new_contents, goes_on, is_refused, in_block, by_blocks, assertion_step}
 use Rattle.snap_assert.specs.Blocks.{Block, kept_for, same_payload, do_agree}
-use Rattle.snap_assert.specs.Session.{SessionView}
-use Rattle.snap_settings.specs.declared.config.Update.{Update}
 
 payloads : (a b : Option (List ℕ)) → Decides (same_payload a b) (a ≡ b)
 payloads None None = (λ e. refl, λ h. refl)

@@ -1,30 +1,10 @@
 -- What a reading of a file says of a pass.
-use Rattle.std.proofs.Common.{◌≡◌, ◌↔◌, inl, inr, ◌||◌, ◌&&◌, IsTrue, ℕ, Bool, true, false, cond, List, Option, None, Some, refl, sym, ap, ◌∙◌, subst, codes}
+use Rattle.snap_assert.proofs.Prelude.{◌≡◌, ◌↔◌, inl, inr, ◌||◌, ◌&&◌, IsTrue, ℕ, Bool, true, false, cond, List, Option, None, Some, refl, sym, ap, ◌∙◌, subst, codes, Plain, dict, Entries, entry, no_entries, text_of, Error, FailedParsingYaml, UnexpectedDataType, MissingField, FileIo, FloatText, JsonKey, NotText, NoFile, OutOfMemory, raw_of, kind_of, compared_as, legacy_as, TextSnapshotKind, File, legacy, Agree, is_headed, body_of, Meta, IsTextFile, HasHeader, HoldsBody, IsReadAs, IsRefused, Tells, meta_in, contents_in, legacy_in, text_in, IsFileText, SnapshotContents, Text, Binary, SnapshotKind, Snapshot, BodyAgrees, HasCanonicalHeader, HasBinaryHeader, IsLegacyFile, IsUnread, says_binary, May, some_same, false_from_ne_true, or_right}
 use Rattle.snap_content.specs.Plain as p
-use Rattle.snap_content.specs.Plain.{Plain, dict, Entries, entry, no_entries}
-use Rattle.snap_content.specs.Lines.{text_of}
-use Rattle.snap_content.specs.declared.error.Error.{Error}
-use Rattle.snap_content.specs.declared.error.Error.TheVariants.{FailedParsingYaml, UnexpectedDataType, MissingField, FileIo, FloatText, JsonKey, NotText, NoFile, OutOfMemory}
-use Rattle.snap_text.specs.Contents.{raw_of, kind_of, compared_as, legacy_as}
-use Rattle.snap_text.specs.declared.contents.TextSnapshotKind.{TextSnapshotKind}
-use Rattle.snap_text.specs.declared.contents.TextSnapshotKind.TheVariants.{File}
-use Rattle.snap_text.specs.Legacy.{legacy}
-use Rattle.snap_store.specs.Agreement.{Agree}
 use Rattle.snap_store.specs.Fields.{is_named, is_text, is_binary, kind_in, binary_kind, last_value, later_or, text_value}
-use Rattle.snap_store.specs.FileSplit.{is_headed, body_of}
-use Rattle.snap_store.specs.Meta.{Meta}
-use Rattle.snap_store.specs.Reading.{IsTextFile, HasHeader, HoldsBody, IsReadAs, IsRefused, Tells}
-use Rattle.snap_store.specs.Views.{meta_in, contents_in, legacy_in, text_in, IsFileText}
-use Rattle.snap_store.specs.declared.contents.SnapshotContents.{SnapshotContents}
-use Rattle.snap_store.specs.declared.contents.SnapshotContents.TheVariants.{Text, Binary}
-use Rattle.snap_store.specs.declared.metadata.SnapshotKind.{SnapshotKind}
 use Rattle.snap_store.specs.declared.metadata.SnapshotKind.TheVariants as kind
-use Rattle.snap_store.specs.declared.snapshot.Snapshot.{Snapshot}
-use Rattle.snap_assert.specs.Judging.{BodyAgrees, HasCanonicalHeader, HasBinaryHeader, IsLegacyFile, IsUnread, says_binary, May}
 use Rattle.snap_assert.proofs.Readings.{one_text, no_text_file, text_or_none, one_reading, headed_or_not, entries_same}
 use Rattle.snap_assert.proofs.Saved.{against_saved}
-use Rattle.snap_content.proofs.Booleans.{some_same}
-use Rattle.std.proofs.lemmas.Bool.{false_from_ne_true}
 
 -- a pass that is decided by three facts and three refusals
 pub judged : (passed : Bool) (file : Option (List ℕ)) (tree : Plain) → (file ≡ None → passed ≡ false)
@@ -51,11 +31,6 @@ no_file file tree none = no_pass file tree (λ h. no_text_file file h.whole none
 -- no file with a header is one of the oldest format
 has_header : (file : Option (List ℕ)) (text : List ℕ) → IsTextFile file text → is_headed text ≡ true → IsLegacyFile file → ⊥
 has_header file text there headed h = headed_or_not file text h.whole there h.there headed h.unheaded
-
--- where the header reads as binary, one of its pairs says so
-pub or_right : (a b : Bool) → b ≡ true → (a || b) ≡ true
-or_right true b h = refl
-or_right false b h = h
 
 named_binary : (value : Plain) → is_text (codes "binary") (text_value (Some value)) ≡ is_named (codes "binary") value
 named_binary p.null = refl

@@ -1,18 +1,7 @@
 -- What one change of the files keeps, and what several keep.
-use Rattle.std.proofs.Common.{◌≡◌, inl, inr, ◌<◌, ◌+◌, ℕ, Bool, true, false, not, cond, List, [], ◌∷◌, ◌++◌, length, take, drop, get_or, Option, None, Some, refl, sym, ◌∙◌, ap, subst}
-use Rattle.std.proofs.lemmas.List.{take_more, take-append-drop}
+use Rattle.snap_assert.proofs.Prelude.{◌≡◌, inl, inr, ◌<◌, ◌+◌, ℕ, Bool, true, false, not, cond, List, [], ◌∷◌, ◌++◌, length, take, drop, get_or, Option, None, Some, refl, sym, ◌∙◌, ap, subst, take_more, take-append-drop, get, insert, remove, list_any, bytes_eq, or_left, some_same, Files, SameBut, MayBeGone, Keeps, IsKeptOrGone, is_none, is_written, is_waiting, may_change, remove_each, is_among, Asked, is_stray, pending_path, cleared, written, passed_files, step, AllStray, Update, InPlace, NewFile, NoUpdate}
 use Rattle.std.proofs.lemmas.List.Folds.{list_any-append}
-use Rattle.std.specs.FinMap.{get, insert, remove}
-use Rattle.std.specs.List.{list_any}
-use Rattle.std.specs.Str.{bytes_eq}
-use Rattle.snap_content.proofs.Booleans.{or_left, or_right, some_same}
-use Rattle.snap_outside.specs.Files.{Files, SameBut, MayBeGone}
-use Rattle.snap_assert.specs.Kept.{Keeps, IsKeptOrGone, is_none, is_written, is_waiting, may_change}
-use Rattle.snap_assert.specs.Removed.{remove_each, is_among}
-use Rattle.snap_assert.specs.Steps.{Asked, is_stray, pending_path, cleared, written, passed_files, step}
-use Rattle.snap_assert.specs.Strays.{AllStray}
-use Rattle.snap_settings.specs.declared.config.Update.{Update}
-use Rattle.snap_settings.specs.declared.config.Update.TheVariants.{InPlace, NewFile, NoUpdate}
+use Rattle.snap_content.proofs.Booleans.{or_right}
 use Rattle.snap_assert.proofs.Removals.{differs, insert_far, get-removed, get-remove_each, get-cleared}
 
 pub kept_same : (w c : List ℕ → Bool) (m : Files) (now : Option Files) → now ≡ Some m → Keeps w c m now

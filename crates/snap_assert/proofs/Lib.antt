@@ -1,3 +1,4 @@
+mod Prelude
 mod Below
 mod Readings
 mod Saved

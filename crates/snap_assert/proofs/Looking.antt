@@ -1,40 +1,12 @@
 -- What was seen of a file, and of what is asked.
-use Rattle.std.proofs.Common.{◌≡◌, ℕ, Bool, true, false, List, [], ◌∷◌, Option, Some, Result, Ok, Err, refl, sym, ap, ◌∙◌, subst, inl, inr}
-use Rattle.std.specs.Prelude.{IfOk}
-use Rattle.std.specs.FinMap.{get}
+use Rattle.snap_assert.proofs.Prelude.{◌≡◌, ℕ, Bool, true, false, List, [], ◌∷◌, Option, Some, Result, Ok, Err, refl, sym, ap, ◌∙◌, subst, inl, inr, IfOk, get, text_of, Error, FailedParsingYaml, UnexpectedDataType, MissingField, FileIo, FloatText, JsonKey, NotText, NoFile, OutOfMemory, Files, Agree, raw_of, kind_of, compared_as, compared_of, TextSnapshotKind, File, normal, body_of, Meta, IsTextFile, HasUnprintedHeader, IsReadAs, IsReadFrom, IsRefused, HoldsBody, Tells, meta_in, contents_in, legacy_in, number_text_in, text_in, IsFileText, SnapshotContents, Text, Binary, SnapshotKind, Snapshot, May, Asked, AreWarnings, PassWarns, IsHeadedFile, IsNotUnderstood, IsPrepared, IsJudged, TextsMatch, TextsDiffer, OlderAs, NoPass, RefusedEnd, IsCompared, said_if, said, NamesOnly, AssertError, Judged, Prepared, some_same}
 use Rattle.snap_content.specs.List.{items_of}
-use Rattle.snap_content.specs.Lines.{text_of}
-use Rattle.snap_content.specs.declared.error.Error.{Error}
-use Rattle.snap_content.specs.declared.error.Error.TheVariants.{FailedParsingYaml, UnexpectedDataType, MissingField, FileIo, FloatText, JsonKey, NotText, NoFile, OutOfMemory}
-use Rattle.snap_outside.specs.Files.{Files}
-use Rattle.snap_store.specs.Agreement.{Agree}
-use Rattle.snap_text.specs.Contents.{raw_of, kind_of, compared_as, compared_of}
-use Rattle.snap_text.specs.declared.contents.TextSnapshotKind.{TextSnapshotKind}
-use Rattle.snap_text.specs.declared.contents.TextSnapshotKind.TheVariants.{File}
-use Rattle.snap_text.specs.Normal.{normal}
-use Rattle.snap_store.specs.FileSplit.{body_of}
-use Rattle.snap_store.specs.Meta.{Meta}
-use Rattle.snap_store.specs.Reading.{IsTextFile, HasUnprintedHeader, IsReadAs, IsReadFrom, IsRefused, HoldsBody, Tells}
-use Rattle.snap_store.specs.Views.{meta_in, contents_in, legacy_in, number_text_in, text_in, IsFileText}
-use Rattle.snap_store.specs.declared.contents.SnapshotContents.{SnapshotContents}
-use Rattle.snap_store.specs.declared.contents.SnapshotContents.TheVariants.{Text, Binary}
-use Rattle.snap_store.specs.declared.metadata.SnapshotKind.{SnapshotKind}
 use Rattle.snap_store.specs.declared.metadata.SnapshotKind.TheVariants as kind
-use Rattle.snap_store.specs.declared.snapshot.Snapshot.{Snapshot}
-use Rattle.snap_assert.specs.Judging.{May}
-use Rattle.snap_assert.specs.Steps.{Asked}
-use Rattle.snap_assert.specs.Outcomes.{AreWarnings, PassWarns, IsHeadedFile, IsNotUnderstood}
-use Rattle.snap_assert.specs.Prepared.{IsPrepared, IsJudged, TextsMatch, TextsDiffer, OlderAs, NoPass, RefusedEnd, IsCompared, said_if, said}
-use Rattle.snap_assert.specs.Kept.{NamesOnly}
-use Rattle.snap_assert.specs.declared.error.AssertError.{AssertError}
 use Rattle.snap_assert.specs.declared.error.AssertError.TheVariants as stop
-use Rattle.snap_assert.specs.declared.look.Judged.{Judged}
 use Rattle.snap_assert.specs.declared.outcome.Warning.{Warning}
 use Rattle.snap_assert.specs.declared.outcome.Warning.TheVariants.{Unreadable, LegacyContents}
-use Rattle.snap_assert.specs.declared.prepare.Prepared.{Prepared}
 use Rattle.snap_assert.proofs.Judgements.{read_judged, refused_no_pass}
 use Rattle.snap_assert.proofs.Readings.{one_text, headed_or_not}
-use Rattle.snap_content.proofs.Booleans.{some_same}
 
 no_warning : (path : List ℕ) (file : Option (List ℕ)) (passed : Bool) (printed : List ℕ) (ws : List Warning) → ws ≡ [] → AreWarnings path file passed printed [] → AreWarnings path file passed printed ws
 no_warning path file passed printed ws none h = let P : List Warning → Type 0 = λ w. AreWarnings path file passed printed w in subst P (sym none) h

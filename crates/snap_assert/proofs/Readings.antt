@@ -1,10 +1,5 @@
 -- One file is read in one way.
-use Rattle.std.proofs.Common.{◌≡◌, ℕ, true, false, List, Option, None, sym, ap, ◌∙◌, subst}
-use Rattle.std.specs.Str.{chars, IsUtf8}
-use Rattle.snap_content.specs.Plain.{Plain, dict, Entries}
-use Rattle.snap_store.specs.FileSplit.{is_headed, header_of}
-use Rattle.snap_store.specs.Reading.{IsTextFile, HasHeader, ReadsHeader, IsNoText}
-use Rattle.snap_content.proofs.Booleans.{some_same}
+use Rattle.snap_assert.proofs.Prelude.{◌≡◌, ℕ, true, false, List, Option, None, sym, ap, ◌∙◌, subst, chars, IsUtf8, Plain, dict, Entries, is_headed, header_of, IsTextFile, HasHeader, ReadsHeader, IsNoText, some_same}
 
 pub one_text : (file : Option (List ℕ)) (a b : List ℕ) → IsTextFile file a → IsTextFile file b → a ≡ b
 one_text file a b p q =

@@ -1,17 +1,7 @@
 -- Files removed one by one, and all at once.
-use Rattle.std.proofs.Common.{◌≡◌, ◌≢◌, ℕ, ◌+◌, ◌<◌, ◌≤◌, Bool, true, false, not, cond, ◌||◌, ◌&&◌, List, [], ◌∷◌, ◌++◌, length, take, get_or, Option, None, Some, refl, sym, ◌∙◌, ap}
-use Rattle.std.specs.Prelude.{is_some}
-use Rattle.std.proofs.lemmas.List.{take_more, take_all}
-use Rattle.std.proofs.lemmas.Slice.Eq.{bytes_eq-Decides}
+use Rattle.snap_assert.proofs.Prelude.{◌≡◌, ◌≢◌, ℕ, ◌+◌, ◌<◌, ◌≤◌, Bool, true, false, not, cond, ◌||◌, ◌&&◌, List, [], ◌∷◌, ◌++◌, length, take, get_or, Option, None, Some, refl, sym, ◌∙◌, ap, is_some, take_more, take_all, bytes_eq-Decides, bytes_eq, list_any, get, insert, remove, get-insert, get-remove, get-retain_keys, same_map, slice_cmp-IsAntisymmetric, nat_cmp-IsAntisymmetric, Files, remove_each, is_stray, cleared, AreStrays}
 use Rattle.std.proofs.lemmas.Cmp.{nat_list_cmp_total}
 use Rattle.std.proofs.lemmas.Map.Text.{is_eq-slice_cmp}
-use Rattle.std.specs.Str.{bytes_eq}
-use Rattle.std.specs.List.{list_any}
-use Rattle.std.specs.FinMap.{get, insert, remove, get-insert, get-remove, get-retain_keys, same_map, slice_cmp-IsAntisymmetric, nat_cmp-IsAntisymmetric}
-use Rattle.snap_outside.specs.Files.{Files}
-use Rattle.snap_assert.specs.Removed.{remove_each}
-use Rattle.snap_assert.specs.Steps.{is_stray, cleared}
-use Rattle.snap_assert.specs.Strays.{AreStrays}
 
 remove_each-push : (ps : List (List ℕ)) (p : List ℕ) (m : Files) → remove_each (ps ++ p ∷ []) m ≡ remove (remove_each ps m) p
 remove_each-push [] p m = refl

@@ -1,14 +1,6 @@
 -- A tree against a file that was saved for another.
-use Rattle.std.proofs.Common.{◌≡◌, ◌↔◌, ℕ, Bool, true, List, [], ◌∷◌, ◌++◌, Option, sym, ap, ◌∙◌}
-use Rattle.snap_content.specs.Plain.{Plain, dict}
-use Rattle.snap_content.specs.Lines.{text_of}
-use Rattle.snap_content.specs.Readable.{IsWithin}
+use Rattle.snap_assert.proofs.Prelude.{◌≡◌, ◌↔◌, ℕ, Bool, true, List, [], ◌∷◌, ◌++◌, Option, sym, ap, ◌∙◌, Plain, dict, text_of, IsWithin, without_breaks, without_fence, legacy, normal, body_of, file_of, BodyAgrees, HasCanonicalHeader, IsSavedFor}
 use Rattle.snap_emit.proofs.OneText.{texts_same}
-use Rattle.snap_text.specs.Legacy.{without_breaks, without_fence, legacy}
-use Rattle.snap_text.specs.Normal.{normal}
-use Rattle.snap_store.specs.FileSplit.{body_of}
-use Rattle.snap_store.specs.Image.{file_of}
-use Rattle.snap_assert.specs.Judging.{BodyAgrees, HasCanonicalHeader, IsSavedFor}
 use Rattle.snap_assert.proofs.Below.{normal-text_of, legacy-text_of, splits-file_of, normal-ended}
 use Rattle.snap_assert.proofs.Readings.{one_text}
 

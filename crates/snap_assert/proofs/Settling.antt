@@ -1,27 +1,6 @@
 -- What an assertion leaves: each step, and what it keeps.
-use Rattle.std.proofs.Common.{◌≡◌, inl, inr, ℕ, Bool, true, false, ◌||◌, List, [], ◌∷◌, ◌++◌, Option, None, Some, Result, Ok, Err, refl, sym, ap, ◌∙◌, subst, codes}
-use Rattle.std.proofs.lemmas.Slice.Eq.{bytes_eq-Decides}
-use Rattle.std.specs.Prelude.{encode_utf8_all, IsSome}
-use Rattle.std.specs.FinMap.{insert, remove}
-use Rattle.std.specs.Str.{bytes_eq}
-use Rattle.snap_content.specs.Plain.{Plain}
-use Rattle.snap_content.specs.Lines.{text_of, document_of}
-use Rattle.snap_text.specs.Normal.{normal}
-use Rattle.snap_outside.specs.Files.{Files, SameBut, MayBeGone}
-use Rattle.snap_path.specs.Paths.{parent_of}
-use Rattle.snap_store.specs.Image.{text_under, saved_text, file_of}
-use Rattle.snap_store.specs.Meta.{Meta, header_tree, without_line}
-use Rattle.snap_store.specs.Views.{meta_in, contents_in, text_in}
-use Rattle.snap_assert.specs.Kept.{Keeps, KeptBy, IsWrittenAlone, IsTakenAlone, IsOwn, FaultIsOwn, FaultIsAt, NamesOwn, NamesOnly, is_none, is_written, is_waiting, may_change}
-use Rattle.snap_assert.specs.Steps.{Asked, written, cleared, passed_files, is_stray, pending_path}
-use Rattle.snap_assert.specs.Strays.{AreStrays, AllStray}
-use Rattle.snap_assert.specs.Removed.{remove_each, is_among, FaultIsAmong}
-use Rattle.snap_assert.specs.Prepared.{IsPrepared}
-use Rattle.snap_settings.specs.declared.config.Update.{Update}
-use Rattle.snap_settings.specs.declared.config.Update.TheVariants.{InPlace, NewFile}
-use Rattle.snap_assert.specs.declared.error.AssertError.{AssertError}
+use Rattle.snap_assert.proofs.Prelude.{◌≡◌, inl, inr, ℕ, Bool, true, false, ◌||◌, List, [], ◌∷◌, ◌++◌, Option, None, Some, Result, Ok, Err, refl, sym, ap, ◌∙◌, subst, codes, bytes_eq-Decides, encode_utf8_all, IsSome, insert, remove, bytes_eq, Plain, text_of, document_of, normal, Files, SameBut, MayBeGone, text_under, saved_text, file_of, Meta, header_tree, without_line, meta_in, contents_in, text_in, Keeps, KeptBy, IsWrittenAlone, IsTakenAlone, IsOwn, FaultIsOwn, FaultIsAt, NamesOwn, NamesOnly, is_none, is_written, is_waiting, may_change, Asked, written, cleared, passed_files, is_stray, pending_path, AreStrays, AllStray, remove_each, is_among, FaultIsAmong, IsPrepared, Update, InPlace, NewFile, AssertError, Prepared, or_right}
 use Rattle.snap_assert.specs.declared.error.AssertError.TheVariants as refusal
-use Rattle.snap_assert.specs.declared.prepare.Prepared.{Prepared}
 use Rattle.snap_assert.proofs.Below.{normal-lines_of}
 use Rattle.snap_assert.proofs.Keeping.{kept_same, kept_then, kept_but, kept_written, kept_gone, kept_in_place, kept_beside, kept_pending, kept_strays}
 use Rattle.snap_assert.proofs.Removals.{strays_gone}
@@ -95,16 +74,12 @@ is_itself q = (bytes_eq-Decides q q).1 refl
 or_first : (a b : Bool) → a ≡ true → (a || b) ≡ true
 or_first a b h = ap (λ x. x || b) h
 
-or_second : (a b : Bool) → b ≡ true → (a || b) ≡ true
-or_second true b h = refl
-or_second false b h = h
-
 pub own_pending : (mode : Update) (path : List ℕ) → IsOwn mode path (pending_path path)
-own_pending mode path = inr (inr (or_second (is_written mode path (pending_path path)) (is_waiting path (pending_path path))
+own_pending mode path = inr (inr (or_right (is_written mode path (pending_path path)) (is_waiting path (pending_path path))
     (or_first (bytes_eq (pending_path path) (pending_path path)) (is_stray path (pending_path path)) (is_itself (pending_path path)))))
 
 own_stray : (mode : Update) (path q : List ℕ) → is_stray path q ≡ true → IsOwn mode path q
-own_stray mode path q h = inr (inr (or_second (is_written mode path q) (is_waiting path q) (or_second (bytes_eq q (pending_path path)) (is_stray path q) h)))
+own_stray mode path q h = inr (inr (or_right (is_written mode path q) (is_waiting path q) (or_right (bytes_eq q (pending_path path)) (is_stray path q) h)))
 
 -- a fault of a step names one of the assertion's own paths
 pub own_strays : (mode : Update) (path : List ℕ) (strays : List (List ℕ)) (error : AssertError) → AllStray path strays → FaultIsAmong strays error → FaultIsOwn mode path error
@@ -132,9 +107,6 @@ own_only mode path q refusal.JsonKey own h = tt
 pub own_path : (mode : Update) (path : List ℕ) (error : AssertError) → FaultIsAt path error → FaultIsOwn mode path error
 own_path mode path error h = own_only mode path path error (inl refl) h
 
-pub own_folder : (mode : Update) (path folder : List ℕ) → folder ≡ parent_of path → IsOwn mode path folder
-own_folder mode path folder is = inr (inl is)
-
 pub own_wait : (mode : Update) (path pending : List ℕ) (error : AssertError) → pending ≡ pending_path path → FaultIsAt pending error → FaultIsOwn mode path error
 own_wait mode path pending error is h = own_only mode path pending error (subst (IsOwn mode path) (sym is) (own_pending mode path)) h
 
@@ -157,9 +129,6 @@ saved_alone path None files files' bytes some saved m told = absurd (cc some)
 
 pub stopped_alone : (path : List ℕ) (files files' : Option Files) → ((m : Files) → files ≡ Some m → SameBut path m files') → IsWrittenAlone path files files'
 stopped_alone path files files' stopped m told = kept_but path m files' (stopped m told)
-
-pub unwritten_alone : (path : List ℕ) (files files' : Option Files) → files' ≡ files → IsWrittenAlone path files files'
-unwritten_alone path files files' same m told = kept_same (λ q. bytes_eq q path) (λ q. bytes_eq q path) m files' (same ∙ told)
 
 pub removed_alone : (path : List ℕ) (files files' : Option Files) → ((m : Files) → files ≡ Some m → files' ≡ Some (remove m path)) → IsTakenAlone path files files'
 removed_alone path files files' removed m told = kept_gone path m files' (inr (removed m told))

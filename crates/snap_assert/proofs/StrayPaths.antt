@@ -1,25 +1,14 @@
 -- Which paths are left behind by payloads.
-use Rattle.std.proofs.Common.{◌≡◌, ◌==◌, ◌||◌, ◌&&◌, ◌≤◌, ℕ, Bool, true, false, not, cond, List, [], ◌∷◌, ◌++◌, map, length, Option, None, Some, refl, sym, ap, ◌∙◌, subst, append_assoc, eq-eqb, codes, arith, length-append, IsPermutation}
+use Rattle.snap_assert.proofs.Prelude.{◌≡◌, ◌==◌, ◌||◌, ◌&&◌, ◌≤◌, ℕ, Bool, true, false, not, cond, List, [], ◌∷◌, ◌++◌, map, length, Option, None, Some, refl, sym, ap, ◌∙◌, subst, append_assoc, eq-eqb, codes, arith, length-append, IsPermutation, is_some, IsSome, list_any, filter, All, bytes_eq, chars, IsUtf8, get, bytes_eq-Decides, past_mark, joined, parent_of, front_of, name_of, IsName, Files, holds_slash, stray_front, is_slashless, is_stray, AreStrays, AllStray, not_true}
 use Rattle.std.proofs.lemmas.Str.{encodes-chars, encodes-append, length-le-encodes}
-use Rattle.std.specs.Prelude.{is_some, IsSome}
-use Rattle.std.specs.List.{list_any, filter, All}
 use Rattle.std.proofs.lemmas.List.Sorted.{list_any-IsPermutation}
-use Rattle.std.specs.Str.{bytes_eq, chars, encode_utf8_all, IsUtf8}
-use Rattle.std.specs.FinMap.{get}
+use Rattle.std.specs.Str.{encode_utf8_all}
 use Rattle.std.proofs.lemmas.List.Elements.{All-head, All-tail}
 use Rattle.std.proofs.lemmas.Map.Views.{any-filter_same}
-use Rattle.std.proofs.lemmas.Slice.Eq.{bytes_eq-Decides}
-use Rattle.snap_path.specs.Names.{past_mark}
 use Rattle.snap_path.proofs.Cuts.{past_mark-is}
-use Rattle.snap_path.specs.Paths.{joined, parent_of, front_of, name_of, IsName}
 use Rattle.snap_path.proofs.Joining.{joined-name, parted, name_of-name, name-longer}
-use Rattle.snap_outside.specs.Files.{Files}
 use Rattle.snap_outside.specs.Listed.{AreNames}
-use Rattle.snap_place.specs.Place.{holds_slash}
-use Rattle.snap_assert.specs.Steps.{stray_front, is_slashless, is_stray}
 use Rattle.snap_place.specs.SnapshotPath.{IsFilePath}
-use Rattle.snap_assert.specs.Strays.{AreStrays, AllStray}
-use Rattle.snap_content.proofs.Booleans.{not_true}
 
 -- what follows one mark and then another
 abbrev pub then_past : List ℕ → Option (List ℕ) → Option (List ℕ)

@@ -1,16 +1,8 @@
 -- Lines of a block scalar, one character or one line further.
-use Rattle.std.proofs.Common.{◌≡◌, ◌==◌, ◌||◌, ◌&&◌, nat_lt, not, ℕ, List, [], ◌∷◌, ◌++◌, Bool, true, false, slice_index, refl, sym, ap, ◌∙◌, subst, arith, Option, None}
-use Rattle.snap_content.proofs.Booleans.{or_left, or_right, not_true}
-use Rattle.snap_token.specs.declared.characters.Kind.TheVariants.{InLine}
-use Rattle.snap_token.specs.Characters.{is_blank, is_break, is_pair, is_break_or_end, is_of, past_break}
+use Rattle.snap_block.proofs.Prelude.{◌≡◌, ◌==◌, ◌||◌, ◌&&◌, nat_lt, not, ℕ, List, [], ◌∷◌, ◌++◌, Bool, true, false, slice_index, refl, sym, ap, ◌∙◌, subst, arith, Option, None, or_left, or_right, not_true, both_second, InLine, is_blank, is_break, is_pair, is_break_or_end, is_of, past_break, Place, skipped, passed, skipped_while, Lines, with_empty, with_line, with_character, ended, joined, Read, between, within, stop, opened, is_open}
 use Rattle.snap_token.specs.Pieces.{before}
-use Rattle.snap_token.specs.Place.{Place, skipped, passed, skipped_while}
-use Rattle.snap_token.proofs.Folds.{second-of-both, regroup, no-more}
+use Rattle.snap_token.proofs.Folds.{regroup, no-more}
 use Rattle.snap_token.proofs.Pieces.{passed-ends}
-use Rattle.snap_block.specs.declared.lines.Lines.{Lines}
-use Rattle.snap_block.specs.Lines.{with_empty, with_line, with_character, ended, joined}
-use Rattle.snap_block.specs.Block.{Read, between, within, stop, opened}
-use Rattle.snap_block.specs.Steps.{is_open}
 
 abbrev pub placed : List ℕ → ℕ → ℕ → ℕ → Place
 placed cs i k j = record { left = cs; index = i; line = k; col = j }
@@ -73,9 +65,9 @@ break-at n b l c cs i k j false apart broken =
     let space : (c == 32) ≡ false = break-sign c 32 refl refl broken in
     let tab : (c == 9) ≡ false = break-sign c 9 refl refl broken in
     rw (space, tab, broken, apart) refl
-break-at n b l c [] i k j true pair broken = absurd (let e : (0 == 10) ≡ true = second-of-both (c == 13) (0 == 10) pair in cc)
+break-at n b l c [] i k j true pair broken = absurd (let e : (0 == 10) ≡ true = both_second (c == 13) (0 == 10) pair in cc)
 break-at n b l c (d ∷ ds) i k j true pair broken =
-    let e : d ≡ 10 = let f : (d == 10) ≡ true = second-of-both (c == 13) (d == 10) pair in grind arith in
+    let e : d ≡ 10 = let f : (d == 10) ≡ true = both_second (c == 13) (d == 10) pair in grind arith in
     let space : (c == 32) ≡ false = break-sign c 32 refl refl broken in
     let tab : (c == 9) ≡ false = break-sign c 9 refl refl broken in
     let other-space : (d == 32) ≡ false = rw e refl in
@@ -99,9 +91,9 @@ between-break n b l p q broken next =
 opened-break-at : (n c : ℕ) (cs : List ℕ) (i k j : ℕ) (pair : Bool) → is_pair c (slice_index cs 0) ≡ pair → is_break c ≡ true
     → opened_at n (past_break (placed (c ∷ cs) i k j)) ≡ opened_at n (placed (c ∷ cs) i k j)
 opened-break-at n c cs i k j false apart broken = rw (broken, apart) refl
-opened-break-at n c [] i k j true pair broken = absurd (let e : (0 == 10) ≡ true = second-of-both (c == 13) (0 == 10) pair in cc)
+opened-break-at n c [] i k j true pair broken = absurd (let e : (0 == 10) ≡ true = both_second (c == 13) (0 == 10) pair in cc)
 opened-break-at n c (d ∷ ds) i k j true pair broken =
-    let e : d ≡ 10 = let f : (d == 10) ≡ true = second-of-both (c == 13) (d == 10) pair in grind arith in
+    let e : d ≡ 10 = let f : (d == 10) ≡ true = both_second (c == 13) (d == 10) pair in grind arith in
     let other : is_break d ≡ true = rw e refl in
     rw (broken, pair, other) refl
 
@@ -238,9 +230,9 @@ line-break-at : (n : ℕ) (b : Bool) (l : Lines) (c : ℕ) (cs : List ℕ) (i k 
 line-break-at n b l c cs i k j false apart broken =
     let nul : (c == 0) ≡ false = break-sign c 0 refl refl broken in
     rw (nul, broken, apart) refl
-line-break-at n b l c [] i k j true pair broken = absurd (let e : (0 == 10) ≡ true = second-of-both (c == 13) (0 == 10) pair in cc)
+line-break-at n b l c [] i k j true pair broken = absurd (let e : (0 == 10) ≡ true = both_second (c == 13) (0 == 10) pair in cc)
 line-break-at n b l c (d ∷ ds) i k j true pair broken =
-    let e : d ≡ 10 = let f : (d == 10) ≡ true = second-of-both (c == 13) (d == 10) pair in grind arith in
+    let e : d ≡ 10 = let f : (d == 10) ≡ true = both_second (c == 13) (d == 10) pair in grind arith in
     let nul : (c == 0) ≡ false = break-sign c 0 refl refl broken in
     let other-nul : (d == 0) ≡ false = rw e refl in
     let other : is_break d ≡ true = rw e refl in

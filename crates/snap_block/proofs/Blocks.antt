@@ -1,27 +1,12 @@
 -- A block scalar from what its parts read.
-use Rattle.std.proofs.Common.{◌≡◌, ℕ, List, [], Bool, true, false, refl, sym, ap, ◌∙◌, subst, Option, Some, None, Ok, Err}
-use Rattle.snap_block.specs.declared.block_scalar.BlockScalar.{BlockScalar}
+use Rattle.snap_block.proofs.Prelude.{◌≡◌, ℕ, List, [], Bool, true, false, refl, sym, ap, ◌∙◌, subst, Option, Some, None, Ok, Err, BlockScalar, Lines, Block, Read, between, opened, lines_from, indentation_of, is_bad_tab, content_of, block_of, block_behind, ReadsBlock, Headed, ReadsHeader, no_lines, with_breaks, chomped, Passes, is_open, IsRefusedOpening, ReadsLines, ScanError, OutOfMemory, Syntax, Mark, Place, mark_of}
 use Rattle.snap_block.specs.declared.header.Header.{Header}
-use Rattle.snap_block.specs.declared.lines.Lines.{Lines}
-use Rattle.snap_block.specs.Block.{Block, Read, between, opened, lines_from, indentation_of, is_bad_tab, content_of, block_of, block_behind, ReadsBlock}
-use Rattle.snap_block.specs.Header.{Headed, ReadsHeader}
-use Rattle.snap_block.specs.Lines.{no_lines, with_breaks, chomped}
-use Rattle.snap_block.specs.Steps.{Passes, is_open, IsRefusedOpening, ReadsLines}
 use Rattle.snap_block.proofs.Between.{opened-stop}
-use Rattle.snap_token.specs.declared.info.ScanError.{ScanError}
-use Rattle.snap_token.specs.declared.info.ScanError.TheVariants.{OutOfMemory, Syntax}
-use Rattle.snap_token.specs.Mark.{Mark}
-use Rattle.snap_token.specs.Place.{Place, mark_of}
 
 -- want of memory is an answer to any text
 pub no-memory : (o : Option Block) (p : Place) (e : ScanError) → e ≡ OutOfMemory → ReadsBlock o (Err e) p
 no-memory None p e is = tt
 no-memory (Some b) p e is = is
-
--- the header is refused
-pub refused-header : (indent : Option ℕ) (literal : Bool) (o : Option Headed) (p : Place) (e : ScanError) → ReadsHeader o (Err e) p → ReadsBlock (block_behind indent literal o) (Err e) p
-refused-header indent literal None p e refused = tt
-refused-header indent literal (Some h) p e refused = absurd refused
 
 -- what was read of the header
 header-is : (o : Option Headed) (header : Header) (p : Place) → ReadsHeader o (Ok header) p → o ≡ Some (record { header = header; place = p })
@@ -30,10 +15,6 @@ header-is (Some h) header p reads =
     let f : Header → Option Headed = λ x. Some (record { header = x; place = p }) in
     let g : Place → Option Headed = λ x. Some (record { header = h.header; place = x }) in
     sym (ap f reads.0 ∙ ap g reads.1)
-
-refused-lines-so : (T : Type 0) (header : Header) (mark : Mark) (o : Option Read) (p : Place) (e : ScanError) (lines : Lines) → ReadsLines {T = T} o (Err e) lines p → ReadsBlock (block_of header mark o) (Err e) p
-refused-lines-so T header mark None p e lines refused = tt
-refused-lines-so T header mark (Some r) p e lines refused = refused
 
 refused-opening-so : (indent : Option ℕ) (literal : Bool) (header : Header) (p q : Place) (e : ScanError) → IsRefusedOpening header.indentation indent [] p e
     → ReadsBlock (block_behind indent literal (Some (record { header = header; place = p }))) (Err e) q
@@ -68,17 +49,6 @@ mark-is indent header p n breaks q b =
     let f : Place → Mark = λ x. mark_of x in
     let g : ℕ → Place = λ m. opened m p.left p in
     ap f (sym (opened-stop n q b.stands) ∙ b.passed.1 ∙ ap g b.indentation)
-
--- the lines are refused
-pub refused-lines : (T : Type 0) (indent : Option ℕ) (literal : Bool) (o : Option Headed) (header : Header) (p : Place) (n : ℕ) (breaks : List ℕ) (q r : Place) (e : ScanError) (lines : Lines)
-    → ReadsHeader o (Ok header) p → Begun indent header p n breaks q
-    → ReadsLines {T = T} (between n literal (with_breaks breaks no_lines) q.left q) (Err e) lines r → ReadsBlock (block_behind indent literal o) (Err e) r
-refused-lines T indent literal o header p n breaks q r e lines reads b refused =
-    let P : Option Headed → Type 0 = λ x. ReadsBlock (block_behind indent literal x) (Err e) r in
-    let Q : Option Read → Type 0 = λ x. ReadsLines {T = T} x (Err e) lines r in
-    subst P (sym (header-is o header p reads))
-    (refused-lines-so T header (content_of header.indentation indent p) (lines_from header.indentation indent literal no_lines p) r e lines
-    (subst Q (lines-are indent literal header p n breaks q b) refused))
 
 read-so : {T : Type 0} (t : T) (header : Header) (mark : Mark) (o : Option Read) (p : Place) (lines : Lines) (scalar : BlockScalar) → ReadsLines o (Ok t) lines p
     → scalar.text ≡ chomped header.chomping lines → scalar.mark ≡ mark → ReadsBlock (block_of header mark o) (Ok scalar) p

@@ -1,12 +1,6 @@
 -- The first lines of a block scalar whose header gives no indentation.
-use Rattle.std.proofs.Common.{◌≡◌, ◌≤◌, ◌+◌, ◌==◌, max, nat_lt, ℕ, List, [], ◌∷◌, Bool, true, false, slice_index, refl, sym, ap, subst, arith, Option}
-use Rattle.snap_token.specs.declared.characters.Kind.TheVariants.{Space}
-use Rattle.snap_token.specs.Characters.{is_break, is_pair, is_of, past_break}
-use Rattle.snap_token.specs.Place.{Place, passed, skipped_while}
-use Rattle.snap_token.proofs.Folds.{first-of-both, second-of-both}
+use Rattle.snap_block.proofs.Prelude.{◌≡◌, ◌≤◌, ◌+◌, ◌==◌, max, nat_lt, ℕ, List, [], ◌∷◌, Bool, true, false, slice_index, refl, sym, ap, subst, arith, Option, Space, is_break, is_pair, is_of, past_break, Place, passed, skipped_while, Lines, Read, widest, first_sign, both_second, both_first}
 use Rattle.snap_token.proofs.Places.{passed-none}
-use Rattle.snap_block.specs.declared.lines.Lines.{Lines}
-use Rattle.snap_block.specs.Block.{Read, widest, first_sign}
 use Rattle.snap_block.proofs.Between.{placed, between_at, opened_at, break-sign}
 
 abbrev pub widest_at : Place → ℕ
@@ -110,10 +104,10 @@ widest-past c cs i k j false true apart fed broken =
 widest-past c cs i k j false false apart fed broken =
     let space : (c == 32) ≡ false = break-sign c 32 refl refl broken in
     rw (space, broken, apart, fed) refl
-widest-past c [] i k j true feed pair fed broken = absurd (let e : (0 == 10) ≡ true = second-of-both (c == 13) (0 == 10) pair in cc)
+widest-past c [] i k j true feed pair fed broken = absurd (let e : (0 == 10) ≡ true = both_second (c == 13) (0 == 10) pair in cc)
 widest-past c (d ∷ ds) i k j true feed pair fed broken =
-    let e : c ≡ 13 = is-of c 13 (first-of-both (c == 13) (d == 10) pair) in
-    let f : d ≡ 10 = is-of d 10 (second-of-both (c == 13) (d == 10) pair) in
+    let e : c ≡ 13 = is-of c 13 (both_first (c == 13) (d == 10) pair) in
+    let f : d ≡ 10 = is-of d 10 (both_second (c == 13) (d == 10) pair) in
     rw (e, f) (omega arith)
 
 widest-any : (cs : List ℕ) (i k j : ℕ) → is_break (slice_index cs 0) ≡ true → max j (widest_at (past_break (placed cs i k j))) ≡ widest cs j
@@ -131,10 +125,10 @@ first-past : (c : ℕ) (cs : List ℕ) (i k j : ℕ) (pair : Bool) → is_pair c
 first-past c cs i k j false apart broken =
     let space : (c == 32) ≡ false = break-sign c 32 refl refl broken in
     rw (space, broken, apart) refl
-first-past c [] i k j true pair broken = absurd (let e : (0 == 10) ≡ true = second-of-both (c == 13) (0 == 10) pair in cc)
+first-past c [] i k j true pair broken = absurd (let e : (0 == 10) ≡ true = both_second (c == 13) (0 == 10) pair in cc)
 first-past c (d ∷ ds) i k j true pair broken =
-    let e : c ≡ 13 = is-of c 13 (first-of-both (c == 13) (d == 10) pair) in
-    let f : d ≡ 10 = is-of d 10 (second-of-both (c == 13) (d == 10) pair) in
+    let e : c ≡ 13 = is-of c 13 (both_first (c == 13) (d == 10) pair) in
+    let f : d ≡ 10 = is-of d 10 (both_second (c == 13) (d == 10) pair) in
     rw (e, f) refl
 
 first-any : (cs : List ℕ) (i k j : ℕ) → is_break (slice_index cs 0) ≡ true → first_sign (past_break (placed cs i k j)).left ≡ first_sign cs

@@ -1,3 +1,4 @@
+mod Prelude
 pub mod Between
 pub mod Leading
 pub mod Blocks

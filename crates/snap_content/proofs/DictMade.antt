@@ -1,9 +1,7 @@
 -- A map that a reader made is made of a plain map.
-use Rattle.std.proofs.Common.{◌≡◌, ℕ, ◌^◌, ℤ, pos, negsuc, Bool, true, false, cond, nat_lt, List, refl, ap, sym, ◌∙◌}
+use Rattle.snap_content.proofs.Prelude.{◌≡◌, ℕ, ◌^◌, ℤ, pos, negsuc, Bool, true, false, cond, nat_lt, List, refl, ap, sym, ◌∙◌, tree, pair_list, pair_trees, Pairs, Content, Map}
 use Rattle.snap_content.specs.Plain as p
 use Rattle.snap_content.specs.Tree as t
-use Rattle.snap_content.specs.View.{tree, pair_list, pair_trees, Pairs}
-use Rattle.snap_content.specs.declared.content.Content.{Content, Map}
 use Rattle.snap_content.proofs.Views.{tree-Map}
 
 pub record IsDict (plain : p.Plain) (pairs : List (Content × Content)) : Type 0 where

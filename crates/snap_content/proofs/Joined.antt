@@ -1,10 +1,6 @@
 -- Trees in front of others, and what is left of a list behind a place.
-use Rattle.std.proofs.Common.{◌≡◌, ℕ, zero, suc, ◌+◌, ◌<◌, ◌≤◌, List, [], ◌∷◌, ◌++◌, map, get_or, set, take, drop, length, refl, sym, ap, ◌∙◌, arith, add-one, drop-cons}
-use Rattle.std.proofs.lemmas.List.{drop-set-lt}
+use Rattle.snap_content.proofs.Prelude.{◌≡◌, ℕ, zero, suc, ◌+◌, ◌<◌, ◌≤◌, List, [], ◌∷◌, ◌++◌, map, get_or, set, take, drop, length, refl, sym, ap, ◌∙◌, arith, add-one, drop-cons, drop-set-lt, tree, item_trees, pair_tree, pair_trees, field_trees, Content, count, count_items, count_pairs, count_fields}
 use Rattle.snap_content.specs.Tree as t
-use Rattle.snap_content.specs.View.{tree, item_trees, pair_tree, pair_trees, field_trees}
-use Rattle.snap_content.specs.declared.content.Content.{Content}
-use Rattle.snap_content.specs.Count.{count, count_items, count_pairs, count_fields}
 
 abbrev pub joined : List Content → t.Trees → t.Trees
 joined [] more = more

@@ -1,18 +1,7 @@
 -- What a stable sort by keys says of contents, said of their trees.
-use Rattle.std.proofs.Common.{◌≡◌, ◌+◌, ◌<◌, Bool, true, false, cond, not, ◌&&◌, List, [], ◌∷◌, map, filter, get_or, length, refl, sym, ap, ◌∙◌, subst, arith, inl, inr}
-use Rattle.std.specs.Prelude.{◌⊎◌}
-use Rattle.std.proofs.lemmas.List.{length-map, get_or-map}
-use Rattle.std.proofs.lemmas.List.Elements.{filter_agree}
-use Rattle.std.proofs.lemmas.List.Sorted.{IsPermutation-map}
-use Rattle.std.specs.List.Sorted.{IsPermutation, IsSortedBy, IsStableBy, ties}
-use Rattle.std.specs.declared.cmp.Ordering.{Ordering}
-use Rattle.std.specs.declared.cmp.Ordering.TheVariants.{Less, Equal, Greater}
-use Rattle.std.specs.Ordering.{is_lt, ordering_reverse}
-use Rattle.snap_content.specs.View.{pair_tree}
+use Rattle.snap_content.proofs.Prelude.{◌≡◌, ◌+◌, ◌<◌, Bool, true, false, cond, not, ◌&&◌, List, [], ◌∷◌, map, filter, get_or, length, refl, sym, ap, ◌∙◌, subst, arith, inl, inr, ◌⊎◌, length-map, get_or-map, filter_agree, IsPermutation-map, IsPermutation, IsSortedBy, IsStableBy, ties, Ordering, Less, Equal, Greater, is_lt, ordering_reverse, pair_tree, key_total, Entry, InKeyOrder, Content}
 use Rattle.snap_content.specs.Keys.{key_cmp}
-use Rattle.snap_content.specs.KeyLaws.{key_total}
-use Rattle.snap_content.specs.Sorted.{Entry, InKeyOrder}
-use Rattle.snap_content.specs.declared.content.Content.{Content, Unit as no_value}
+use Rattle.snap_content.specs.declared.content.Content.{Unit as no_value}
 
 abbrev pub is_before : Entry → Entry → Bool
 is_before e f = is_lt (key_cmp e.0 f.0)
@@ -38,7 +27,7 @@ filter-map p [] = refl
 filter-map p (x ∷ xs) = filter_cases (p (pair_tree x)) x (filter (λ y. p (pair_tree y)) xs) (filter p (map pair_tree xs)) (filter-map p xs)
 
 -- two entries that tie have keys that the order does not tell apart, so they tie with the same entries
-neither : (r s : Ordering) → r ≡ ordering_reverse s → (not (is_lt r) && not (is_lt s)) ≡ true → r ≡ Equal
+pub neither : (r s : Ordering) → r ≡ ordering_reverse s → (not (is_lt r) && not (is_lt s)) ≡ true → r ≡ Equal
 neither Less s e h = absurd (cc)
 neither Equal s e h = refl
 neither Greater Less e h = absurd (cc)

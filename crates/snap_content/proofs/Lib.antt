@@ -1,3 +1,4 @@
+mod Prelude
 pub mod Views
 pub mod Ascii
 pub mod Ends
@@ -10,7 +11,7 @@ pub mod BeforeRest
 pub mod DictMade
 pub mod Joined
 mod Rearrangements
-mod KeyOrdered
+pub mod KeyOrdered
 mod OneOrder
 mod Settled
 mod Visits

@@ -1,11 +1,6 @@
 -- Lists compare as the lists of the trees that they mean.
-use Rattle.std.proofs.Common.{◌≡◌, ℕ, List, [], ◌∷◌, refl, ap}
-use Rattle.std.specs.Ordering.{ordering_then}
-use Rattle.std.specs.Cmp.Lexicographic.{slice_cmp}
+use Rattle.snap_content.proofs.Prelude.{◌≡◌, ℕ, List, [], ◌∷◌, refl, ap, ordering_then, slice_cmp, text_cmp, trees_cmp, pairs_cmp, fields_cmp, item_trees, pair_trees, field_trees, Content}
 use Rattle.snap_content.specs.Compared.{content_cmp}
-use Rattle.snap_content.specs.Orders.{text_cmp, trees_cmp, pairs_cmp, fields_cmp}
-use Rattle.snap_content.specs.View.{item_trees, pair_trees, field_trees}
-use Rattle.snap_content.specs.declared.content.Content.{Content}
 
 pub items_order : (xs ys : List Content) → slice_cmp content_cmp xs ys ≡ trees_cmp (item_trees xs) (item_trees ys)
 items_order [] [] = refl

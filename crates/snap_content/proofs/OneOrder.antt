@@ -1,14 +1,5 @@
 -- A stable sort by keys has one outcome, and what is sorted is sorted to itself.
-use Rattle.std.proofs.Common.{◌≡◌, ℕ, suc, ◌+◌, ◌<◌, ◌≤◌, Bool, true, false, cond, not, ◌&&◌, List, [], ◌∷◌, filter, get_or, length, refl, sym, ap, ◌∙◌, subst, arith, add-one}
-use Rattle.std.proofs.lemmas.List.Elements.{All-cons, All-head, All-tail}
-use Rattle.std.proofs.lemmas.List.Sorted.{IsPermutation-refl, ranks_by, sorted_far}
-use Rattle.std.proofs.lemmas.Cmp.{tied_itself}
-use Rattle.std.specs.Cmp.{IsStrictWeakOrder}
-use Rattle.std.specs.List.{All}
-use Rattle.std.specs.List.Sorted.{IsSortedBy, ties}
-use Rattle.std.specs.Ordering.{is_lt}
-use Rattle.snap_content.specs.KeyLaws.{key_total}
-use Rattle.snap_content.specs.Sorted.{Entry, InKeyOrder}
+use Rattle.snap_content.proofs.Prelude.{◌≡◌, ℕ, suc, ◌+◌, ◌<◌, ◌≤◌, Bool, true, false, cond, not, ◌&&◌, List, [], ◌∷◌, filter, get_or, length, refl, sym, ap, ◌∙◌, subst, arith, add-one, All-cons, All-head, All-tail, IsPermutation-refl, ranks_by, sorted_far, tied_itself, IsStrictWeakOrder, All, IsSortedBy, ties, is_lt, key_total, Entry, InKeyOrder}
 use Rattle.snap_content.proofs.KeyOrdered.{is_before}
 
 weak : IsStrictWeakOrder is_before

@@ -1,13 +1,6 @@
 -- The order of trees of one variant, where the search is given the equations, and of lists at their ends.
-use Rattle.std.proofs.Common.{◌≡◌, ℕ, List, [], ◌∷◌, length, false, sym, ap, ◌∙◌}
-use Rattle.std.specs.Prelude.{◌==◌}
-use Rattle.std.specs.declared.cmp.Ordering.{Ordering}
-use Rattle.std.specs.declared.cmp.Ordering.TheVariants.{Less, Equal}
-use Rattle.std.specs.Ordering.{ordering_then, nat_cmp}
+use Rattle.snap_content.proofs.Prelude.{◌≡◌, ℕ, List, [], ◌∷◌, length, false, sym, ap, ◌∙◌, ◌==◌, Ordering, Less, Equal, ordering_then, nat_cmp, tree, item_trees, pair_trees, field_list, field_trees, Fields, tree_cmp, trees_cmp, pairs_cmp, fields_cmp, text_cmp, Content, Struct, StructVariant}
 use Rattle.snap_content.specs.Tree as t
-use Rattle.snap_content.specs.View.{tree, item_trees, pair_trees, field_list, field_trees, Fields}
-use Rattle.snap_content.specs.Orders.{tree_cmp, trees_cmp, pairs_cmp, fields_cmp, text_cmp}
-use Rattle.snap_content.specs.declared.content.Content.{Content, Struct, StructVariant}
 use Rattle.snap_content.proofs.Views.{tree-Struct, tree-StructVariant}
 
 -- an order that comes behind others which are equal

@@ -1,5 +1,5 @@
 -- The plain form of the tree that is made of a plain tree is that plain tree.
-use Rattle.std.proofs.Common.{◌≡◌, ℕ, ◌^◌, ℤ, pos, negsuc, Bool, true, false, cond, nat_lt, refl, ap, ◌∙◌}
+use Rattle.snap_content.proofs.Prelude.{◌≡◌, ℕ, ◌^◌, ℤ, pos, negsuc, Bool, true, false, cond, nat_lt, refl, ap, ◌∙◌}
 use Rattle.snap_content.specs.Plain as p
 use Rattle.snap_content.specs.Tree as t
 

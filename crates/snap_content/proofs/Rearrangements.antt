@@ -1,10 +1,6 @@
 -- Trees whose maps are put in another order: where nothing is done, and one turn of a loop over a list.
-use Rattle.std.proofs.Common.{◌≡◌, ℕ, suc, ◌+◌, ◌<◌, ◌≤◌, List, [], ◌∷◌, ◌++◌, map, get_or, set, take, drop, length, refl, sym, ap, ◌∙◌, subst, arith, add-one, drop-cons, append_assoc, append-nil}
-use Rattle.std.proofs.lemmas.List.{map-append, drop-set-lt, take_more_set, take_all, drop_all}
+use Rattle.snap_content.proofs.Prelude.{◌≡◌, ℕ, suc, ◌+◌, ◌<◌, ◌≤◌, List, [], ◌∷◌, ◌++◌, map, get_or, set, take, drop, length, refl, sym, ap, ◌∙◌, subst, arith, add-one, drop-cons, append_assoc, append-nil, map-append, drop-set-lt, take_more_set, take_all, drop_all, tree, item_trees, pair_tree, pair_trees, field_trees, Entry, Rearranged, ItemsRearranged, PairsRearranged, FieldsRearranged, Content}
 use Rattle.snap_content.specs.Tree as t
-use Rattle.snap_content.specs.View.{tree, item_trees, pair_tree, pair_trees, field_trees}
-use Rattle.snap_content.specs.Sorted.{Entry, Rearranged, ItemsRearranged, PairsRearranged, FieldsRearranged}
-use Rattle.snap_content.specs.declared.content.Content.{Content}
 use Rattle.snap_content.proofs.Joined.{joined, joined-push, joined-end, joined-whole, joined_fields, joined_fields-push, joined_fields-end, joined_fields-whole, pairs-whole}
 
 -- the entries of a map, as a list

@@ -1,11 +1,6 @@
 -- A step into a wrapper, and where the steps end.
-use Rattle.std.proofs.Common.{◌≡◌, refl, sym, ap, ◌∙◌, ℕ, suc, zero, ◌<◌, true, false, Box, Global, rules, arith}
-use Rattle.std.specs.Box.{with_value}
+use Rattle.snap_content.proofs.Prelude.{◌≡◌, refl, sym, ap, ◌∙◌, ℕ, suc, zero, ◌<◌, true, false, Box, Global, rules, arith, with_value, tree, resolved, wraps, rewrapped, with_wrapped, Content, Some', NewtypeStruct', NewtypeVariant', the_lemmas}
 use Rattle.snap_content.specs.Tree.{Tree, some, newtype_struct, newtype_variant}
-use Rattle.snap_content.specs.View.{tree}
-use Rattle.snap_content.specs.Access.{resolved, wraps, rewrapped}
-use Rattle.snap_content.specs.Lending.{with_wrapped}
-use Rattle.snap_content.specs.declared.content.Content.{Content, Some', NewtypeStruct', NewtypeVariant', the_lemmas}
 
 -- how many wrappers there are
 abbrev pub depth : Tree → ℕ

@@ -1,14 +1,9 @@
 -- Trees that the order does not tell apart are equal.
-use Rattle.std.proofs.Common.{◌≡◌, ℕ, ℤ, List, [], ◌∷◌, Bool, true, false, refl, sym, ap, ◌∙◌}
-use Rattle.std.specs.declared.cmp.Ordering.{Ordering}
-use Rattle.std.specs.declared.cmp.Ordering.TheVariants.{Less, Equal, Greater}
-use Rattle.std.specs.Ordering.{ordering_then, nat_cmp, int_cmp, bool_cmp, is_eq}
-use Rattle.std.proofs.lemmas.Cmp.{ranked, int_ranked}
+use Rattle.snap_content.proofs.Prelude.{◌≡◌, ℕ, ℤ, List, [], ◌∷◌, Bool, true, false, refl, sym, ap, ◌∙◌, Ordering, Less, Equal, Greater, ordering_then, nat_cmp, int_cmp, bool_cmp, is_eq, ranked, int_ranked, text_cmp, tree_cmp, trees_cmp, pairs_cmp, fields_cmp}
 use mathlib.Core.Bool.{true≢false}
 use Rattle.snap_content.specs.Tree as t
-use Rattle.snap_content.specs.Orders.{text_cmp, tree_cmp, trees_cmp, pairs_cmp, fields_cmp}
 
-both : (a b : Ordering) → ordering_then a b ≡ Equal → (a ≡ Equal) × (b ≡ Equal)
+pub both : (a b : Ordering) → ordering_then a b ≡ Equal → (a ≡ Equal) × (b ≡ Equal)
 both Less b h = absurd (true≢false (sym (ap is_eq h)))
 both Equal b h = (refl, h)
 both Greater b h = absurd (true≢false (sym (ap is_eq h)))
@@ -19,13 +14,13 @@ same_number n m h = ranked n m Equal (sym h)
 same_signed : (y z : ℤ) → int_cmp y z ≡ Equal → y ≡ z
 same_signed y z h = int_ranked y z Equal (sym h)
 
-same_truth : (b c : Bool) → bool_cmp b c ≡ Equal → b ≡ c
+pub same_truth : (b c : Bool) → bool_cmp b c ≡ Equal → b ≡ c
 same_truth false false h = refl
 same_truth true true h = refl
 same_truth false true h = absurd (true≢false (sym (ap is_eq h)))
 same_truth true false h = absurd (true≢false (sym (ap is_eq h)))
 
-same_text : (s u : List ℕ) → text_cmp s u ≡ Equal → s ≡ u
+pub same_text : (s u : List ℕ) → text_cmp s u ≡ Equal → s ≡ u
 same_text [] [] h = refl
 same_text [] (d ∷ ds) h = absurd (true≢false (sym (ap is_eq h)))
 same_text (c ∷ cs) [] h = absurd (true≢false (sym (ap is_eq h)))

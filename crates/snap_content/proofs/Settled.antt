@@ -1,10 +1,6 @@
 -- A sorted tree is sorted to itself.
-use Rattle.std.proofs.Common.{◌≡◌, List, [], ◌∷◌, sym, ap, ◌∙◌, subst}
-use Rattle.std.proofs.lemmas.List.Elements.{All-nil, All-cons, All-head, All-tail}
-use Rattle.std.proofs.lemmas.List.Sorted.{All-permutation}
-use Rattle.std.specs.List.{All}
+use Rattle.snap_content.proofs.Prelude.{◌≡◌, List, [], ◌∷◌, sym, ap, ◌∙◌, subst, All-nil, All-cons, All-head, All-tail, All-permutation, All, Entry, InKeyOrder, Sorted, ItemsRearranged, PairsRearranged, FieldsRearranged}
 use Rattle.snap_content.specs.Tree as t
-use Rattle.snap_content.specs.Sorted.{Entry, InKeyOrder, Sorted, ItemsRearranged, PairsRearranged, FieldsRearranged}
 use Rattle.snap_content.proofs.OneOrder.{order_settles}
 
 abbrev Settled : t.Tree → Type 0

@@ -1,15 +1,10 @@
 -- One call of the visitor, and one level of a walk.
-use Rattle.std.proofs.Common.{◌≡◌, ◌≤◌, ℕ, Bool, true, false, List, refl, sym, ap, ◌∙◌, subst}
+use Rattle.snap_content.proofs.Prelude.{◌≡◌, ◌≤◌, ℕ, Bool, true, false, List, refl, sym, ap, ◌∙◌, subst, MutBor, tree, item_list, item_trees, pair_list, pair_trees, field_list, field_trees, Items, Pairs, Fields, count, Calls, NeverGrows, Walked, stays, enters, WalkedInside, in_some, in_newtype_struct, in_newtype_variant, in_seq, in_tuple, in_tuple_struct, in_tuple_variant, in_map, in_struct, in_struct_variant, ItemsWalked, PairsWalked, FieldsWalked, Content}
 use Rattle.std.specs.Fn.{Called}
 use Rattle.std.specs.declared.boxed.Box.{Box}
 use Rattle.std.specs.declared.alloc.Global.{Global}
 use denote.Param.Members.{Mut}
-use denote.Ref.{MutBor}
 use Rattle.snap_content.specs.Tree as t
-use Rattle.snap_content.specs.View.{tree, item_list, item_trees, pair_list, pair_trees, field_list, field_trees, Items, Pairs, Fields}
-use Rattle.snap_content.specs.Count.{count}
-use Rattle.snap_content.specs.Walked.{Calls, NeverGrows, Walked, stays, enters, WalkedInside, in_some, in_newtype_struct, in_newtype_variant, in_seq, in_tuple, in_tuple_struct, in_tuple_variant, in_map, in_struct, in_struct_variant, ItemsWalked, PairsWalked, FieldsWalked}
-use Rattle.snap_content.specs.declared.content.Content.{Content}
 use Rattle.snap_content.specs.declared.content.Content as v
 use Rattle.snap_content.proofs.Views.{tree-Some, tree-NewtypeStruct, tree-NewtypeVariant, tree-Seq, tree-Tuple, tree-TupleStruct, tree-TupleVariant, tree-Map, tree-Struct, tree-StructVariant}
 

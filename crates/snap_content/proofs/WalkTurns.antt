@@ -1,11 +1,6 @@
 -- Turns of the loops that walk over lists.
-use Rattle.std.proofs.Common.{◌≡◌, ℕ, zero, suc, ◌+◌, ◌<◌, ◌≤◌, Bool, List, [], ◌∷◌, get_or, set, take, drop, length, sym, ap, ◌∙◌, subst, arith, add-one, drop-cons}
-use Rattle.std.proofs.lemmas.List.{drop-set-lt, take_more_set, take_all, drop_all}
+use Rattle.snap_content.proofs.Prelude.{◌≡◌, ℕ, zero, suc, ◌+◌, ◌<◌, ◌≤◌, Bool, List, [], ◌∷◌, get_or, set, take, drop, length, sym, ap, ◌∙◌, subst, arith, add-one, drop-cons, drop-set-lt, take_more_set, take_all, drop_all, tree, item_trees, pair_trees, field_trees, count, count_items, count_pairs, count_fields, Walked, ItemsWalked, no_items, item, PairsWalked, no_pairs, pair, FieldsWalked, no_fields, field, Content}
 use Rattle.snap_content.specs.Tree as t
-use Rattle.snap_content.specs.View.{tree, item_trees, pair_trees, field_trees}
-use Rattle.snap_content.specs.Count.{count, count_items, count_pairs, count_fields}
-use Rattle.snap_content.specs.Walked.{Walked, ItemsWalked, no_items, item, PairsWalked, no_pairs, pair, FieldsWalked, no_fields, field}
-use Rattle.snap_content.specs.declared.content.Content.{Content}
 use Rattle.snap_content.proofs.Joined.{joined, joined-push, joined-end, joined_pairs, joined_pairs-push, joined_pairs-end, joined_fields, joined_fields-push, joined_fields-end}
 
 -- how many nodes there are once an element is another

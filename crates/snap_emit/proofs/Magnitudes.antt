@@ -1,18 +1,13 @@
 -- What `parse` gives of digits.
-use Rattle.std.proofs.Common.{◌≡◌, ℕ, ◌<◌, ◌^◌, List, [], ◌∷◌, Bool, true, false, Option, Some, None, Result, Ok, Err, length, nat_lt, if◌then◌else◌, refl, sym, ap, ◌∙◌, arith, rules, subst}
+use Rattle.snap_emit.proofs.Prelude.{◌≡◌, ℕ, ◌<◌, ◌^◌, List, [], ◌∷◌, Bool, true, false, Option, Some, None, Result, Ok, Err, length, nat_lt, if◌then◌else◌, refl, sym, ap, ◌∙◌, arith, rules, subst, list_all, IsTrue, ◌&&◌, is_some, option_map, chars, IsUtf8, tree, Content}
 use Rattle.std.proofs.lemmas.Bool.Decides.{nat_tests}
 use borrow.Author.Tests.{ltb-true, lt-ltb}
 use Rattle.std.proofs.lemmas.Str.Parse.{IsDigitsTest, IsNumeralModel, numerals_by_value, parse_digits}
 use Rattle.std.specs.Char.{is_ascii_digit}
 use Rattle.std.specs.Char.{is_ascii}
-use Rattle.std.specs.List.{list_all}
-use Rattle.std.specs.Prelude.{IsTrue, ◌&&◌, is_some, option_map}
-use Rattle.std.specs.Str.{chars, IsUtf8}
 use Rattle.std.specs.Str.Parse.{digits_value, ParsesUnsigned}
 use Rattle.snap_content.specs.Numbers.{is_digits}
 use Rattle.snap_content.specs.Tree.{Tree}
-use Rattle.snap_content.specs.View.{tree}
-use Rattle.snap_content.specs.declared.content.Content.{Content}
 use Rattle.snap_content.proofs.Ascii.{IsAscii-list_all}
 use Rattle.snap_content.proofs.Ends.{bytes_are}
 

@@ -1,9 +1,6 @@
 -- A text as its pieces.
-use Rattle.std.proofs.Common.{◌≡◌, ◌<◌, ℕ, List, [], ◌∷◌, ◌++◌, Bool, true, false, cond, ◌||◌, length, refl, sym, ap, ◌∙◌, append_assoc, append-nil, length-append, arith}
-use Rattle.std.specs.List.{list_any}
-use Rattle.snap_content.proofs.Booleans.{or_left, or_right, or_false}
+use Rattle.snap_emit.proofs.Prelude.{◌≡◌, ◌<◌, ℕ, List, [], ◌∷◌, ◌++◌, Bool, true, false, cond, ◌||◌, refl, sym, ap, ◌∙◌, append_assoc, list_any, or_left, or_right, or_nothing, ends_piece, pieces, IsPieceThen, is_number_piece, has_number_piece, or_from}
 use Rattle.snap_str.specs.Lines.{onto}
-use Rattle.snap_emit.specs.Pieces.{ends_piece, pieces, IsPieceThen, is_number_piece, has_number_piece}
 
 -- what was passed of a text, and ends no piece
 pub record IsPassed (text rest : List ℕ) : Type 0 where
@@ -12,9 +9,9 @@ pub record IsPassed (text rest : List ℕ) : Type 0 where
   pub whole : list_any ends_piece front ≡ false
 
 none-more : (xs : List ℕ) (c : ℕ) → list_any ends_piece xs ≡ false → ends_piece c ≡ false → list_any ends_piece (xs ++ c ∷ []) ≡ false
-none-more [] c h k = or_false (ends_piece c) false k refl
+none-more [] c h k = or_from (ends_piece c) false k refl
 none-more (x ∷ xs) c h k =
-    or_false (ends_piece x) (list_any ends_piece (xs ++ c ∷ [])) (or_left (ends_piece x) _ h) (none-more xs c (or_right (ends_piece x) _ h) k)
+    or_from (ends_piece x) (list_any ends_piece (xs ++ c ∷ [])) (or_left (ends_piece x) _ h) (none-more xs c (or_right (ends_piece x) _ h) k)
 
 pub passed-more : (text rest more : List ℕ) (c : ℕ) → IsPassed text rest → rest ≡ c ∷ more → ends_piece c ≡ false → IsPassed text more
 passed-more text rest more c passed is goes_on = record {
@@ -22,20 +19,6 @@ passed-more text rest more c passed is goes_on = record {
   is = passed.is ∙ ap (λ r. passed.front ++ r) is ∙ sym (append_assoc passed.front (c ∷ []) more);
   whole = none-more passed.front c passed.whole goes_on;
 }
-
-pub passed-all : (text rest : List ℕ) → IsPassed text rest → rest ≡ [] → list_any ends_piece text ≡ false
-passed-all text rest passed none = ap (list_any ends_piece) (passed.is ∙ ap (λ r. passed.front ++ r) none ∙ append-nil passed.front) ∙ passed.whole
-
-pub passed-piece : (text rest more piece : List ℕ) (c : ℕ) (passed : IsPassed text rest) → rest ≡ c ∷ more → ends_piece c ≡ true → piece ≡ passed.front → IsPieceThen text piece more
-passed-piece text rest more piece c passed is ends same = record {
-  end = c;
-  is = passed.is ∙ ap (λ r. passed.front ++ r) is ∙ ap (λ p. p ++ c ∷ more) (sym same);
-  ends = ends;
-  whole = ap (list_any ends_piece) same ∙ passed.whole;
-}
-
-pub piece-shorter : (text piece more : List ℕ) → IsPieceThen text piece more → length more < length text
-piece-shorter text piece more cut = rw (cut.is, length-append piece (cut.end ∷ more)) (omega arith)
 
 parted : (c : ℕ) (cs : List ℕ) (ends : Bool) → ends_piece c ≡ ends → pieces (c ∷ cs) ≡ cond ends ([] ∷ pieces cs) (onto c (pieces cs))
 parted c cs ends is = ap (λ b. cond b ([] ∷ pieces cs) (onto c (pieces cs))) is
@@ -54,9 +37,5 @@ pub number-cut : (text piece more : List ℕ) (first : Bool) → IsPieceThen tex
 number-cut text piece more first cut same =
     ap has_number_piece cut.is ∙ ap (list_any is_number_piece) (pieces-cut piece more cut.end cut.whole cut.ends) ∙ ap (λ b. b || has_number_piece more) (sym same)
 
-or-nothing : (b : Bool) → (b || false) ≡ b
-or-nothing true = refl
-or-nothing false = refl
-
 pub number-whole : (text : List ℕ) → list_any ends_piece text ≡ false → has_number_piece text ≡ is_number_piece text
-number-whole text none = ap (list_any is_number_piece) (pieces-whole text none) ∙ or-nothing (is_number_piece text)
+number-whole text none = ap (list_any is_number_piece) (pieces-whole text none) ∙ or_nothing (is_number_piece text)

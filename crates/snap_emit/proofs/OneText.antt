@@ -1,13 +1,6 @@
 -- Trees that are printed as one text are one tree.
-use Rattle.std.proofs.Common.{◌≡◌, ◌++◌, Some, ap, sym, ◌∙◌}
-use Rattle.std.specs.Prelude.{codes}
-use Rattle.snap_content.specs.Lines.{text_of}
-use Rattle.snap_content.specs.Plain.{Plain}
-use Rattle.snap_content.specs.Readable.{IsWithin}
-use Rattle.snap_parse.specs.PrintedValues.{read_value}
+use Rattle.snap_emit.proofs.Prelude.{◌≡◌, ◌++◌, Some, ap, sym, ◌∙◌, codes, text_of, Plain, IsWithin, read_value, document-read, plain_read}
 use Rattle.snap_parse.proofs.OneText.{documents-same}
-use Rattle.snap_parse.proofs.PrintedValues.{document-read}
-use Rattle.snap_emit.specs.PlainRead.{plain_read}
 use Rattle.snap_emit.proofs.ReadBack.{read-back}
 
 some-same : (a b : Plain) → Some a ≡ Some b → a ≡ b

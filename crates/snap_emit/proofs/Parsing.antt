@@ -1,22 +1,12 @@
 -- What a text is read as.
-use Rattle.std.proofs.Common.{◌≡◌, ℕ, Bool, false, List, Option, Some, None, option_map, Result, Ok, Err, sym, ap, ◌∙◌}
-use Rattle.std.specs.Prelude.{IfOk, IfSome, IsSomeAnd}
-use Rattle.std.proofs.lemmas.Result.{IfOk-weaker}
-use Rattle.snap_content.specs.Lines.{document_of}
-use Rattle.snap_content.specs.Plain.{Plain, plain, content_of}
-use Rattle.snap_content.specs.Readable.{IsWithin}
-use Rattle.snap_content.specs.View.{tree}
-use Rattle.snap_content.specs.declared.content.Content.{Content}
+use Rattle.snap_emit.proofs.Prelude.{◌≡◌, ℕ, Bool, false, List, Option, Some, None, option_map, Result, Ok, Err, sym, ap, ◌∙◌, IfOk, IfSome, IsSomeAnd, IfOk-weaker, document_of, Plain, plain, content_of, IsWithin, tree, Content, read_value, document-read, IsPlain, plain_read, has_number_text}
 use Rattle.snap_content.proofs.PlainMade.{plain_made}
 use Rattle.snap_yaml.specs.Value.{Value}
 use Rattle.snap_parse.specs.Documents.{document_value}
 use Rattle.snap_parse.specs.PrintedEvents.{node_of}
-use Rattle.snap_parse.specs.PrintedValues.{read_value}
-use Rattle.snap_parse.proofs.PrintedValues.{document-read}
 use Rattle.snap_parse.proofs.JsonValues.{json-read}
 use Rattle.snap_owed_json.specs.Nodes.{json_node}
 use Rattle.snap_emit.specs.Parsed.{IsReadFrom}
-use Rattle.snap_emit.specs.PlainRead.{IsPlain, plain_read, has_number_text}
 use Rattle.snap_emit.specs.declared.loaded.Loaded.{Loaded}
 use Rattle.snap_emit.proofs.ReadBack.{read-back, no-number-text}
 

@@ -1,16 +1,11 @@
 -- Trees that are made of values are those of the plain trees that they are read as.
-use Rattle.std.proofs.Common.{◌≡◌, ℕ, Bool, true, false, ◌||◌, List, [], ◌∷◌, ◌++◌, map, Option, Some, None, option_map, length, refl, sym, ap, ◌∙◌, arith, rules}
-use Rattle.std.specs.Prelude.{option_and_then}
+use Rattle.snap_emit.proofs.Prelude.{◌≡◌, ℕ, Bool, true, false, ◌||◌, List, [], ◌∷◌, ◌++◌, map, Option, Some, None, option_map, length, refl, sym, ap, ◌∙◌, arith, rules, option_and_then, tree, pair_tree, item_trees, pair_list, pair_trees, Pairs, Content, Map, value_of, array_values, hash_list, hash_values, Hash, plain_read, plains_read, entries_read, has_number_text, have_number_texts, are_number_texts_in, or_nothing}
 use Rattle.snap_content.specs.Plain as p
 use Rattle.snap_content.specs.Tree as t
-use Rattle.snap_content.specs.View.{tree, pair_tree, item_trees, pair_list, pair_trees, Pairs}
-use Rattle.snap_content.specs.declared.content.Content.{Content, Map}
 use Rattle.snap_content.proofs.Views.{tree-Map}
 use Rattle.snap_yaml.specs.Value as v
-use Rattle.snap_yaml.specs.View.{value_of, array_values, hash_list, hash_values, Hash}
 use Rattle.snap_yaml.specs.declared.yaml.Yaml.{Yaml}
 use Rattle.snap_yaml.specs.declared.yaml.Yaml as held
-use Rattle.snap_emit.specs.PlainRead.{plain_read, plains_read, entries_read, has_number_text, have_number_texts, are_number_texts_in}
 
 map-more : {A B : Type 0} (f : A → B) (xs ys : List A) → map f (xs ++ ys) ≡ map f xs ++ map f ys
 map-more f [] ys = refl
@@ -193,10 +188,6 @@ or-grouped : (a b c : Bool) → (a || (b || c)) ≡ ((a || b) || c)
 or-grouped true b c = refl
 or-grouped false b c = refl
 
-or-nothing : (a : Bool) → (a || false) ≡ a
-or-nothing true = refl
-or-nothing false = refl
-
 abbrev pub AreFound : Bool → List Yaml → Bool → List Yaml → Type 0
 AreFound found left before items = (found || have_number_texts (array_values left)) ≡ (before || have_number_texts (array_values items))
 
@@ -210,7 +201,7 @@ one-found found after before left more items y h next is =
     ∙ ap (λ ys. found || have_number_texts (array_values ys)) (sym next) ∙ h
 
 pub all-found : (found before : Bool) (left items : List Yaml) → AreFound found left before items → left ≡ [] → found ≡ (before || have_number_texts (array_values items))
-all-found found before left items h none = sym (or-nothing found) ∙ ap (λ ys. found || have_number_texts (array_values ys)) (sym none) ∙ h
+all-found found before left items h none = sym (or_nothing found) ∙ ap (λ ys. found || have_number_texts (array_values ys)) (sym none) ∙ h
 
 abbrev pub AreFoundIn : Bool → List (Yaml × Yaml) → Bool → List (Yaml × Yaml) → Type 0
 AreFoundIn found left before pairs = (found || are_number_texts_in (hash_values left)) ≡ (before || are_number_texts_in (hash_values pairs))
@@ -228,7 +219,7 @@ one-found-in found between after before left more pairs y h next is also =
     ∙ ap (λ ys. found || are_number_texts_in (hash_values ys)) (sym next) ∙ h
 
 pub all-found-in : (found before : Bool) (left pairs : List (Yaml × Yaml)) → AreFoundIn found left before pairs → left ≡ [] → found ≡ (before || are_number_texts_in (hash_values pairs))
-all-found-in found before left pairs h none = sym (or-nothing found) ∙ ap (λ ys. found || are_number_texts_in (hash_values ys)) (sym none) ∙ h
+all-found-in found before left pairs h none = sym (or_nothing found) ∙ ap (λ ys. found || are_number_texts_in (hash_values ys)) (sym none) ∙ h
 
 -- an iterator whose count is none has nothing left
 pub nothing-left : {A : Type 0} (xs : List A) (n : ℕ) → n ≡ length xs → n ≡ 0 → xs ≡ []

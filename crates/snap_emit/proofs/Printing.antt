@@ -1,5 +1,5 @@
 -- What holds of what was printed.
-use Rattle.std.specs.Prelude.{Result, Ok, Err, IfOk}
+use Rattle.snap_emit.proofs.Prelude.{Result, Ok, Err, IfOk}
 
 -- what holds at each success, from what holds there
 pub at_success : {A E : Type 0} (result : Result A E) (P Q : Type 0) → (P → Q) → IfOk result (λ _. P) → IfOk result (λ _. Q)

@@ -1,19 +1,13 @@
 -- The value that is read of a printed tree is read as that tree.
-use Rattle.std.proofs.Common.{◌≡◌, ℕ, ℤ, Bool, true, false, not, ◌||◌, List, Option, Some, option_map, if◌then◌else◌, refl, sym, ap, ◌∙◌}
+use Rattle.snap_emit.proofs.Prelude.{◌≡◌, ℕ, ℤ, Bool, true, false, not, ◌||◌, List, Option, Some, option_map, if◌then◌else◌, refl, sym, ap, ◌∙◌, option_and_then, IsNumber, IsWithin, AreWithin, AreEntriesWithin, typed_word, read_value, read_values, read_pairs, document-read, is_whole, plain_read, plains_read, entries_read, has_number_text, have_number_texts, are_number_texts_in, or_from}
 use Rattle.std.specs.Fmt.{signed_decimal}
-use Rattle.std.specs.Prelude.{option_and_then}
 use Rattle.snap_content.specs.Plain as p
-use Rattle.snap_content.specs.Readable.{IsNumber, IsWithin, AreWithin, AreEntriesWithin}
 use Rattle.snap_content.specs.Typed.{has_64_bits, number_in}
 use Rattle.snap_content.specs.Typed as t
-use Rattle.snap_print.proofs.Typing.{typed_word}
 use Rattle.snap_yaml.specs.Through.{plain_typed}
 use Rattle.snap_yaml.specs.Typing.{typed_yaml}
 use Rattle.snap_yaml.specs.Value as v
 use Rattle.snap_yaml.proofs.Through.{typed_through}
-use Rattle.snap_parse.specs.PrintedValues.{read_value, read_values, read_pairs}
-use Rattle.snap_parse.proofs.PrintedValues.{document-read}
-use Rattle.snap_emit.specs.PlainRead.{is_whole, plain_read, plains_read, entries_read, has_number_text, have_number_texts, are_number_texts_in}
 
 -- a number that is kept as its digits is that number
 kept-is : (b : Bool) (y z : ℤ) → (if b then t.value (p.int y) else t.real) ≡ t.value (p.int z) → (b ≡ true) × (y ≡ z)
@@ -45,9 +39,6 @@ one-entry : (k x : Option p.Plain) (o : Option p.Entries) (key value : p.Plain) 
     → option_and_then (λ a. option_and_then (λ b. option_map (p.entry a b) o) x) k ≡ Some (p.entry key value es)
 one-entry k x o key value es is also rest = rw (is, also, rest) refl
 
-neither : (a b : Bool) → a ≡ false → b ≡ false → (a || b) ≡ false
-neither a b h k = rw (h, k) refl
-
 mutual
   pub read-back : (x : p.Plain) → IsWithin x → plain_read (read_value x) ≡ Some x
   read-back p.null h = refl
@@ -77,10 +68,10 @@ mutual
 
   no-item-text : (xs : p.Plains) → AreWithin xs → have_number_texts (read_values xs) ≡ false
   no-item-text p.no_items h = refl
-  no-item-text (p.item x xs) h = neither (has_number_text (read_value x)) (have_number_texts (read_values xs)) (no-number-text x h.0) (no-item-text xs h.1)
+  no-item-text (p.item x xs) h = or_from (has_number_text (read_value x)) (have_number_texts (read_values xs)) (no-number-text x h.0) (no-item-text xs h.1)
 
   no-entry-text : (es : p.Entries) → AreEntriesWithin es → are_number_texts_in (read_pairs es) ≡ false
   no-entry-text p.no_entries h = refl
   no-entry-text (p.entry k x es) h =
-      neither (has_number_text (read_value k)) (has_number_text (read_value x) || are_number_texts_in (read_pairs es)) (no-number-text k h.0)
-      (neither (has_number_text (read_value x)) (are_number_texts_in (read_pairs es)) (no-number-text x h.1.0) (no-entry-text es h.1.1))
+      or_from (has_number_text (read_value k)) (has_number_text (read_value x) || are_number_texts_in (read_pairs es)) (no-number-text k h.0)
+      (or_from (has_number_text (read_value x)) (are_number_texts_in (read_pairs es)) (no-number-text x h.1.0) (no-entry-text es h.1.1))

@@ -1,27 +1,14 @@
 -- A text that begins neither as a reserved word nor as a number is neither.
-use Rattle.std.proofs.Common.{◌≡◌, ℕ, ◌+◌, List, [], ◌∷◌, Bool, true, false, ◌==◌, ◌||◌, ◌&&◌, refl, sym, ap, ◌∙◌, arith}
-use Rattle.std.proofs.lemmas.Bool.Decides.{nat_tests}
+use Rattle.snap_emitter.proofs.Prelude.{◌≡◌, ℕ, ◌+◌, List, [], ◌∷◌, Bool, true, false, ◌==◌, ◌||◌, ◌&&◌, refl, sym, ap, ◌∙◌, arith, nat_tests, if◌then◌else◌, drop, codes, Option, Some, None, is_ascii_digit, list_any, list_all, bytes_eq, or_from, and_parts}
 use Rattle.std.proofs.lemmas.Slice.Eq.{bytes_eq-Decides}
-use Rattle.std.specs.Prelude.{if◌then◌else◌, drop, codes, Option, Some, None}
-use Rattle.std.specs.Char.{is_ascii_digit}
-use Rattle.std.specs.List.{list_any, list_all}
-use Rattle.std.specs.Str.{bytes_eq}
 use Rattle.snap_content.specs.Front.{begins}
 use Rattle.snap_content.specs.Numbers as n
 use Rattle.snap_content.specs.Quotes as q
 use Rattle.snap_emitter.specs.Words.{is_letter, spells, fronts, fronts_word, begins_word}
 
-both : (a b : Bool) → (a && b) ≡ true → (a ≡ true) × (b ≡ true)
-both true b h = (refl, h)
-both false b h = absurd (cc)
-
 neither : (a b : Bool) → (a || b) ≡ false → (a ≡ false) × (b ≡ false)
 neither true b h = absurd (cc)
 neither false b h = (refl, h)
-
-or_false : (a b : Bool) → a ≡ false → b ≡ false → (a || b) ≡ false
-or_false true b h k = h
-or_false false b h k = k
 
 apart : (b : Bool) (w v : List ℕ) → bytes_eq w v ≡ b → begins_word w ≡ false → begins_word v ≡ true → b ≡ false
 apart false w v is h k = refl
@@ -32,8 +19,8 @@ apart true w v is h k =
 no_word : (w : List ℕ) (ws : List (List ℕ)) → begins_word w ≡ false → list_all begins_word ws ≡ true → list_any (bytes_eq w) ws ≡ false
 no_word w [] h all = refl
 no_word w (v ∷ vs) h all =
-    let p = both (begins_word v) (list_all begins_word vs) all in
-    or_false (bytes_eq w v) (list_any (bytes_eq w) vs) (apart (bytes_eq w v) w v refl h p.0) (no_word w vs h p.1)
+    let p = and_parts (begins_word v) (list_all begins_word vs) all in
+    or_from (bytes_eq w v) (list_any (bytes_eq w) vs) (apart (bytes_eq w v) w v refl h p.0) (no_word w vs h p.1)
 
 -- what the first two characters are not
 record IsOther (c d : ℕ) : Type 0 where
@@ -72,7 +59,7 @@ no_letters a b c d cs h = by (is_letter a c) h
     by false h = refl
 
 no_sign : (c d : ℕ) (cs : List ℕ) → IsOther c d → n.past_sign (c ∷ d ∷ cs) ≡ c ∷ d ∷ cs
-no_sign c d cs o = ap (λ b. if b then d ∷ cs else c ∷ d ∷ cs) (or_false (c == 43) (c == 45) o.plus o.minus)
+no_sign c d cs o = ap (λ b. if b then d ∷ cs else c ∷ d ∷ cs) (or_from (c == 43) (c == 45) o.plus o.minus)
 
 -- digits with a point: by whether it begins with a digit, and whether a point follows the digits
 abbrev decimal_by : Bool → Bool → List ℕ → List ℕ → Bool
@@ -90,8 +77,8 @@ no_float : (c d : ℕ) (cs : List ℕ) → IsOther c d → n.is_float_text (c �
 no_float c d cs o =
     let text = c ∷ d ∷ cs in
     ap n.is_unsigned_float (no_sign c d cs o)
-    ∙ or_false (n.is_decimal_text text || n.ends_infinity (n.past_inf text)) (n.is_end (n.past_nan text))
-    (or_false (n.is_decimal_text text) (n.ends_infinity (n.past_inf text)) (no_decimal c d (d ∷ cs) o)
+    ∙ or_from (n.is_decimal_text text || n.ends_infinity (n.past_inf text)) (n.is_end (n.past_nan text))
+    (or_from (n.is_decimal_text text) (n.ends_infinity (n.past_inf text)) (no_decimal c d (d ∷ cs) o)
     (ap (λ x. n.ends_infinity (n.then_letter 102 x)) (no_letters 105 110 c d cs o.inf)))
     (ap (λ x. n.is_end (n.then_letter 110 x)) (no_letters 110 97 c d cs o.nan))
 
@@ -106,9 +93,9 @@ no_number : (c d : ℕ) (cs : List ℕ) → IsOther c d → n.is_number_text (c 
 no_number c d cs o =
     let text = c ∷ d ∷ cs in
     let tail = d ∷ cs in
-    or_false (n.is_float_text text || n.is_octal_text text || n.is_plus_text text) (n.is_plus_inf text)
-    (or_false (n.is_float_text text || n.is_octal_text text) (n.is_plus_text text)
-    (or_false (n.is_float_text text) (n.is_octal_text text) (no_float c d cs o) (no_octal c tail (no_zero c o.digit)))
+    or_from (n.is_float_text text || n.is_octal_text text || n.is_plus_text text) (n.is_plus_inf text)
+    (or_from (n.is_float_text text || n.is_octal_text text) (n.is_plus_text text)
+    (or_from (n.is_float_text text) (n.is_octal_text text) (no_float c d cs o) (no_octal c tail (no_zero c o.digit)))
     (ap (λ b. b && n.is_short_integer 10 tail) o.plus))
     (ap (λ b. b && (bytes_eq tail (codes ".inf") || bytes_eq tail (codes ".Inf") || bytes_eq tail (codes ".INF"))) o.plus)
 

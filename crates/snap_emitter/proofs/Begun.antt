@@ -1,8 +1,5 @@
 -- What want of memory leaves of a text: step by step.
-use Rattle.std.proofs.Common.{◌≡◌, ℕ, List, [], ◌++◌, refl, sym, ap, ◌∙◌, append_assoc}
-use Rattle.std.specs.Prelude.{Result, Ok, Err, OnErr, OnOk, IfOk}
-use Rattle.std.proofs.lemmas.List.{append-nil}
-use Rattle.snap_emitter.specs.Columns.{IsBegun}
+use Rattle.snap_emitter.proofs.Prelude.{◌≡◌, ℕ, List, [], ◌++◌, refl, sym, ap, ◌∙◌, append_assoc, Result, Ok, Err, OnErr, OnOk, IfOk, append-nil, IsBegun}
 
 -- nothing was added
 pub unmoved : (old new full : List ℕ) → new ≡ old → IsBegun old new full

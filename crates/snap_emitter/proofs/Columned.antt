@@ -1,16 +1,9 @@
 -- The text of a shape by columns is its lines, the further ones behind blanks.
-use Rattle.std.proofs.Common.{◌≡◌, ℕ, zero, suc, ◌+◌, List, [], ◌∷◌, ◌++◌, Bool, true, false, if◌then◌else◌, map, refl, sym, ap, ◌∙◌, append_assoc, arith}
-use Rattle.std.proofs.lemmas.Grind.{flat_map-append}
-use Rattle.std.proofs.lemmas.List.{append-nil}
-use Rattle.std.specs.List.{flat_map}
-use Rattle.std.specs.Prelude.{codes}
+use Rattle.snap_emitter.proofs.Prelude.{◌≡◌, ℕ, zero, suc, ◌+◌, List, [], ◌∷◌, ◌++◌, Bool, true, false, if◌then◌else◌, map, refl, sym, ap, ◌∙◌, append_assoc, arith, flat_map-append, append-nil, flat_map, codes, indented, behind, ended, blanks, break_at, marked, pair_text, text_at, items_at, pairs_at, following, lines_at, dumped, body, document}
 use Rattle.snap_content.specs.Plain as p
 use Rattle.snap_content.specs.Spell as sp
 use Rattle.snap_content.specs.Lines as pl
-use Rattle.snap_content.specs.Lines.{indented, behind, ended}
 use Rattle.snap_emitter.specs.Shape as s
-use Rattle.snap_emitter.specs.Columns.{blanks, break_at, marked, pair_text, text_at, items_at, pairs_at, following, lines_at}
-use Rattle.snap_emitter.specs.Document.{joined, dumped, body, document}
 
 -- lines of which there is one
 pub record IsFull (ls : List (List ℕ)) : Type 0 where
@@ -235,18 +228,6 @@ mutual
 -- the text of a plain tree
 pub plain_text : (t : p.Plain) → text_at 0 (s.plain_shape t) ++ 10 ∷ [] ≡ pl.text_of t
 plain_text t = text_ended (s.plain_shape t) ∙ ap (flat_map ended) (plain_lines t)
-
-lines_at-joined : (ls : List (List ℕ)) → lines_at 0 ls ≡ joined ls
-lines_at-joined [] = refl
-lines_at-joined (first ∷ rest) = refl
-
--- the text at column 0 is the lines, joined
-pub text_joined : (t : s.Shape) → text_at 0 t ≡ joined (s.lines t)
-text_joined t = text_lines 0 t ∙ lines_at-joined (s.lines t)
-
--- with a line's end behind it, each line has its end
-pub joined_ended : (t : s.Shape) → joined (s.lines t) ++ 10 ∷ [] ≡ flat_map ended (s.lines t)
-joined_ended t = ap (λ x. x ++ 10 ∷ []) (sym (text_joined t)) ∙ text_ended t
 
 -- the body and the document of a plain tree
 pub plain_body : (t : p.Plain) → body (s.plain_shape t) ≡ pl.text_of t

@@ -1,17 +1,10 @@
 -- What is printed of each kind of `Content` that holds a list.
-use Rattle.std.proofs.Common.{◌≡◌, ℕ, ◌+◌, ◌<◌, List, [], ◌∷◌, ◌++◌, length, take, get_or, map, refl, sym, ap, ◌∙◌, rules, pos}
-use Rattle.std.proofs.lemmas.List.{take_more, map-append}
+use Rattle.snap_emitter.proofs.Prelude.{◌≡◌, ℕ, ◌+◌, ◌<◌, List, [], ◌∷◌, ◌++◌, length, take, get_or, map, refl, sym, ap, ◌∙◌, rules, pos, take_more, map-append, spell_text, tree, item_list, item_trees, pair_list, pair_trees, field_list, field_trees, Items, Pairs, Fields, Content, array_list, hash_list, Array, Hash, content_shape, pair_shape, field_shape, byte_shape, shape_of, pair_shapes}
 use Rattle.snap_content.specs.Tree as t
 use Rattle.snap_content.specs.Plain as p
-use Rattle.snap_content.specs.Spell.{spell_text}
-use Rattle.snap_content.specs.View.{tree, item_list, item_trees, pair_list, pair_trees, field_list, field_trees, Items, Pairs, Fields}
 use Rattle.snap_content.specs.declared.content.Content as content
-use Rattle.snap_content.specs.declared.content.Content.{Content}
-use Rattle.snap_yaml.specs.View.{array_list, hash_list, Array, Hash}
 use Rattle.snap_yaml.specs.declared.yaml.Yaml as yaml
-use Rattle.snap_emitter.specs.FromContent.{content_shape, pair_shape, field_shape, byte_shape}
 use Rattle.snap_emitter.specs.Shape as s
-use Rattle.snap_emitter.specs.Shape.{shape_of, pair_shapes}
 use Rattle.snap_emitter.proofs.Trees.{shapes_of, shape_pairs_of, shape-array, shape-hash}
 
 items_shapes : (cs : List Content) → s.plain_shapes (p.plains (item_trees cs)) ≡ shapes_of (map content_shape cs)

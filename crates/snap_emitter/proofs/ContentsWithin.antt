@@ -1,15 +1,10 @@
 -- Every number of a tree that was walked has at most 128 bits.
-use Rattle.std.proofs.Common.{◌≡◌, ℕ, suc, ◌+◌, ◌<◌, List, [], ◌∷◌, length, take, get_or, sym, ap, ◌∙◌, subst, rules, arith}
+use Rattle.snap_emitter.proofs.Prelude.{◌≡◌, ℕ, suc, ◌+◌, ◌<◌, List, [], ◌∷◌, length, take, get_or, sym, ap, ◌∙◌, subst, rules, arith, Result, Ok, Err, IfOk, All, tree, item_list, item_trees, pair_list, pair_trees, field_list, field_trees, Items, Pairs, Fields, Content, IsContentWithin, IsPairWithin, IsFieldWithin, IsByteWithin}
 use Rattle.std.proofs.lemmas.List.Elements.{All-more}
-use Rattle.std.specs.Prelude.{Result, Ok, Err, IfOk}
-use Rattle.std.specs.List.{All}
 use Rattle.snap_content.specs.Tree as t
 use Rattle.snap_content.specs.Plain as p
 use Rattle.snap_content.specs.Readable.{IsWithin, AreWithin, AreEntriesWithin}
-use Rattle.snap_content.specs.View.{tree, item_list, item_trees, pair_list, pair_trees, field_list, field_trees, Items, Pairs, Fields}
 use Rattle.snap_content.specs.declared.content.Content as content
-use Rattle.snap_content.specs.declared.content.Content.{Content}
-use Rattle.snap_emitter.specs.FromContent.{IsContentWithin, IsPairWithin, IsFieldWithin, IsByteWithin}
 
 items_within : (cs : List Content) → All IsContentWithin cs → AreWithin (p.plains (item_trees cs))
 items_within [] h = tt
@@ -81,10 +76,6 @@ pub struct_variant_within : (whole : Content) (name : List ℕ) (index : ℕ) (v
 struct_variant_within whole name index variant fields fs is same h =
     level whole (content.StructVariant name index variant fields) (t.struct_variant name index variant (field_trees (field_list fields))) is
     (search (rules, content.the_lemmas)) (tt, (walked_fields fs (field_list fields) same h, tt))
-
-pub newtype_variant_within : (whole inner : Content) (name : List ℕ) (index : ℕ) (variant : List ℕ) → IsContentWithin inner
-    → tree whole ≡ t.newtype_variant name index variant (tree inner) → IsContentWithin whole
-newtype_variant_within whole inner name index variant h same = subst (λ x. IsWithin (p.plain x)) (sym same) (tt, (h, tt))
 
 -- one more item
 pub all_more : {X : Type 0} (P : X → Type 0) (xs : List X) (i : ℕ) (x : X) → i < length xs → x ≡ get_or xs i x → All P (take i xs) → P x

@@ -1,3 +1,4 @@
+mod Prelude
 pub mod Columned
 pub mod Contents
 pub mod ContentsWithin

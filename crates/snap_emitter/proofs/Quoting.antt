@@ -1,14 +1,5 @@
 -- Texts between double quotes, character by character.
-use Rattle.std.proofs.Common.{◌≡◌, ℕ, ◌+◌, ◌*◌, ◌<◌, ◌≤◌, ◌^◌, List, [], ◌∷◌, ◌++◌, Bool, true, false, if◌then◌else◌, length, sym, ap, ◌∙◌, append_assoc, arith, length-append, lit≤, ◌==◌, ◌||◌, nat_lt}
-use Rattle.std.proofs.lemmas.Grind.{flat_map-append}
-use Rattle.std.proofs.lemmas.List.{append-nil}
-use Rattle.std.specs.List.{flat_map}
-use Rattle.snap_emitter.specs.Bare.{IsBareBefore}
-use Rattle.snap_content.specs.Spell.{escaped, escaped_code, quoted, spell_text}
-use Rattle.snap_content.specs.Quotes.{needs_quotes}
-use Rattle.std.specs.Str.{chars, IsUtf8}
-use Rattle.std.proofs.lemmas.Str.{encodes-chars, length-le-encodes}
-use Rattle.snap_emitter.specs.Columns.{IsBegun}
+use Rattle.snap_emitter.proofs.Prelude.{◌≡◌, ℕ, ◌+◌, ◌*◌, ◌<◌, ◌≤◌, ◌^◌, List, [], ◌∷◌, ◌++◌, Bool, true, false, if◌then◌else◌, length, sym, ap, ◌∙◌, append_assoc, arith, length-append, lit≤, ◌==◌, ◌||◌, nat_lt, flat_map-append, append-nil, flat_map, IsBareBefore, escaped, escaped_code, quoted, spell_text, needs_quotes, chars, IsUtf8, encodes-chars, length-le-encodes, IsBegun}
 use Rattle.snap_emitter.proofs.Begun.{begun_first, begun_then, begun_as}
 
 -- a quoted text that failed within one of its pieces

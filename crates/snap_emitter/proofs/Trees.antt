@@ -1,14 +1,8 @@
 -- One level of a `Yaml` that is printed.
-use Rattle.std.proofs.Common.{◌≡◌, ℕ, ◌+◌, ◌++◌, List, [], ◌∷◌, map, length, Bool, eqb, refl, sym, ap, ◌∙◌, rules, arith}
-use Rattle.std.proofs.lemmas.Bool.Decides.{nat_tests}
-use Rattle.std.specs.List.{flat_map}
+use Rattle.snap_emitter.proofs.Prelude.{◌≡◌, ℕ, ◌+◌, ◌++◌, List, [], ◌∷◌, map, length, Bool, eqb, refl, sym, ap, ◌∙◌, rules, arith, nat_tests, flat_map, value_of, array_list, array_values, hash_list, hash_values, Array, Hash, Yaml, the_lemmas, marked, text_at, items_at, pairs_at, item_line, list_text, pair_line, pair_of, dict_text, shape_of, pair_shapes}
 use Rattle.snap_yaml.specs.Value as v
-use Rattle.snap_yaml.specs.View.{value_of, array_list, array_values, hash_list, hash_values, Array, Hash}
-use Rattle.snap_yaml.specs.declared.yaml.Yaml.{Yaml, the_lemmas, Array as array, Hash as hash}
-use Rattle.snap_emitter.specs.Columns.{marked, text_at, items_at, pairs_at}
-use Rattle.snap_emitter.specs.Emitted.{item_line, list_text, pair_line, pair_of, dict_text}
+use Rattle.snap_yaml.specs.declared.yaml.Yaml.{Array as array, Hash as hash}
 use Rattle.snap_emitter.specs.Shape as s
-use Rattle.snap_emitter.specs.Shape.{shape_of, pair_shapes}
 
 -- lists of shapes, as a shape holds them
 abbrev pub shapes_of : List s.Shape → s.Shapes

@@ -1,12 +1,5 @@
 -- How far a walk came before memory was wanting.
-use Rattle.std.proofs.Common.{◌≡◌, ℕ, zero, suc, ◌+◌, ◌-◌, ◌<◌, ◌≤◌, Bool, true, false, if◌then◌else◌, List, [], ◌∷◌, ◌++◌, length, take, drop, get_or, sym, ap, ◌∙◌, append_assoc, arith, take-append-drop, drop-cons, zero-add}
-use Rattle.std.proofs.lemmas.Grind.{flat_map-append}
-use Rattle.std.specs.List.{flat_map}
-use Rattle.snap_emitter.specs.Columns.{IsBegun, gap, blanks, break_at, marked, text_at}
-use Rattle.snap_emitter.specs.Emitted.{item_line, list_text, key_of, pair_of, pair_line, dict_text}
-use Rattle.snap_emitter.specs.Shape.{is_simple, is_flat, spelled}
-use Rattle.snap_emitter.specs.Shape.{shape_of}
-use Rattle.snap_yaml.specs.declared.yaml.Yaml.{Yaml}
+use Rattle.snap_emitter.proofs.Prelude.{◌≡◌, ℕ, zero, suc, ◌+◌, ◌-◌, ◌<◌, ◌≤◌, Bool, true, false, if◌then◌else◌, List, [], ◌∷◌, ◌++◌, length, take, drop, get_or, sym, ap, ◌∙◌, append_assoc, arith, take-append-drop, drop-cons, zero-add, flat_map-append, flat_map, IsBegun, gap, blanks, break_at, marked, text_at, item_line, list_text, key_of, pair_of, pair_line, dict_text, is_simple, is_flat, spelled, shape_of, Yaml}
 use Rattle.snap_emitter.proofs.Begun.{unmoved, begun_first, begun_then, begun_as}
 
 -- the pieces of a list, about one of them

@@ -6,10 +6,7 @@ use Rattle.snap_event.specs.declared.event.Event.TheVariants as e
 use Rattle.snap_event.specs.Meaning.{Open, due, given, sequence, key, value, Meaning, ahead, open_in, ended, given_in, leaf, start, after, after_all, is_stream_end}
 use Rattle.snap_event.specs.Nodes.{Node, alias, scalar, list, dict, Nodes, no_nodes, node, Pairs, no_pairs, pair, node_onto, nodes_onto, pairs_onto, documents_onto}
 use Rattle.snap_event.specs.Streams.{HasNoEnd, IsStream, AreDocuments}
-
-both : (a b : Bool) → a && b ≡ true → (a ≡ true) × (b ≡ true)
-both true b h = (refl, h)
-both false b h = absurd (cc)
+use Rattle.std.proofs.lemmas.Bool.{and_parts}
 
 -- these events end what is open, and the stream
 abbrev Completes : List Open → List Event → Type 0
@@ -106,7 +103,7 @@ rest-completes (Some ended) es n f h = tt
 completes : (front : List Event) (os : List Open) (n : Meaning) → HasNoEnd front → after_all (front ++ e.StreamEnd ∷ []) (open_in os) ≡ Some n → Completes os (front ++ e.StreamEnd ∷ [])
 completes [] os n go h = end-completes os n h
 completes (x ∷ front) os n go h =
-    let k = both (not (is_stream_end x)) (list_all (λ event. not (is_stream_end event)) front) go in
+    let k = and_parts (not (is_stream_end x)) (list_all (λ event. not (is_stream_end event)) front) go in
     step-completes x os (front ++ e.StreamEnd ∷ []) k.0
     (rest-completes (after x (open_in os)) (front ++ e.StreamEnd ∷ []) n (λ ps hp. completes front ps n k.1 hp) h)
 
@@ -114,7 +111,7 @@ completes (x ∷ front) os n go h =
 whole : (front : List Event) (n : Meaning) → HasNoEnd front → after_all (front ++ e.StreamEnd ∷ []) ahead ≡ Some n → AreDocuments (front ++ e.StreamEnd ∷ [])
 whole [] n go h = absurd (cc)
 whole (e.StreamStart ∷ front) n go h =
-    let k = both true (list_all (λ event. not (is_stream_end event)) front) go in
+    let k = and_parts true (list_all (λ event. not (is_stream_end event)) front) go in
     let c = completes front [] n k.1 h in
     let f : List Event → List Event = λ v. e.StreamStart ∷ v in
     (c.0, ap f c.1)

@@ -1,15 +1,5 @@
 -- What is written is the whole text exactly where no key is refused.
-use Rattle.std.proofs.Common.{◌≡◌, ℕ, ◌+◌, List, ◌++◌, Bool, true, false, ◌||◌, refl, ap, ◌∙◌}
-use Rattle.snap_content.proofs.Booleans.{or_left, or_right}
-use Rattle.snap_content.specs.Plain.{Plain, null, bool, int, text, list, dict, Plains, no_items, item, Entries, no_entries, entry}
-use Rattle.snap_json.specs.Layout.{opening, closing, comma, colon}
-use Rattle.snap_json.specs.JsonText.{text_at, items_at, entries_at, member_text, is_refused, has_refused, items_refused, entries_refused}
-use Rattle.snap_json.specs.Written.{Written, whole, stopped, is_stopped, behind, key_written, member_written, entry_written, written, items_written, entries_written}
-use Rattle.snap_json.specs.declared.format.Format.{Format}
-
-or_none : (a : Bool) → a || false ≡ a
-or_none true = refl
-or_none false = refl
+use Rattle.snap_json.proofs.Prelude.{◌≡◌, ℕ, ◌+◌, List, ◌++◌, Bool, true, false, ◌||◌, refl, ap, ◌∙◌, or_left, or_right, or_nothing, Plain, null, bool, int, text, list, dict, Plains, no_items, item, Entries, no_entries, entry, opening, closing, comma, colon, text_at, items_at, entries_at, member_text, is_refused, has_refused, items_refused, entries_refused, Written, whole, stopped, is_stopped, behind, key_written, member_written, entry_written, written, items_written, entries_written, Format}
 
 stopped-behind : (a b : Written) → is_stopped (behind a b) ≡ is_stopped a || is_stopped b
 stopped-behind (whole s) (whole u) = refl
@@ -27,14 +17,14 @@ key_stopped (dict es) = refl
 entry_stopped : (f : Format) (key : Plain) (v : Written) → is_stopped (entry_written f key v) ≡ is_refused key || is_stopped v
 entry_stopped f key v =
     stopped-behind (member_written f key) v
-    ∙ ap (λ b. b || is_stopped v) (stopped-behind (key_written key) (whole (colon f)) ∙ or_none (is_stopped (key_written key)) ∙ key_stopped key)
+    ∙ ap (λ b. b || is_stopped v) (stopped-behind (key_written key) (whole (colon f)) ∙ or_nothing (is_stopped (key_written key)) ∙ key_stopped key)
 
 -- a collection, from its first element and its further ones
 collection_stopped : (o c : List ℕ) (first rest : Written) → is_stopped (behind (whole o) (behind first (behind rest (whole c)))) ≡ is_stopped first || is_stopped rest
 collection_stopped o c first rest =
     stopped-behind (whole o) (behind first (behind rest (whole c)))
     ∙ stopped-behind first (behind rest (whole c))
-    ∙ ap (λ b. is_stopped first || b) (stopped-behind rest (whole c) ∙ or_none (is_stopped rest))
+    ∙ ap (λ b. is_stopped first || b) (stopped-behind rest (whole c) ∙ or_nothing (is_stopped rest))
 
 or_assoc : (a b c : Bool) → (a || b) || c ≡ a || (b || c)
 or_assoc true b c = refl

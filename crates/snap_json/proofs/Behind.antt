@@ -1,11 +1,5 @@
 -- What is written in two steps, and what an error leaves in either.
-use Rattle.std.proofs.Common.{◌≡◌, ℕ, List, [], ◌++◌, refl, sym, ap, ◌∙◌, append_assoc}
-use Rattle.std.specs.Prelude.{Result, Ok, Err}
-use Rattle.std.specs.Result.{IsErrAnd}
-use Rattle.std.proofs.lemmas.List.{append-nil}
-use Rattle.snap_json.specs.Written.{Written, whole, stopped, characters, behind, IsAdded, IsStopped, Wrote}
-use Rattle.snap_json.specs.declared.error.JsonError.{JsonError}
-use Rattle.snap_json.specs.declared.error.JsonError.TheVariants.{JsonKey, OutOfMemory}
+use Rattle.snap_json.proofs.Prelude.{◌≡◌, ℕ, List, [], ◌++◌, refl, sym, ap, ◌∙◌, append_assoc, Result, Ok, Err, IsErrAnd, append-nil, Written, whole, stopped, characters, behind, IsAdded, IsStopped, Wrote, JsonError, JsonKey, OutOfMemory}
 
 pub never_whole : (s u : List ℕ) → stopped s ≡ whole u → ⊥
 never_whole s u h = cc

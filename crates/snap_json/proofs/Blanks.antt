@@ -1,8 +1,5 @@
 -- Blanks, some of them after others.
-use Rattle.std.proofs.Common.{◌≡◌, ℕ, zero, suc, ◌+◌, ◌-◌, ◌≤◌, List, ◌∷◌, ◌++◌, sym, ap, ◌∙◌, arith, zero-add}
-use Rattle.snap_json.specs.Layout.{blanks}
-use Rattle.snap_json.specs.Written.{whole, IsAdded, IsStopped}
-use Rattle.snap_json.specs.declared.error.JsonError.{JsonError}
+use Rattle.snap_json.proofs.Prelude.{◌≡◌, ℕ, zero, suc, ◌+◌, ◌-◌, ◌≤◌, List, ◌∷◌, ◌++◌, sym, ap, ◌∙◌, arith, zero-add, blanks, whole, IsAdded, IsStopped, JsonError}
 use Rattle.snap_json.proofs.Behind.{stopped_first, stopped_behind, stopped_as, added_behind, added_as}
 
 blanks-add : (i j : ℕ) → blanks (i + j) ≡ blanks i ++ blanks j

@@ -1,14 +1,6 @@
 -- What the answer of a call that writes a tree says of its keys and of the text.
-use Rattle.std.proofs.Common.{◌≡◌, ℕ, List, ◌++◌, true, false, sym, ap, ◌∙◌}
-use Rattle.std.specs.Prelude.{Result, Ok, Err, OnOk, OnErr, IsErrOf}
-use Rattle.std.specs.Result.{IsErrAnd}
+use Rattle.snap_json.proofs.Prelude.{◌≡◌, ℕ, List, ◌++◌, true, false, sym, ap, ◌∙◌, Result, Ok, Err, OnOk, OnErr, IsErrOf, IsErrAnd, json_plain, json_text, json_refuses, Written, stopped, characters, is_stopped, written, before_first_refusal, IsAdded, IsStopped, IsBegun, Wrote, Format, JsonError, JsonKey}
 use Rattle.snap_content.specs.Tree.{Tree}
-use Rattle.snap_json.specs.JsonPlain.{json_plain}
-use Rattle.snap_json.specs.JsonText.{json_text, json_refuses}
-use Rattle.snap_json.specs.Written.{Written, stopped, characters, is_stopped, written, before_first_refusal, IsAdded, IsStopped, IsBegun, Wrote}
-use Rattle.snap_json.specs.declared.format.Format.{Format}
-use Rattle.snap_json.specs.declared.error.JsonError.{JsonError}
-use Rattle.snap_json.specs.declared.error.JsonError.TheVariants.{JsonKey}
 use Rattle.snap_json.proofs.Accepted.{stopped-written, written-whole}
 
 no_error : {E : Type 0} (x : Unit {0}) (e : E) → Ok x ≡ Err e → ⊥

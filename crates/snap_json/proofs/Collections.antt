@@ -1,12 +1,5 @@
 -- What is written of a list, element by element.
-use Rattle.std.proofs.Common.{◌≡◌, ℕ, suc, ◌+◌, ◌<◌, List, [], ◌∷◌, ◌++◌, length, take, drop, get_or, sym, ap, ◌∙◌, take-append-drop, drop-cons}
-use Rattle.std.specs.Prelude.{Result}
-use Rattle.std.proofs.lemmas.List.{get_or_default}
-use Rattle.snap_json.specs.Layout.{opening, closing}
-use Rattle.snap_json.specs.Written.{Written, whole, behind, IsAdded, IsStopped, Wrote}
-use Rattle.snap_json.specs.Walked.{all_written, further, collection}
-use Rattle.snap_json.specs.declared.format.Format.{Format}
-use Rattle.snap_json.specs.declared.error.JsonError.{JsonError}
+use Rattle.snap_json.proofs.Prelude.{◌≡◌, ℕ, suc, ◌+◌, ◌<◌, List, [], ◌∷◌, ◌++◌, length, take, drop, get_or, sym, ap, ◌∙◌, take-append-drop, drop-cons, Result, get_or_default, opening, closing, Written, whole, behind, IsAdded, IsStopped, Wrote, all_written, further, collection, Format, JsonError}
 use Rattle.snap_json.proofs.Behind.{stopped_first, stopped_behind, stopped_as, added_behind, added_as, wrote_behind, wrote_as, behind-assoc, behind-none, behind-end}
 
 all_written-append : {X : Type 0} (g : X → Written) (xs ys : List X) → all_written g (xs ++ ys) ≡ behind (all_written g xs) (all_written g ys)

@@ -1,11 +1,6 @@
 -- The tree that a reader makes of what JSON keeps keeps the same.
-use Rattle.std.proofs.Common.{◌≡◌, ◌^◌, ℕ, ℤ, pos, negsuc, Bool, true, false, ◌||◌, cond, nat_lt, refl, ap, ◌∙◌}
-use Rattle.snap_content.proofs.Booleans.{or_left, or_right}
+use Rattle.snap_json.proofs.Prelude.{◌≡◌, ◌^◌, ℕ, ℤ, pos, negsuc, Bool, true, false, ◌||◌, cond, nat_lt, refl, ap, ◌∙◌, or_left, or_right, Plain, null, bool, int, text, list, dict, Plains, no_items, item, Entries, no_entries, entry, number_tree, content_of, trees_made, pairs_made, json_plain, json_plains, json_pairs, key_plain, json_key, json_text, json_refuses, text_at, is_refused, has_refused, items_refused, entries_refused, Format}
 use Rattle.snap_content.specs.Tree as t
-use Rattle.snap_content.specs.Plain.{Plain, null, bool, int, text, list, dict, Plains, no_items, item, Entries, no_entries, entry, number_tree, content_of, trees_made, pairs_made}
-use Rattle.snap_json.specs.JsonPlain.{json_plain, json_plains, json_pairs, key_plain, json_key}
-use Rattle.snap_json.specs.JsonText.{json_text, json_refuses, text_at, is_refused, has_refused, items_refused, entries_refused}
-use Rattle.snap_json.specs.declared.format.Format.{Format}
 
 natural : (small middle : Bool) (n : ℕ) → json_plain (cond small (t.i64 (pos n)) (cond middle (t.u64 n) (t.u128 n))) ≡ int (pos n)
 natural true middle n = refl

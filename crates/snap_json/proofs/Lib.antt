@@ -1,3 +1,4 @@
+mod Prelude
 pub mod Behind
 pub mod Runs
 pub mod Blanks

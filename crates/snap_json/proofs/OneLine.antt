@@ -1,20 +1,11 @@
 -- No character below a blank stands in a text on one line.
-use Rattle.std.proofs.Common.{◌≡◌, ℕ, zero, suc, ◌+◌, ◌<◌, ◌^◌, ◌/◌, ◌%◌, ℤ, pos, negsuc, List, [], ◌∷◌, ◌++◌, Bool, true, false, ◌||◌, ◌==◌, nat_lt, if◌then◌else◌, refl, sym, ap, ◌∙◌, arith}
+use Rattle.snap_json.proofs.Prelude.{◌≡◌, ℕ, zero, suc, ◌+◌, ◌<◌, ◌^◌, ◌/◌, ◌%◌, ℤ, pos, negsuc, List, [], ◌∷◌, ◌++◌, Bool, true, false, ◌||◌, ◌==◌, nat_lt, if◌then◌else◌, refl, sym, ap, ◌∙◌, arith, decimal, signed_decimal, digit_glyph, list_any, flat_map, codes, or_left, or_right, Plain, null, bool, int, text, list, dict, Plains, no_items, item, Entries, no_entries, entry, opening, closing, comma, colon, json_escaped, json_string, text_at, items_at, entries_at, key_text, member_text, Format, Condensed, SingleLine, Pretty}
 use Rattle.std.proofs.lemmas.Bool.Decides.{nat_tests}
 use Rattle.std.proofs.lemmas.Fmt.{decimal_by_steps_wide}
-use Rattle.std.specs.Fmt.{decimal, signed_decimal, digit_glyph}
-use Rattle.std.specs.List.{list_any, flat_map}
-use Rattle.std.specs.Prelude.{codes}
-use Rattle.snap_content.proofs.Booleans.{or_false, or_left, or_right}
-use Rattle.snap_content.specs.Plain.{Plain, null, bool, int, text, list, dict, Plains, no_items, item, Entries, no_entries, entry}
 use Rattle.snap_content.specs.Readable.{IsNumber, IsWithin, AreWithin, AreEntriesWithin}
 use Rattle.snap_content.specs.Spell.{spell_bool, escaped_code}
-use Rattle.snap_json.specs.Layout.{opening, closing, comma, colon}
-use Rattle.snap_json.specs.Strings.{json_escaped, json_string}
-use Rattle.snap_json.specs.JsonText.{text_at, items_at, entries_at, key_text, member_text}
 use Rattle.snap_json.specs.OneLine.{is_low, is_one_line}
-use Rattle.snap_json.specs.declared.format.Format.{Format}
-use Rattle.snap_json.specs.declared.format.Format.TheVariants.{Condensed, SingleLine, Pretty}
+use Rattle.std.proofs.lemmas.Bool.{or_from}
 
 abbrev Clear : List ℕ → Type 0
 Clear s = list_any is_low s ≡ false
@@ -22,7 +13,7 @@ Clear s = list_any is_low s ≡ false
 both : (a b : List ℕ) → Clear a → Clear b → Clear (a ++ b)
 both [] b h k = k
 both (c ∷ cs) b h k =
-    or_false (is_low c) (list_any is_low (cs ++ b)) (or_left (is_low c) (list_any is_low cs) h) (both cs b (or_right (is_low c) (list_any is_low cs) h) k)
+    or_from (is_low c) (list_any is_low (cs ++ b)) (or_left (is_low c) (list_any is_low cs) h) (both cs b (or_right (is_low c) (list_any is_low cs) h) k)
 
 either : (b : Bool) (x y : List ℕ) → Clear x → Clear y → Clear (if b then x else y)
 either true x y h k = h
@@ -33,12 +24,12 @@ glyph_above d = grind (arith, nat_tests)
 
 code_clear : (c : ℕ) → Clear (escaped_code c)
 code_clear c =
-    or_false (is_low (digit_glyph false (c / 16))) (list_any is_low (digit_glyph false (c % 16) ∷ [])) (glyph_above (c / 16))
-    (or_false (is_low (digit_glyph false (c % 16))) false (glyph_above (c % 16)) refl)
+    or_from (is_low (digit_glyph false (c / 16))) (list_any is_low (digit_glyph false (c % 16) ∷ [])) (glyph_above (c / 16))
+    (or_from (is_low (digit_glyph false (c % 16))) false (glyph_above (c % 16)) refl)
 
 coded : (c : ℕ) (low : Bool) → nat_lt c 32 ≡ low → Clear (if low then escaped_code c else c ∷ [])
 coded c true h = code_clear c
-coded c false h = or_false (is_low c) false h refl
+coded c false h = or_from (is_low c) false h refl
 
 escaped_clear : (c : ℕ) → Clear (json_escaped c)
 escaped_clear c =
@@ -58,8 +49,8 @@ digit_above k = grind (arith, nat_tests)
 
 digits_clear : (n : ℕ) → n < 10 ^ 64 → Clear (decimal n)
 digits_clear n small =
-    decimal_by_steps_wide (λ _ ds. Clear ds) (λ k below. or_false (is_low (48 + k)) false (digit_above k) refl)
-    (λ k ds _ before. both ds ((48 + k % 10) ∷ []) before (or_false (is_low (48 + k % 10)) false (digit_above (k % 10)) refl)) n small
+    decimal_by_steps_wide (λ _ ds. Clear ds) (λ k below. or_from (is_low (48 + k)) false (digit_above k) refl)
+    (λ k ds _ before. both ds ((48 + k % 10) ∷ []) before (or_from (is_low (48 + k % 10)) false (digit_above (k % 10)) refl)) n small
 
 number_clear : (z : ℤ) → IsNumber z → Clear (signed_decimal z)
 number_clear (pos n) h = let small : n < 10 ^ 64 = omega (arith, h) in digits_clear n small

@@ -1,10 +1,6 @@
 -- Texts between double quotes, run by run.
-use Rattle.std.proofs.Common.{◌≡◌, ℕ, List, [], ◌∷◌, ◌++◌, sym, ap, ◌∙◌, append_assoc}
+use Rattle.snap_json.proofs.Prelude.{◌≡◌, ℕ, List, [], ◌∷◌, ◌++◌, sym, ap, ◌∙◌, append_assoc, append-nil, flat_map, json_escaped, IsBareBefore}
 use Rattle.std.proofs.lemmas.Grind.{flat_map-append}
-use Rattle.std.proofs.lemmas.List.{append-nil}
-use Rattle.std.specs.List.{flat_map}
-use Rattle.snap_json.specs.Strings.{json_escaped}
-use Rattle.snap_json.specs.Walked.{IsBareBefore}
 
 -- one more character that stands as it is
 pub bare_more : (text rest next : List ℕ) (c : ℕ) → IsBareBefore text rest → rest ≡ c ∷ next → json_escaped c ≡ c ∷ [] → IsBareBefore text next

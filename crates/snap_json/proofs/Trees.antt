@@ -1,17 +1,11 @@
 -- What is written of each kind of `Content` that holds others.
-use Rattle.std.proofs.Common.{◌≡◌, ℕ, ◌+◌, List, [], ◌∷◌, refl, sym, ap, ◌∙◌, rules}
+use Rattle.snap_json.proofs.Prelude.{◌≡◌, ℕ, ◌+◌, List, [], ◌∷◌, refl, sym, ap, ◌∙◌, rules, tree, item_list, item_trees, pair_list, pair_trees, field_list, field_trees, Items, Pairs, Fields, opening, closing, json_plain, json_plains, json_pairs, json_fields, Written, whole, behind, written, items_written, entries_written, member_written, all_written, further, value_written, byte_written, pair_written, field_written, bytes_written, item_list_written, pair_list_written, field_list_written, variant_written, Format}
 use Rattle.snap_content.specs.Tree as t
 use Rattle.snap_content.specs.Plain as p
-use Rattle.snap_content.specs.View.{tree, item_list, item_trees, pair_list, pair_trees, field_list, field_trees, Items, Pairs, Fields}
 use Rattle.snap_content.specs.declared.content.Content as content
 use Rattle.snap_content.specs.declared.content.Content.{Content}
 use Rattle.std.specs.declared.boxed.Box.{Box}
 use Rattle.std.specs.declared.alloc.Global.{Global}
-use Rattle.snap_json.specs.Layout.{opening, closing}
-use Rattle.snap_json.specs.JsonPlain.{json_plain, json_plains, json_pairs, json_fields}
-use Rattle.snap_json.specs.Written.{Written, whole, behind, written, items_written, entries_written, member_written}
-use Rattle.snap_json.specs.Walked.{all_written, further, value_written, byte_written, pair_written, field_written, bytes_written, item_list_written, pair_list_written, field_list_written, variant_written}
-use Rattle.snap_json.specs.declared.format.Format.{Format}
 use Rattle.snap_json.proofs.Behind.{behind-assoc}
 
 further_items : (f : Format) (n : ℕ) (cs : List Content) → all_written (further f n (value_written f n)) cs ≡ items_written f n (json_plains (item_trees cs))

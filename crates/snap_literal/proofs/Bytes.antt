@@ -1,12 +1,7 @@
 -- What the bytes of a text tell of its characters.
-use Rattle.std.proofs.Common.{◌≡◌, ◌==◌, ℕ, suc, ◌<◌, List, [], ◌∷◌, Bool, true, false, ◌||◌, length, get_or, refl, sym, ap, ◌∙◌, arith, true-eqb}
+use Rattle.snap_literal.proofs.Prelude.{◌≡◌, ◌==◌, ℕ, suc, ◌<◌, List, [], ◌∷◌, Bool, true, false, ◌||◌, length, get_or, refl, sym, ap, ◌∙◌, arith, true-eqb, encodes-chars, encodes-append, encodes-IsAscii, list_any, chars, encode_utf8_all, IsUtf8, IsAscii-list_all, or_left, or_right, or_from}
 use Rattle.std.proofs.lemmas.List.Folds.{list_any-append}
-use Rattle.std.proofs.lemmas.Str.{encodes-chars, encodes-append, encodes-IsAscii}
-use Rattle.std.specs.List.{list_any}
-use Rattle.std.specs.Str.{chars, encode_utf8_all, IsUtf8}
 use Rattle.memchr.specs.Find.{Nowhere, Passes, is_byte}
-use Rattle.snap_content.proofs.Ascii.{IsAscii-list_all}
-use Rattle.snap_content.proofs.Booleans.{or_left, or_right, or_false}
 use Rattle.snap_literal.specs.Lines.{is_return}
 
 not_so : (b : Bool) → (b ≡ true → ⊥) → b ≡ false
@@ -16,7 +11,7 @@ not_so false h = refl
 nowhere : (bs : List ℕ) → ((k : ℕ) → k < length bs → is_byte 13 (get_or bs k 0) ≡ true → ⊥) → list_any (is_byte 13) bs ≡ false
 nowhere [] h = refl
 nowhere (b ∷ bs) h =
-    or_false (is_byte 13 b) (list_any (is_byte 13) bs) (not_so (is_byte 13 b) (h 0 (omega arith))) (nowhere bs (λ k less. h (suc k) (omega (arith, less))))
+    or_from (is_byte 13 b) (list_any (is_byte 13) bs) (not_so (is_byte 13 b) (h 0 (omega arith))) (nowhere bs (λ k less. h (suc k) (omega (arith, less))))
 
 in_character : (c : ℕ) → list_any (is_byte 13) (encode_utf8_all (c ∷ [])) ≡ false → is_return c ≡ false
 in_character c free = by (c == 13) refl
@@ -36,7 +31,7 @@ in_characters (c ∷ cs) free =
     let first = encode_utf8_all (c ∷ []) in
     let rest = encode_utf8_all cs in
     let both = sym (ap (list_any (is_byte 13)) (encodes-append (c ∷ []) cs) ∙ list_any-append (is_byte 13) first rest) ∙ free in
-    or_false (is_return c) (list_any is_return cs)
+    or_from (is_return c) (list_any is_return cs)
     (in_character c (or_left (list_any (is_byte 13) first) (list_any (is_byte 13) rest) both))
     (in_characters cs (or_right (list_any (is_byte 13) first) (list_any (is_byte 13) rest) both))
 

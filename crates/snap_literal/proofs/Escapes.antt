@@ -1,15 +1,5 @@
 -- An escaped character reads as itself.
-use Rattle.std.proofs.Common.{◌≡◌, ◌==◌, ℕ, ◌+◌, ◌*◌, ◌/◌, ◌%◌, ◌<◌, ◌≤◌, List, [], ◌∷◌, ◌++◌, Bool, true, false, ◌||◌, ◌&&◌, cond, nat_lt, nat_le, Some, None, refl, sym, ap, ◌∙◌, arith, append_assoc, true-eqb, lit<}
-use Rattle.std.proofs.lemmas.Bool.Decides.{nat_tests}
-use Rattle.std.proofs.lemmas.Str.{digit_value-digit_char}
-use Rattle.std.specs.Char.{digit_value, digit_char}
-use Rattle.std.specs.List.{list_any, flat_map}
-use lib.Utf8.{scalar, low_scalar}
-use Rattle.snap_content.proofs.Booleans.{or_left, or_right, or_false}
-use Rattle.snap_literal.specs.Units.{unit_of, braced, escape, Unit_read}
-use Rattle.snap_literal.specs.Literal.{Inside}
-use Rattle.snap_literal.specs.Literal.Inside.{ends, goes_on}
-use Rattle.snap_literal.specs.Spelled.{escaped_char, is_control, digits}
+use Rattle.snap_literal.proofs.Prelude.{◌≡◌, ◌==◌, ℕ, ◌+◌, ◌*◌, ◌/◌, ◌%◌, ◌<◌, ◌≤◌, List, [], ◌∷◌, ◌++◌, Bool, true, false, ◌||◌, ◌&&◌, cond, nat_lt, nat_le, Some, None, refl, sym, ap, ◌∙◌, arith, append_assoc, true-eqb, lit<, nat_tests, digit_value-digit_char, digit_value, digit_char, list_any, flat_map, scalar, low_scalar, or_left, or_right, unit_of, braced, escape, Unit_read, Inside, ends, goes_on, escaped_char, is_control, digits, or_from}
 
 digit_no_brace : (d : ℕ) → d < 16 → (digit_char d == 125) ≡ false
 digit_no_brace d h = grind (arith, nat_tests)
@@ -57,7 +47,7 @@ escape_case c k front other rest false e h next = next e
 pub unit-bare : (c : ℕ) (rest : List ℕ) → (c == 92) ≡ false → (c == 34) ≡ false → (c == 13) ≡ false → unit_of (c ∷ rest) ≡ Some (c ∷ [], rest)
 unit-bare c rest a b d =
     ap (λ x. cond x (escape rest) (cond (c == 34 || c == 13) None (Some (c ∷ [], rest)))) a
-    ∙ ap (λ x. cond x None (Some (c ∷ [], rest))) (or_false (c == 34) (c == 13) b d)
+    ∙ ap (λ x. cond x None (Some (c ∷ [], rest))) (or_from (c == 34) (c == 13) b d)
 
 last_case : (c : ℕ) (rest : List ℕ) (b : Bool) → is_control c ≡ b → (c == 92) ≡ false → (c == 34) ≡ false → (c == 13) ≡ false
     → unit_of (cond b (92 ∷ 117 ∷ 123 ∷ (digits c ++ 125 ∷ [])) (c ∷ []) ++ rest) ≡ Some (c ∷ [], rest)

@@ -1,20 +1,8 @@
 -- Framed texts, and lines cut at a byte.
-use Rattle.std.proofs.Common.{◌≡◌, ◌==◌, ℕ, zero, suc, ◌+◌, ◌-◌, ◌<◌, ◌≤◌, List, [], ◌∷◌, ◌++◌, Bool, true, false, ◌||◌, ◌&&◌, cond, Option, None, Some, length, drop, take, refl, sym, ap, ◌∙◌, arith, nat_lt, length-append, subst, Bor, MatchOption, IfSome, inl, inr}
-use Rattle.std.proofs.lemmas.Bool.Decides.{nat_tests}
-use Rattle.std.proofs.lemmas.Bool.{eqb-true}
+use Rattle.snap_literal.proofs.Prelude.{◌≡◌, ◌==◌, ℕ, zero, suc, ◌+◌, ◌-◌, ◌<◌, ◌≤◌, List, [], ◌∷◌, ◌++◌, Bool, true, false, ◌||◌, ◌&&◌, cond, Option, None, Some, length, drop, take, refl, sym, ap, ◌∙◌, arith, nat_lt, length-append, subst, Bor, MatchOption, IfSome, inl, inr, nat_tests, eqb-true, chars-nil, chars-append, encodes-chars, encodes-append, scalars-chars, length-encode, IsCharBoundary-at_seam, IsUtf8-take, IsUtf8-drop, is_whitespace, len_utf8, list_any, list_all, chars, IsUtf8, IsCharBoundary, skip_leading_whitespace, some_same, begins, Lacks, IsLastPart, is_line_end, sign, space_front, last_line, is_framed, framed_text, onto_front, at_byte, encode, encodes, scalar, scalars}
 use Rattle.std.proofs.lemmas.List.{take-append-drop}
-use Rattle.std.proofs.lemmas.Str.{chars-nil, chars-append, encodes-chars, encodes-append, scalars-chars, length-encode, IsCharBoundary-at_seam, IsUtf8-take, IsUtf8-drop}
-use Rattle.std.specs.Char.{is_whitespace, len_utf8}
-use Rattle.std.specs.List.{list_any, list_all}
 use Rattle.std.specs.Prelude.{◌↔◌, IsSome}
-use Rattle.std.specs.Str.{chars, IsUtf8, IsCharBoundary, skip_leading_whitespace}
-use Rattle.snap_content.proofs.Booleans.{some_same}
-use Rattle.snap_content.specs.Front.{begins}
-use Rattle.snap_str.specs.Cut.{Lacks, IsLastPart}
-use Rattle.snap_literal.specs.Lines.{is_line_end}
-use Rattle.snap_literal.specs.Frame.{sign, space_front, last_line, is_framed, framed_text, onto_front, at_byte}
 use Rattle.snap_literal.specs.Signed.{IsSigned}
-use lib.Utf8.{encode, encodes, scalar, scalars}
 
 -- white space in front
 pub space-then : (text : List ℕ) → text ≡ space_front text ++ skip_leading_whitespace text

@@ -1,12 +1,5 @@
 -- No quote of a text is followed by as many `#` as the text requires, nor is one of its framed form.
-use Rattle.std.proofs.Common.{◌≡◌, ◌==◌, ℕ, zero, suc, ◌+◌, ◌<◌, ◌≤◌, max, List, [], ◌∷◌, ◌++◌, Bool, true, false, ◌||◌, cond, Some, None, refl, sym, ap, ◌∙◌, arith, append_assoc, append-nil, true-eqb}
-use Rattle.std.specs.List.{list_any, flat_map}
-use Rattle.std.specs.Option.{is_some}
-use Rattle.snap_content.proofs.Booleans.{or_left, or_right, or_false}
-use Rattle.snap_literal.specs.Hashes.{past_hashes, past_end, has_end, run, required}
-use Rattle.snap_literal.specs.Spelled.{line_parts, framed_line, shown}
-use Rattle.snap_str.specs.Lines.{onto}
-use Rattle.snap_literal.specs.Lines.{is_line_end}
+use Rattle.snap_literal.proofs.Prelude.{◌≡◌, ◌==◌, ℕ, zero, suc, ◌+◌, ◌<◌, ◌≤◌, max, List, [], ◌∷◌, ◌++◌, Bool, true, false, ◌||◌, cond, Some, None, refl, sym, ap, ◌∙◌, arith, append_assoc, append-nil, true-eqb, list_any, flat_map, is_some, or_left, or_right, past_hashes, past_end, has_end, run, required, line_parts, framed_line, shown, onto, is_line_end, or_from}
 
 past_step : (b : Bool) (k : ℕ) (cs : List ℕ) → cond b (suc (run cs)) 0 < suc k → (run cs < k → past_hashes k cs ≡ None) → cond b (past_hashes k cs) None ≡ None
 past_step true k cs h next = next (omega arith)
@@ -25,7 +18,7 @@ pub no-end : (k : ℕ) (cs : List ℕ) → required cs ≤ k → has_end k cs �
 no-end k [] h = refl
 no-end k (c ∷ cs) h =
     let s = end_step (c == 34) k cs h in
-    or_false (is_some (past_end k (c ∷ cs))) (has_end k cs) s.0 (no-end k cs s.1)
+    or_from (is_some (past_end k (c ∷ cs))) (has_end k cs) s.0 (no-end k cs s.1)
 
 -- a line end ends a run
 run-line : (line y : List ℕ) → run (line ++ 10 ∷ y) ≡ run line

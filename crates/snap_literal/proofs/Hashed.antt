@@ -1,12 +1,5 @@
 -- Facts on runs of `#`.
-use Rattle.std.proofs.Common.{◌≡◌, ◌==◌, ℕ, zero, suc, ◌+◌, ◌<◌, ◌≤◌, List, [], ◌∷◌, ◌++◌, Bool, true, false, ◌||◌, cond, max, Option, Some, None, length, refl, sym, ap, ◌∙◌, arith, add-one, eq-eqb, append-nil, length-append}
-use Rattle.std.specs.Option.{is_some}
-use Rattle.std.proofs.lemmas.Bool.Decides.{nat_tests}
-use Rattle.std.proofs.lemmas.Str.{length-le-encodes, encodes-chars}
-use Rattle.std.specs.Str.{chars, IsUtf8}
-use Rattle.snap_content.specs.Front.{begins}
-use Rattle.snap_content.proofs.Booleans.{or_left, or_right}
-use Rattle.snap_literal.specs.Hashes.{hashes, past_hashes, past_end, has_end, run, required}
+use Rattle.snap_literal.proofs.Prelude.{◌≡◌, ◌==◌, ℕ, zero, suc, ◌+◌, ◌<◌, ◌≤◌, List, [], ◌∷◌, ◌++◌, Bool, true, false, ◌||◌, cond, max, Option, Some, None, length, refl, sym, ap, ◌∙◌, arith, add-one, eq-eqb, length-append, is_some, nat_tests, length-le-encodes, encodes-chars, chars, IsUtf8, begins, hashes, past_hashes, run, required}
 
 past_hash : (c n : ℕ) (cs rest : List ℕ) (b : Bool) → (c == 35) ≡ b → cond b (past_hashes n cs) None ≡ Some rest → (past_hashes n cs ≡ Some rest → cs ≡ hashes n ++ rest) → c ∷ cs ≡ 35 ∷ (hashes n ++ rest)
 past_hash c n cs rest true e h more =
@@ -19,10 +12,6 @@ pub past_hashes-is : (n : ℕ) (cs rest : List ℕ) → past_hashes n cs ≡ Som
 past_hashes-is zero cs rest h = cc
 past_hashes-is (suc n) [] rest h = absurd (cc)
 past_hashes-is (suc n) (c ∷ cs) rest h = past_hash c n cs rest (c == 35) refl h (past_hashes-is n cs rest)
-
-pub past_hashes-own : (n : ℕ) (rest : List ℕ) → past_hashes n (hashes n ++ rest) ≡ Some rest
-past_hashes-own zero rest = refl
-past_hashes-own (suc n) rest = past_hashes-own n rest
 
 pub past_hashes-all : (n : ℕ) → past_hashes n (hashes n) ≡ Some []
 past_hashes-all zero = refl

@@ -1,23 +1,13 @@
 -- What is written for an inline text that is its own normal form stands for that text.
-use Rattle.std.proofs.Common.{◌≡◌, ◌==◌, ℕ, zero, suc, ◌+◌, ◌<◌, ◌≤◌, List, [], ◌∷◌, ◌++◌, Bool, true, false, ◌||◌, cond, map, Result, Ok, Err, length, refl, sym, ap, ◌∙◌, arith, append-nil, subst}
-use Rattle.std.specs.List.{list_any, list_all, flat_map}
-use Rattle.std.specs.Char.{is_whitespace}
-use Rattle.std.specs.Result.{IfOk}
-use Rattle.snap_content.specs.Quotes.{ends_badly}
-use Rattle.snap_literal.specs.Normal.{trimmed, unreturned, normal}
+use Rattle.snap_literal.proofs.Prelude.{◌≡◌, ◌==◌, ℕ, zero, suc, ◌+◌, ◌<◌, ◌≤◌, List, [], ◌∷◌, ◌++◌, Bool, true, false, ◌||◌, cond, map, Result, Ok, Err, length, refl, sym, ap, ◌∙◌, arith, append-nil, subst, list_any, list_all, flat_map, is_whitespace, IfOk, ends_badly, trimmed, unreturned, normal, is_return, literal_reads, is_hidden, is_indent, line_parts, framed_line, shown, spelled, meant, IsIndentation, shortest, indentation_of, from_byte, joined_from, is_short, normalized, inline_normal, lines-unbroken, onto, lines, is_line_end}
 use Rattle.snap_literal.proofs.Trimming.{trimmed-well, well-trimmed}
 use Rattle.snap_literal.proofs.Returns.{ends-unreturned, normal-once}
-use Rattle.snap_literal.specs.Literal.{is_return, literal_reads}
-use Rattle.snap_literal.specs.Spelled.{is_hidden, is_indent, line_parts, framed_line, shown, spelled, meant, IsIndentation}
-use Rattle.snap_literal.specs.Inline.{shortest, indentation_of, from_byte, joined_from, is_short, normalized, inline_normal}
 use Rattle.snap_literal.proofs.Free.{any-weaker, any-blank, any-append, free-shown}
 use Rattle.snap_literal.proofs.Meanings.{return_hidden, reads}
 use Rattle.snap_literal.proofs.WellEnded.{IsWell, EndsWell, AreClean, behind, whole, well-cons, well-pieces, clean-pieces, some-pieces, whole-pieces, well-whole, lines-whole, lines-more}
 use Rattle.snap_literal.proofs.Leads.{indent, framed-behind, ends-indented, clean-indented, trimmed-space, space-indentation, from_byte-past, from_byte-indented, joined-whole, from_byte-zeros, whole-append, map-append, length-trimmed, length-unreturned, whole-less, shortest-indented}
-use Rattle.snap_str.proofs.LineTexts.{lines-unbroken}
 use Rattle.snap_literal.specs.OfLiteral.{without_empty, of_literal, ComesBack}
-use Rattle.snap_str.specs.Lines.{onto, lines}
-use Rattle.snap_literal.specs.Lines.{is_line_end}
+use Rattle.std.proofs.lemmas.Bool.{or_right}
 
 record IsTwo (ls : List (List ℕ)) : Type 0 where
   first : List ℕ
@@ -131,10 +121,6 @@ short_unbroken : (text : List ℕ) → list_any is_line_end text ≡ false → i
 short_unbroken [] h = refl
 short_unbroken (c ∷ cs) h = ap is_short (lines-unbroken c cs h)
 
-or_true : (a b : Bool) → b ≡ true → (a || b) ≡ true
-or_true true b h = refl
-or_true false b h = h
-
 well_broken : (text : List ℕ) → list_any is_line_end text ≡ true → ends_badly text ≡ false → EndsWell (line_parts text)
 well_broken [] b h = absurd (cc)
 well_broken (c ∷ cs) b h = well-pieces c cs h
@@ -169,7 +155,7 @@ inline-law indentation text i h = by (list_any is_hidden text) (list_any is_line
 
     by : (a b : Bool) → list_any is_hidden text ≡ a → list_any is_line_end text ≡ b
         → inline_normal (of_literal (cond a text (cond b (flat_map (framed_line indentation) (line_parts text) ++ 10 ∷ indentation) text))) ≡ text
-    by true b e f = unchanged (or_true (is_short (lines (trimmed text))) (list_any is_hidden text) e)
+    by true b e f = unchanged (or_right (is_short (lines (trimmed text))) (list_any is_hidden text) e)
     by false false e f =
         unchanged (ap (λ s. is_short (lines s) || list_any is_hidden text) (trimmed_text text h) ∙ ap (λ s. s || list_any is_hidden text) (short_unbroken text f))
     by false true e f =

@@ -1,17 +1,7 @@
 -- The shortest lead of indented lines, and lines from a byte on.
-use Rattle.std.proofs.Common.{◌≡◌, ◌==◌, ℕ, zero, suc, ◌+◌, ◌-◌, ◌<◌, ◌≤◌, List, [], ◌∷◌, ◌++◌, Bool, true, false, ◌||◌, ◌&&◌, not, cond, map, nat_lt, length, refl, sym, ap, ◌∙◌, arith, append_assoc, append-nil, true-eqb, length-append}
-use Rattle.std.proofs.lemmas.Bool.Decides.{nat_tests}
-use Rattle.std.specs.List.{list_any, list_all, flat_map}
-use Rattle.std.specs.Char.{is_whitespace, len_utf8}
-use Rattle.snap_content.specs.Front.{begins}
-use Rattle.snap_literal.specs.Normal.{before_trimmed, trimmed, unreturned, normal}
-use Rattle.snap_literal.specs.Spelled.{is_indent, IsIndentation, framed_line}
-use Rattle.snap_literal.specs.Inline.{lead, shortest, from_byte, joined_from, behind_end}
-use Rattle.snap_literal.proofs.Free.{and_left, and_right, any-append}
+use Rattle.snap_literal.proofs.Prelude.{◌≡◌, ◌==◌, ℕ, zero, suc, ◌+◌, ◌-◌, ◌<◌, ◌≤◌, List, [], ◌∷◌, ◌++◌, Bool, true, false, ◌||◌, ◌&&◌, not, cond, map, nat_lt, length, refl, sym, ap, ◌∙◌, arith, append_assoc, append-nil, true-eqb, length-append, nat_tests, list_any, list_all, flat_map, is_whitespace, len_utf8, begins, before_trimmed, trimmed, unreturned, normal, is_indent, IsIndentation, framed_line, lead, shortest, from_byte, joined_from, behind_end, is_return, is_line_end, lines, both_second, both_first}
+use Rattle.snap_literal.proofs.Free.{any-append}
 use Rattle.snap_literal.proofs.WellEnded.{IsWell, EndsWell, AreClean, behind, whole, well-append}
-use Rattle.snap_literal.specs.Literal.{is_return}
-use Rattle.snap_literal.specs.Lines.{is_line_end}
-use Rattle.snap_str.specs.Lines.{lines}
 
 abbrev pub indent : List ℕ → List ℕ → List ℕ
 indent indentation [] = []
@@ -44,8 +34,8 @@ clean-indented indentation (l ∷ ls) h k c =
 pub empty_trim : (cs : List ℕ) → list_all is_whitespace cs ≡ true → trimmed cs ≡ []
 empty_trim [] h = refl
 empty_trim (c ∷ cs) h =
-    ap (before_trimmed c) (empty_trim cs (and_right (is_whitespace c) (list_all is_whitespace cs) h))
-    ∙ ap (λ b. cond b [] (c ∷ [])) (and_left (is_whitespace c) (list_all is_whitespace cs) h)
+    ap (before_trimmed c) (empty_trim cs (both_second (is_whitespace c) (list_all is_whitespace cs) h))
+    ∙ ap (λ b. cond b [] (c ∷ [])) (both_first (is_whitespace c) (list_all is_whitespace cs) h)
 
 pub trimmed-space : (text cs : List ℕ) → list_all is_whitespace cs ≡ true → trimmed (text ++ cs) ≡ trimmed text
 trimmed-space [] cs h = empty_trim cs h
@@ -59,8 +49,8 @@ blank_space c false false e f h = absurd (cc)
 pub space-indentation : (indentation : List ℕ) → IsIndentation indentation → list_all is_whitespace indentation ≡ true
 space-indentation [] h = refl
 space-indentation (c ∷ cs) h =
-    ap (λ b. b && list_all is_whitespace cs) (blank_space c (c == 32) (c == 9) refl refl (and_left (is_indent c) (list_all is_indent cs) h))
-    ∙ space-indentation cs (and_right (is_indent c) (list_all is_indent cs) h)
+    ap (λ b. b && list_all is_whitespace cs) (blank_space c (c == 32) (c == 9) refl refl (both_first (is_indent c) (list_all is_indent cs) h))
+    ∙ space-indentation cs (both_second (is_indent c) (list_all is_indent cs) h)
 
 -- lines from a byte on
 pub from_byte-zero : (line : List ℕ) → from_byte 0 line ≡ line
@@ -81,11 +71,11 @@ not_inside n w h = grind (arith, nat_tests)
 pub from_byte-past : (indentation line : List ℕ) → IsIndentation indentation → from_byte (length indentation) (indentation ++ line) ≡ line
 from_byte-past [] line h = from_byte-zero line
 from_byte-past (c ∷ cs) line h =
-    let w = blank_width c (c == 32) (c == 9) refl refl (and_left (is_indent c) (list_all is_indent cs) h) in
+    let w = blank_width c (c == 32) (c == 9) refl refl (both_first (is_indent c) (list_all is_indent cs) h) in
     let n : suc (length cs) - len_utf8 c ≡ length cs = omega (arith, w) in
     ap (λ b. cond b (c ∷ (cs ++ line)) (cond (nat_lt (suc (length cs)) (len_utf8 c)) [] (from_byte (suc (length cs) - len_utf8 c) (cs ++ line)))) (not_none (length cs))
     ∙ ap (λ b. cond b [] (from_byte (suc (length cs) - len_utf8 c) (cs ++ line))) (not_inside (length cs) (len_utf8 c) w)
-    ∙ ap (λ k. from_byte k (cs ++ line)) n ∙ from_byte-past cs line (and_right (is_indent c) (list_all is_indent cs) h)
+    ∙ ap (λ k. from_byte k (cs ++ line)) n ∙ from_byte-past cs line (both_second (is_indent c) (list_all is_indent cs) h)
 
 pub from_byte-indented : (indentation : List ℕ) (ls : List (List ℕ)) → IsIndentation indentation → map (from_byte (length indentation)) (map (indent indentation) ls) ≡ ls
 from_byte-indented indentation [] h = refl
@@ -171,8 +161,8 @@ whole-less n (l ∷ m ∷ ls) h =
 pub lead-blank : (indentation line : List ℕ) → IsIndentation indentation → lead (indentation ++ line) ≡ indentation ++ lead line
 lead-blank [] line h = refl
 lead-blank (c ∷ cs) line h =
-    ap (λ b. cond b (c ∷ lead (cs ++ line)) []) (and_left (is_indent c) (list_all is_indent cs) h)
-    ∙ ap (λ t. c ∷ t) (lead-blank cs line (and_right (is_indent c) (list_all is_indent cs) h))
+    ap (λ b. cond b (c ∷ lead (cs ++ line)) []) (both_first (is_indent c) (list_all is_indent cs) h)
+    ∙ ap (λ t. c ∷ t) (lead-blank cs line (both_second (is_indent c) (list_all is_indent cs) h))
 
 shortest-filled : (found : Bool) (best line rest_of : List ℕ) (c : ℕ) (ls : List (List ℕ)) → line ≡ c ∷ rest_of
     → shortest found best (line ∷ ls) ≡ cond (not found || nat_lt (length (lead line)) (length best)) (shortest true (lead line) ls) (shortest found best ls)

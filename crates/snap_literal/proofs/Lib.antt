@@ -1,3 +1,4 @@
+mod Prelude
 pub mod Trimming
 pub mod Returns
 mod Hashed

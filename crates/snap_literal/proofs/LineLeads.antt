@@ -1,28 +1,12 @@
 -- Lines of a text, and their leads.
-use Rattle.std.proofs.Common.{◌≡◌, ◌==◌, ℕ, ◌<◌, List, [], ◌∷◌, ◌++◌, Bool, true, false, ◌||◌, ◌&&◌, cond, length, refl, sym, ap, ◌∙◌, append_assoc, append-nil, nat_lt, ◌-◌, arith}
-use Rattle.std.proofs.lemmas.Bool.Decides.{nat_tests}
-use Rattle.std.specs.List.{list_any, list_all}
-use Rattle.std.specs.Char.{is_ascii, len_utf8}
-use Rattle.std.proofs.lemmas.Str.{chars-nil}
-use Rattle.std.specs.Str.{chars, IsUtf8, IsAscii}
-use Rattle.snap_content.specs.Front.{begins}
-use Rattle.snap_content.proofs.Ascii.{IsAscii-list_all}
-use Rattle.snap_content.proofs.Booleans.{or_left, or_right}
+use Rattle.snap_literal.proofs.Prelude.{◌≡◌, ◌==◌, ℕ, ◌<◌, List, [], ◌∷◌, ◌++◌, Bool, true, false, ◌||◌, ◌&&◌, cond, length, refl, sym, ap, ◌∙◌, append_assoc, append-nil, nat_lt, ◌-◌, arith, nat_tests, list_all, is_ascii, len_utf8, chars-nil, chars, IsUtf8, IsAscii-list_all, trimmed, is_indent, lead, from_byte, shortest, indentation_of, lines}
 use Rattle.snap_content.proofs.Ends.{bytes_are}
-use Rattle.snap_literal.specs.Lines.{IsUnbroken, IsLineThen, is_line_end}
-use Rattle.snap_literal.specs.Normal.{trimmed}
-use Rattle.snap_literal.specs.Spelled.{is_indent}
-use Rattle.snap_literal.specs.Inline.{lead, from_byte, shortest, indentation_of}
-use Rattle.snap_str.specs.Lines.{onto, lines, without_return}
 
 -- what was passed of a line are blanks and tabs
 pub record IsLead (line rest : List ℕ) : Type 0 where
   pub front : List ℕ
   pub is : line ≡ front ++ rest
   pub more : lead line ≡ front ++ lead rest
-
-pub lead_start : (line : List ℕ) → IsLead line line
-lead_start line = record { front = []; is = refl; more = refl }
 
 blank_ascii : (c : ℕ) → is_indent c ≡ true → is_ascii c ≡ true
 blank_ascii c h = grind (arith, nat_tests)
@@ -38,10 +22,10 @@ lead_ascii (c ∷ cs) = by (is_indent c) refl (lead_ascii cs)
 pub lead-bytes : (bs line : List ℕ) → IsUtf8 bs → chars bs ≡ lead line → length bs ≡ length (lead line)
 lead-bytes bs line u is = ap length (bytes_are bs (lead line) u (IsAscii-list_all (lead line) (lead_ascii line)) is)
 
-other_test : (a b : ℕ) → (a ≡ b → ⊥) → (a == b) ≡ false
+pub other_test : (a b : ℕ) → (a ≡ b → ⊥) → (a == b) ≡ false
 other_test a b h = grind (arith, nat_tests)
 
-same_test : (a b : ℕ) → a ≡ b → (a == b) ≡ true
+pub same_test : (a b : ℕ) → a ≡ b → (a == b) ≡ true
 same_test a b h = grind (arith, nat_tests)
 
 below_test : (a b : ℕ) → a < b → nat_lt a b ≡ true

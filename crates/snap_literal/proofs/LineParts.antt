@@ -1,11 +1,5 @@
 -- Texts cut at their line ends, and framed again.
-use Rattle.std.proofs.Common.{◌≡◌, ◌==◌, ℕ, List, [], ◌∷◌, ◌++◌, Bool, true, false, cond, Result, Ok, Err, refl, sym, ap, ◌∙◌, append-nil, append_assoc}
-use Rattle.std.specs.List.{list_any, flat_map}
-use Rattle.std.specs.Result.{OnOk}
-use Rattle.snap_content.proofs.Booleans.{or_left, or_right}
-use Rattle.snap_literal.specs.Lines.{IsUnbroken, IsLineThen, is_line_end}
-use Rattle.snap_literal.specs.Spelled.{line_parts, framed_line, shown}
-use Rattle.snap_str.specs.Lines.{onto}
+use Rattle.snap_literal.proofs.Prelude.{◌≡◌, ◌==◌, ℕ, List, [], ◌∷◌, ◌++◌, Bool, true, false, cond, Result, Ok, Err, refl, sym, ap, ◌∙◌, append-nil, append_assoc, list_any, flat_map, OnOk, or_left, or_right, IsUnbroken, IsLineThen, is_line_end, line_parts, framed_line, shown, onto}
 
 pub pieces-line : (line more : List ℕ) → list_any is_line_end line ≡ false → line_parts (line ++ 10 ∷ more) ≡ line ∷ line_parts more
 pieces-line [] more h = refl

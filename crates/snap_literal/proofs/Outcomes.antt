@@ -1,16 +1,12 @@
 -- What a reader's steps and results come to.
-use Rattle.std.proofs.Common.{◌≡◌, ◌==◌, ℕ, ◌+◌, ◌*◌, ◌^◌, ◌<◌, ◌≤◌, List, [], ◌∷◌, ◌++◌, Bool, true, false, Option, Some, None, Result, Ok, Err, refl, sym, ap, ◌∙◌, subst, arith, inl, inr, ◌⊎◌, lit<}
+use Rattle.snap_literal.proofs.Prelude.{◌≡◌, ◌==◌, ℕ, ◌+◌, ◌*◌, ◌^◌, ◌<◌, ◌≤◌, List, [], ◌∷◌, ◌++◌, Bool, true, false, Option, Some, None, Result, Ok, Err, refl, sym, ap, ◌∙◌, subst, arith, inl, inr, ◌⊎◌, lit<, nat_tests, MatchResult, OnOk, is_err, begins, hashes, past_end, Inside, IsBody, IsQuoted, IsRaw, literal_reads}
 use Rattle.std.proofs.Math.Nat.{pow-le-pow_right}
-use Rattle.std.proofs.lemmas.Bool.Decides.{nat_tests}
-use Rattle.std.specs.Result.{MatchResult, OnOk, is_err}
-use Rattle.snap_content.specs.Front.{begins}
-use Rattle.snap_literal.specs.Hashes.{hashes, past_end}
-use Rattle.snap_literal.specs.Literal.{Inside, IsBody, IsQuoted, IsRaw, literal_reads}
 use Rattle.snap_literal.specs.Refusal.{Refuses}
 use Rattle.snap_literal.specs.declared.error.LiteralError.{LiteralError}
 use Rattle.snap_literal.specs.declared.error.LiteralError.TheVariants.{NotLiteral, OutOfMemory}
 use Rattle.snap_literal.proofs.Hashed.{differ}
 use Rattle.snap_literal.proofs.Reading.{body_ahead, body_behind, body_ends, body_more, body_empty, body_return, raw_body}
+use Rattle.snap_literal.proofs.LineLeads.{other_test, same_test}
 
 pub ok_then : {T E : Type 0} (r : Result T E) (P : Type 0) → false ≡ is_err r → OnOk r P → P
 ok_then (Ok x) P h k = k
@@ -18,12 +14,6 @@ ok_then (Err e) P h k = absurd (cc)
 
 pub not_alone : (rest behind more : List ℕ) (x : ℕ) → rest ≡ 34 ∷ behind → behind ≡ x ∷ more → rest ≡ 34 ∷ [] → ⊥
 not_alone rest behind more x e f g = cc
-
-other_test : (a b : ℕ) → (a ≡ b → ⊥) → (a == b) ≡ false
-other_test a b h = grind (arith, nat_tests)
-
-same_test : (a b : ℕ) → a ≡ b → (a == b) ≡ true
-same_test a b h = grind (arith, nat_tests)
 
 pub body_done : (n : ℕ) (rest behind : List ℕ) → past_end n rest ≡ Some behind → behind ≡ [] → IsBody n rest []
 body_done n [] behind h e = absurd (cc)

@@ -1,23 +1,11 @@
 -- Reading a literal from its front.
-use Rattle.std.proofs.Common.{◌≡◌, ◌==◌, ℕ, zero, suc, ◌+◌, List, [], ◌∷◌, ◌++◌, Bool, true, false, ◌||◌, ◌⊎◌, cond, Option, Some, None, length, refl, sym, ap, ◌∙◌, subst, arith, append-nil, append_assoc, length-append, inl, inr}
-use Rattle.std.specs.Option.{is_some}
-use Rattle.std.specs.List.{list_any}
-use Rattle.std.proofs.lemmas.Bool.Decides.{nat_tests}
-use Rattle.snap_content.specs.Front.{begins}
-use Rattle.snap_content.proofs.Booleans.{or_left, or_right, or_false, some_same}
-use Rattle.snap_literal.specs.Units.{unit_of}
-use Rattle.snap_literal.specs.Hashes.{hashes, past_hashes, past_end, has_end}
-use Rattle.snap_literal.specs.Literal.{Inside, IsBody, IsQuoted, IsRaw, literal_reads, is_return}
-use Rattle.snap_literal.specs.Literal.Inside.{ends, goes_on}
+use Rattle.snap_literal.proofs.Prelude.{◌≡◌, ◌==◌, ℕ, ◌+◌, List, [], ◌∷◌, ◌++◌, Bool, true, false, ◌||◌, ◌⊎◌, cond, Some, None, length, refl, sym, ap, ◌∙◌, subst, arith, append-nil, append_assoc, length-append, inl, inr, is_some, list_any, nat_tests, begins, or_left, or_right, some_same, unit_of, hashes, past_hashes, past_end, has_end, Inside, IsBody, IsQuoted, IsRaw, literal_reads, is_return, ends, goes_on, or_from}
 use Rattle.snap_literal.proofs.Hashed.{past_hashes-is, past_hashes-all, past_hashes-longer, past_hashes-quote, count-one, differ}
 
 -- what was made, and what is left, are the whole
 pub record IsReading (Reads : List ℕ → List ℕ → Type 0) (source made rest : List ℕ) : Type 0 where
   pub forward : (t : List ℕ) → Reads rest t → Reads source (made ++ t)
   pub back : (t : List ℕ) → Reads source t → (u : List ℕ) × Reads rest u
-
-pub reading_start : (Reads : List ℕ → List ℕ → Type 0) (source : List ℕ) → IsReading Reads source [] source
-reading_start Reads source = record { forward = λ t h. h; back = λ t h. (t, h) }
 
 pub reading_step : (Reads : List ℕ → List ℕ → Type 0) (source made rest next given more : List ℕ) → IsReading Reads source made rest → next ≡ made ++ given
     → ((t : List ℕ) → Reads more t → Reads rest (given ++ t)) → ((t : List ℕ) → Reads rest t → (u : List ℕ) × Reads more u) → IsReading Reads source next more
@@ -70,8 +58,8 @@ inside_none rest u never t (goes_on other last after v n k) = let e : None ≡ S
 pub body_ahead : (n c : ℕ) (more : List ℕ) → (c == 13) ≡ false → past_end n (c ∷ more) ≡ None → (t : List ℕ) → IsBody n more t → IsBody n (c ∷ more) (c ∷ t)
 body_ahead n c more not_return no_end t h = record {
   is = ap (λ r. c ∷ r) h.is;
-  no_return = or_false (c == 13) (list_any is_return t) not_return h.no_return;
-  no_end = or_false (is_some (past_end n (c ∷ t))) (has_end n t) (by (c == 34) (ap is_some (ap (λ r. past_end n (c ∷ r)) (sym h.is) ∙ no_end))) h.no_end;
+  no_return = or_from (c == 13) (list_any is_return t) not_return h.no_return;
+  no_end = or_from (is_some (past_end n (c ∷ t))) (has_end n t) (by (c == 34) (ap is_some (ap (λ r. past_end n (c ∷ r)) (sym h.is) ∙ no_end))) h.no_end;
 }
   where
     by : (b : Bool) → is_some (cond b (past_hashes n (t ++ 34 ∷ hashes n)) None) ≡ false → is_some (cond b (past_hashes n t) None) ≡ false

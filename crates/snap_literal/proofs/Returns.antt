@@ -1,12 +1,6 @@
 -- Texts without the returns in front of a line's end.
-use Rattle.std.proofs.Common.{◌≡◌, ◌≢◌, ◌==◌, ℕ, List, [], ◌∷◌, ◌++◌, Bool, true, false, ◌&&◌, cond, refl, sym, ap, ◌∙◌, append_assoc, true-eqb}
-use Rattle.std.specs.List.{list_any}
-use Rattle.snap_content.specs.Front.{begins}
-use Rattle.snap_content.specs.Quotes.{ends_badly}
-use Rattle.snap_literal.specs.Normal.{unreturned, trimmed, normal}
-use Rattle.snap_literal.specs.Lines.{is_line_end, IsUnbroken, IsLineThen, before_return, without_returns}
+use Rattle.snap_literal.proofs.Prelude.{◌≡◌, ◌≢◌, ◌==◌, ℕ, List, [], ◌∷◌, ◌++◌, Bool, true, false, ◌&&◌, cond, refl, sym, ap, ◌∙◌, append_assoc, true-eqb, list_any, begins, ends_badly, unreturned, trimmed, normal, is_line_end, IsUnbroken, IsLineThen, before_return, without_returns, or_left, or_right}
 use Rattle.snap_literal.proofs.Trimming.{trimmed-well, well-trimmed}
-use Rattle.snap_content.proofs.Booleans.{or_left, or_right}
 
 -- one step of `unreturned`
 abbrev stepped : ℕ → List ℕ → List ℕ

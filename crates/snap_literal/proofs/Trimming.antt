@@ -1,11 +1,5 @@
 -- Texts without the white space at their end.
-use Rattle.std.proofs.Common.{◌≡◌, ◌==◌, ℕ, List, [], ◌∷◌, ◌++◌, Bool, true, false, ◌&&◌, cond, length, refl, sym, ap, ◌∙◌, arith}
-use Rattle.std.specs.Char.{is_whitespace}
-use Rattle.std.specs.Str.{drop_trailing_whitespace, trim_end, chars, IsUtf8}
-use Rattle.std.proofs.lemmas.Bool.Decides.{nat_tests}
-use Rattle.std.proofs.lemmas.Str.{chars_from_encodes}
-use Rattle.snap_content.specs.Quotes.{ends_badly}
-use Rattle.snap_literal.specs.Normal.{before_trimmed, trimmed}
+use Rattle.snap_literal.proofs.Prelude.{◌≡◌, ◌==◌, ℕ, List, [], ◌∷◌, ◌++◌, Bool, true, false, ◌&&◌, cond, length, refl, sym, ap, ◌∙◌, arith, is_whitespace, drop_trailing_whitespace, trim_end, chars, IsUtf8, nat_tests, chars_from_encodes, ends_badly, before_trimmed, trimmed}
 
 -- what std leaves of a text is its trimmed form
 same_step : (c : ℕ) (cs : List ℕ) → cond (is_whitespace c && length cs == 0) [] (c ∷ cs) ≡ before_trimmed c cs

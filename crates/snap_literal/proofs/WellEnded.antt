@@ -1,15 +1,6 @@
 -- Lines whose last is not empty and ends well, and their text.
-use Rattle.std.proofs.Common.{◌≡◌, ◌==◌, ℕ, suc, ◌+◌, ◌<◌, ◌≤◌, List, [], ◌∷◌, ◌++◌, Bool, true, false, ◌||◌, cond, map, length, refl, sym, ap, ◌∙◌, arith, append_assoc, append-nil, true-eqb, subst}
-use Rattle.std.specs.List.{list_any, flat_map}
-use Rattle.std.specs.Char.{is_whitespace}
-use Rattle.snap_content.specs.Quotes.{ends_badly}
-use Rattle.snap_content.proofs.Booleans.{or_left, or_right, or_false}
-use Rattle.snap_literal.specs.Literal.{is_return}
-use Rattle.snap_literal.specs.Spelled.{line_parts}
+use Rattle.snap_literal.proofs.Prelude.{◌≡◌, ◌==◌, ℕ, suc, ◌+◌, ◌<◌, ◌≤◌, List, [], ◌∷◌, ◌++◌, Bool, true, false, ◌||◌, cond, map, length, refl, sym, ap, ◌∙◌, arith, append_assoc, append-nil, true-eqb, subst, list_any, flat_map, is_whitespace, ends_badly, or_left, or_right, is_return, line_parts, lines-line, lines-unbroken, onto, lines, without_return, is_line_end, or_from}
 use Rattle.snap_literal.proofs.Free.{any-append}
-use Rattle.snap_str.proofs.LineTexts.{lines-line, lines-unbroken}
-use Rattle.snap_str.specs.Lines.{onto, lines, without_return}
-use Rattle.snap_literal.specs.Lines.{is_line_end}
 
 pub record IsWell (text : List ℕ) : Type 0 where
   pub first : ℕ
@@ -51,8 +42,8 @@ AreClean (line ∷ rest) = (list_any is_line_end line ≡ false) × (list_any is
 
 clean_put : (c : ℕ) (ls : List (List ℕ)) (b : Bool) → (c == 10) ≡ b → is_return c ≡ false → AreClean ls → AreClean (cond b ([] ∷ ls) (onto c ls))
 clean_put c ls true e r h = (refl, refl, h)
-clean_put c [] false e r h = (or_false (c == 10) false e refl, or_false (c == 13) false r refl, tt)
-clean_put c (l ∷ ls) false e r h = (or_false (c == 10) (list_any is_line_end l) e h.0, or_false (c == 13) (list_any is_return l) r h.1, h.2)
+clean_put c [] false e r h = (or_from (c == 10) false e refl, or_from (c == 13) false r refl, tt)
+clean_put c (l ∷ ls) false e r h = (or_from (c == 10) (list_any is_line_end l) e h.0, or_from (c == 13) (list_any is_return l) r h.1, h.2)
 
 pub clean-pieces : (text : List ℕ) → list_any is_return text ≡ false → AreClean (line_parts text)
 clean-pieces [] h = (refl, refl, tt)

@@ -1,23 +1,11 @@
 -- The normal form of an inline text, line by line of its trimmed text.
-use Rattle.std.proofs.Common.{◌≡◌, ◌==◌, ℕ, zero, suc, ◌+◌, ◌-◌, ◌<◌, ◌≤◌, List, [], ◌∷◌, ◌++◌, Bool, true, false, ◌||◌, ◌&&◌, not, cond, length, map, nat_lt, refl, sym, ap, ◌∙◌, arith, append_assoc, append-nil, subst, inl, inr, ◌⊎◌}
-use Rattle.std.proofs.lemmas.Bool.Decides.{nat_tests}
-use Rattle.std.proofs.lemmas.Bool.{or_parts, eqb-true, ltb-true, ltb-false}
-use Rattle.std.specs.Char.{is_whitespace, len_utf8}
-use Rattle.std.specs.List.{list_any, list_all, flat_map}
-use Rattle.snap_content.specs.Quotes.{ends_badly}
-use Rattle.snap_str.specs.Cut.{Lacks}
-use Rattle.snap_str.specs.Lines.{onto, lines, without_return, begins_line_end}
-use Rattle.snap_str.proofs.LineTexts.{lines-line, lines-unbroken, without_return-push}
-use Rattle.snap_literal.specs.Inline.{lead, shortest, indentation_of, from_byte, behind_end, joined_from, is_short, normalized, inline_normal, inline_width, written_lines, written}
-use Rattle.snap_literal.specs.Lines.{IsUnbroken, IsLineThen, is_line_end, without_returns, before_return}
-use Rattle.snap_literal.specs.Normal.{before_trimmed, trimmed, unreturned, normal}
-use Rattle.snap_literal.specs.Spelled.{is_indent, line_parts}
-use Rattle.snap_literal.proofs.Free.{and_left, and_right, any-append}
+use Rattle.snap_literal.proofs.Prelude.{◌≡◌, ◌==◌, ℕ, zero, suc, ◌+◌, ◌-◌, ◌<◌, ◌≤◌, List, [], ◌∷◌, ◌++◌, Bool, true, false, ◌||◌, ◌&&◌, not, cond, length, nat_lt, refl, sym, ap, ◌∙◌, arith, append_assoc, append-nil, subst, inl, inr, ◌⊎◌, or_parts, eqb-true, ltb-false, is_whitespace, len_utf8, list_any, list_all, flat_map, ends_badly, Lacks, onto, lines, without_return, begins_line_end, lines-line, lines-unbroken, lead, shortest, indentation_of, from_byte, behind_end, joined_from, is_short, inline_normal, inline_width, written_lines, written, IsUnbroken, IsLineThen, without_returns, before_return, before_trimmed, trimmed, unreturned, normal, is_indent, line_parts, both_second, both_first}
+use Rattle.snap_literal.proofs.Free.{any-append}
 use Rattle.snap_literal.proofs.Leads.{from_byte-zero, trimmed-space, blank_space, blank_width, not_none, not_inside, filled}
 use Rattle.snap_literal.proofs.LineParts.{pieces-line, pieces-unbroken}
 use Rattle.snap_literal.proofs.Returns.{unreturned-line, unreturned-unbroken}
 use Rattle.snap_literal.proofs.Trimming.{trimmed-well, well-trimmed, trimmed-behind}
-use Rattle.snap_literal.proofs.WellEnded.{IsWell, EndsWell, behind, whole, well-cons, well-append, well-pieces, some-pieces, whole-pieces}
+use Rattle.snap_literal.proofs.WellEnded.{IsWell, EndsWell, whole, well-pieces, some-pieces, whole-pieces}
 
 pub written-line : (byte : ℕ) (text line more : List ℕ) → IsLineThen text line more → written byte text ≡ without_returns (from_byte byte line) ++ 10 ∷ written byte more
 written-line byte text line more h =
@@ -109,7 +97,7 @@ chop-lacks = chop-cases (λ long short. Lacks 10 long → Lacks 10 short) (λ cs
 -- white space stays white space, wherever it is cut
 white-cut : (n : ℕ) (cs : List ℕ) → list_all is_whitespace cs ≡ true → list_all is_whitespace (from_byte n cs) ≡ true
 white-cut n [] h = refl
-white-cut n (c ∷ cs) h = by (n == 0) (nat_lt n (len_utf8 c)) (white-cut (n - len_utf8 c) cs (and_right (is_whitespace c) (list_all is_whitespace cs) h))
+white-cut n (c ∷ cs) h = by (n == 0) (nat_lt n (len_utf8 c)) (white-cut (n - len_utf8 c) cs (both_second (is_whitespace c) (list_all is_whitespace cs) h))
   where
     by : (a b : Bool) → list_all is_whitespace (from_byte (n - len_utf8 c) cs) ≡ true → list_all is_whitespace (cond a (c ∷ cs) (cond b [] (from_byte (n - len_utf8 c) cs))) ≡ true
     by true b k = h
@@ -131,12 +119,12 @@ white_put c ls false false h k = white_onto c ls h k
 
 white-lines : (cs : List ℕ) → list_all is_whitespace cs ≡ true → AreWhite (lines cs)
 white-lines [] h = tt
-white-lines (c ∷ cs) h = white_put c (lines cs) (c == 10) (c == 13 && begins_line_end cs) (and_left (is_whitespace c) (list_all is_whitespace cs) h) (white-lines cs (and_right (is_whitespace c) (list_all is_whitespace cs) h))
+white-lines (c ∷ cs) h = white_put c (lines cs) (c == 10) (c == 13 && begins_line_end cs) (both_first (is_whitespace c) (list_all is_whitespace cs) h) (white-lines cs (both_second (is_whitespace c) (list_all is_whitespace cs) h))
 
 white-append : (xs ys : List ℕ) → list_all is_whitespace xs ≡ true → list_all is_whitespace ys ≡ true → list_all is_whitespace (xs ++ ys) ≡ true
 white-append [] ys h k = k
 white-append (x ∷ xs) ys h k =
-    ap (λ b. b && list_all is_whitespace (xs ++ ys)) (and_left (is_whitespace x) (list_all is_whitespace xs) h) ∙ white-append xs ys (and_right (is_whitespace x) (list_all is_whitespace xs) h) k
+    ap (λ b. b && list_all is_whitespace (xs ++ ys)) (both_first (is_whitespace x) (list_all is_whitespace xs) h) ∙ white-append xs ys (both_second (is_whitespace x) (list_all is_whitespace xs) h) k
 
 white-joined : (n : ℕ) (ls : List (List ℕ)) → AreWhite ls → list_all is_whitespace (flat_map (behind_end n) ls) ≡ true
 white-joined n [] h = refl
@@ -178,17 +166,6 @@ cut-well (suc n) (c ∷ d ∷ ds) le w = by (is_indent c) refl (λ k. cut-well n
           more = λ end. step end ∙ here.more end ∙ ap (λ t. t ++ end) (sym (cut-indent n c (d ∷ ds) e));
         }
 
--- the shortest lead is no longer than that of the last line
-least-best : (best : List ℕ) (ls : List (List ℕ)) → length (shortest true best ls) ≤ length best
-least-best best [] = omega arith
-least-best best ([] ∷ ls) = least-best best ls
-least-best best ((c ∷ cs) ∷ ls) = by (nat_lt (length (lead (c ∷ cs))) (length best)) refl (least-best (lead (c ∷ cs)) ls) (least-best best ls)
-  where
-    by : (b : Bool) → nat_lt (length (lead (c ∷ cs))) (length best) ≡ b → length (shortest true (lead (c ∷ cs)) ls) ≤ length (lead (c ∷ cs)) → length (shortest true best ls) ≤ length best
-        → length (cond b (shortest true (lead (c ∷ cs)) ls) (shortest true best ls)) ≤ length best
-    by true e h k = let less : length (lead (c ∷ cs)) < length best = ltb-true _ _ e in omega (arith, h, less)
-    by false e h k = k
-
 abbrev last_of : List (List ℕ) → List ℕ
 last_of [] = []
 last_of (line ∷ []) = line
@@ -229,14 +206,14 @@ first_end (c ∷ cs) = by (c == 10) refl (first_end cs)
 white-back : (before after : List ℕ) → list_all is_whitespace (before ++ 10 ∷ after) ≡ true → (list_all is_whitespace before ≡ true) × (list_all is_whitespace after ≡ true)
 white-back [] after h = (refl, h)
 white-back (c ∷ before) after h =
-    let more = white-back before after (and_right (is_whitespace c) (list_all is_whitespace (before ++ 10 ∷ after)) h) in
-    (ap (λ b. b && list_all is_whitespace before) (and_left (is_whitespace c) (list_all is_whitespace (before ++ 10 ∷ after)) h) ∙ more.0, more.1)
+    let more = white-back before after (both_second (is_whitespace c) (list_all is_whitespace (before ++ 10 ∷ after)) h) in
+    (ap (λ b. b && list_all is_whitespace before) (both_first (is_whitespace c) (list_all is_whitespace (before ++ 10 ∷ after)) h) ∙ more.0, more.1)
 
 white-front : (cs : List ℕ) → list_all is_whitespace (cs ++ 13 ∷ []) ≡ true → list_all is_whitespace cs ≡ true
 white-front [] h = refl
 white-front (c ∷ cs) h =
-    ap (λ b. b && list_all is_whitespace cs) (and_left (is_whitespace c) (list_all is_whitespace (cs ++ 13 ∷ [])) h)
-    ∙ white-front cs (and_right (is_whitespace c) (list_all is_whitespace (cs ++ 13 ∷ [])) h)
+    ap (λ b. b && list_all is_whitespace cs) (both_first (is_whitespace c) (list_all is_whitespace (cs ++ 13 ∷ [])) h)
+    ∙ white-front cs (both_second (is_whitespace c) (list_all is_whitespace (cs ++ 13 ∷ [])) h)
 
 white-chop : (line : List ℕ) → list_all is_whitespace line ≡ true → list_all is_whitespace (without_return line) ≡ true
 white-chop = chop-cases (λ long short. list_all is_whitespace long ≡ true → list_all is_whitespace short ≡ true) (λ cs h. h) white-front

@@ -1,8 +1,6 @@
 -- A call more for what an open file gave, and for what an open folder told.
-use Rattle.std.proofs.Common.{◌≡◌, ℕ, List, [], ◌∷◌, ◌++◌, sym, subst}
+use Rattle.snap_outside.proofs.Prelude.{◌≡◌, ℕ, List, [], ◌∷◌, ◌++◌, sym, subst, Told, names_in, Gave}
 use Rattle.snap_outside.specs.Calls.{History, gives, tells}
-use Rattle.snap_outside.specs.Listing.{Told, names_in}
-use Rattle.snap_outside.specs.Operations.{Gave}
 
 pub gave_none : (before : History) (bytes : List ℕ) → bytes ≡ [] → Gave before bytes before
 gave_none before bytes none = subst (λ b. Gave before b before) (sym none) Gave.none_yet

@@ -1,17 +1,5 @@
 -- A tree's entries, and the finite map that they stand for.
-use Rattle.std.proofs.Common.{◌≡◌, ℕ, ◌+◌, List, [], ◌∷◌, length, Option, None, Some, cond, refl, sym, ◌∙◌, ap, arith}
-use Rattle.std.specs.Prelude.{is_some}
-use Rattle.std.specs.List.{AllByRecursion}
-use Rattle.std.specs.List.Sorted.{IsStrictlySortedBy}
-use Rattle.std.specs.Ordering.{nat_cmp, eq_by_cmp, is_eq}
-use Rattle.std.specs.declared.cmp.Ordering.TheVariants.{Less}
-use Rattle.std.specs.Cmp.Lexicographic.{slice_cmp}
-use Rattle.std.specs.Map.{lookup, keys_of}
-use Rattle.std.specs.BTreeMap.{is_at}
-use Rattle.std.proofs.lemmas.Cmp.{nat_list_cmp_total, eq_by_cmp_equiv}
-use Rattle.std.proofs.lemmas.Map.Keys.{sorted_head, sorted_tail}
-use Rattle.std.specs.FinMap.{insert, remove, get, len, from_entries, find, get-from_entries, get-insert, get-remove, len-empty, len-insert, same_map, slice_cmp-IsAntisymmetric, nat_cmp-IsAntisymmetric, IsAntisymmetric}
-use Rattle.snap_outside.specs.Files.{Files}
+use Rattle.snap_outside.proofs.Prelude.{◌≡◌, ℕ, ◌+◌, List, [], ◌∷◌, length, Option, None, Some, cond, refl, sym, ◌∙◌, ap, arith, is_some, AllByRecursion, IsStrictlySortedBy, nat_cmp, eq_by_cmp, is_eq, Less, slice_cmp, lookup, keys_of, is_at, nat_list_cmp_total, eq_by_cmp_equiv, sorted_head, sorted_tail, insert, remove, get, len, from_entries, find, get-from_entries, get-insert, get-remove, len-empty, len-insert, same_map, slice_cmp-IsAntisymmetric, nat_cmp-IsAntisymmetric, IsAntisymmetric, Files}
 
 -- paths that tie are equal
 pub same_key : IsAntisymmetric (slice_cmp nat_cmp)

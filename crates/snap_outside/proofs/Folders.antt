@@ -1,27 +1,11 @@
 -- The names behind the front that a folder's files share.
-use Rattle.std.proofs.Common.{◌≡◌, ◌≢◌, ◌==◌, ℕ, Bool, true, false, not, cond, ◌&&◌, ◌||◌, List, [], ◌∷◌, ◌++◌, Option, None, Some, refl, sym, ◌∙◌, ap, subst, eq-eqb, arith, append_assoc, append-nil}
-use Rattle.std.proofs.lemmas.Bool.{eqb-true, false_from_ne_true}
-use Rattle.std.proofs.lemmas.Cmp.{nat_list_cmp_total, tied_itself}
+use Rattle.snap_outside.proofs.Prelude.{◌≡◌, ◌≢◌, ◌==◌, ℕ, Bool, true, false, not, cond, ◌&&◌, ◌||◌, List, [], ◌∷◌, ◌++◌, Option, None, Some, refl, sym, ◌∙◌, ap, subst, eq-eqb, arith, append_assoc, append-nil, eqb-true, false_from_ne_true, nat_list_cmp_total, tied_itself, sorted_head, sorted_tail, All, AllPairs, is_some, list_any, filter_map, cons_option, AllByRecursion, IsStrictlySortedBy, lookup, keys_of, is_at, bytes_eq, nat_cmp, Less, slice_cmp, get, from_entries, is_component, IsName, front_of, AreNames, joined-name}
 use Rattle.std.proofs.lemmas.List.Elements.{All-cons}
 use Rattle.std.proofs.lemmas.List.Kept.{AllPairs-cons}
-use Rattle.std.proofs.lemmas.Map.Keys.{sorted_head, sorted_tail}
 use Rattle.std.proofs.lemmas.Map.Text.{is_eq-slice_cmp}
 use Rattle.std.proofs.lemmas.Slice.Eq.{bytes_eq-Decides}
-use Rattle.std.specs.Prelude.{All, AllPairs, is_some}
-use Rattle.std.specs.List.{list_any, filter_map, cons_option, AllByRecursion}
-use Rattle.std.specs.List.Sorted.{IsStrictlySortedBy}
-use Rattle.std.specs.Map.{lookup, keys_of}
-use Rattle.std.specs.BTreeMap.{is_at}
-use Rattle.std.specs.Str.{bytes_eq}
-use Rattle.std.specs.Ordering.{nat_cmp}
-use Rattle.std.specs.declared.cmp.Ordering.TheVariants.{Less}
-use Rattle.std.specs.Cmp.Lexicographic.{slice_cmp}
-use Rattle.std.specs.FinMap.{get, from_entries}
-use Rattle.snap_path.specs.Paths.{is_component, IsName, front_of}
-use Rattle.snap_outside.specs.Listed.{AreNames}
 use Rattle.snap_outside.proofs.Entries.{get-entries}
 use Rattle.snap_outside.proofs.Joined.{has_slash, name_from_tests, tests_from_name}
-use Rattle.snap_path.proofs.Joining.{joined-name}
 
 -- the text, where it's a name
 abbrev named : List ℕ → Option (List ℕ)

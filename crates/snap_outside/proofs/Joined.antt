@@ -1,14 +1,8 @@
 -- A name of one component, and its path in a folder.
-use Rattle.std.proofs.Common.{◌≡◌, ◌≢◌, ◌==◌, ℕ, Bool, true, false, not, ◌&&◌, List, [], ◌∷◌, ◌++◌, length, drop, refl, sym, ◌∙◌, ap, subst}
+use Rattle.snap_outside.proofs.Prelude.{◌≡◌, ◌≢◌, ◌==◌, ℕ, Bool, true, false, not, ◌&&◌, List, [], ◌∷◌, ◌++◌, length, drop, sym, ◌∙◌, ap, subst, chars-append, encodes-append, encodes-chars, IsTrue, ◌↔◌, list_any, chars, IsUtf8, is_component, IsName, name-from-parts, name-parts}
 use Rattle.std.proofs.Math.Seq.{drop-append_seam}
-use Rattle.std.proofs.lemmas.Str.{chars-append, encodes-append, encodes-chars}
-use Rattle.std.specs.Prelude.{IsTrue, ◌↔◌}
-use Rattle.std.specs.List.{list_any}
-use Rattle.std.specs.Str.{bytes_eq, chars, IsUtf8}
-use Rattle.snap_path.specs.Paths.{is_component, IsName}
 use lib.Utf8.{encodes}
 use Rattle.snap_content.proofs.Booleans.{not_true}
-use Rattle.snap_path.proofs.Joining.{name-from-parts, name-parts}
 
 -- a text that begins with another, by bytes and by characters
 pub behind_front : (bs front rest : List ℕ) → IsUtf8 front → bs ≡ front ++ rest → chars bs ≡ chars front ++ chars rest
@@ -20,20 +14,6 @@ not_behind bs front u v none cs is =
 
 abbrev pub has_slash : List ℕ → Bool
 has_slash cs = list_any (λ c. c == 47) cs
-
--- the test of a component by two comparisons
-pub component_test : (cs : List ℕ) → is_component cs ≡ (not (bytes_eq cs []) && not (bytes_eq cs (46 ∷ [])))
-component_test [] = refl
-component_test (c ∷ []) = alone (c == 46)
-  where
-    alone : (b : Bool) → not b ≡ not (b && true)
-    alone true = refl
-    alone false = refl
-component_test (c ∷ d ∷ cs) = longer (c == 46)
-  where
-    longer : (b : Bool) → true ≡ not (b && false)
-    longer true = refl
-    longer false = refl
 
 pub name_from_tests : (n : List ℕ) → is_component n ≡ true → has_slash n ≡ false → IsName n
 name_from_tests n part none = name-from-parts n (record { component = part; unbroken = none })

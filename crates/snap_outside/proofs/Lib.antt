@@ -1,3 +1,4 @@
+mod Prelude
 mod Asking
 pub mod Entries
 mod Joined

@@ -1,8 +1,6 @@
 -- The names among the parts of what a folder told.
-use Rattle.std.proofs.Common.{◌≡◌, ℕ, zero, suc, ◌<◌, Bool, true, false, cond, List, [], ◌∷◌, length, take, drop, refl, ◌∙◌, ap, arith}
-use Rattle.std.specs.List.{slice_split, onto_first}
+use Rattle.snap_outside.proofs.Prelude.{◌≡◌, ℕ, zero, suc, ◌<◌, Bool, true, false, cond, List, [], ◌∷◌, length, take, drop, refl, ◌∙◌, ap, arith, slice_split, onto_first, is_zero}
 use Rattle.memchr.specs.Find.{Nowhere, Passes, is_byte}
-use Rattle.snap_outside.specs.Listing.{is_zero}
 
 nowhere_behind : (x : ℕ) (xs : List ℕ) (n : ℕ) → Nowhere (Passes (is_byte 0) (x ∷ xs)) 0 (suc n) → Nowhere (Passes (is_byte 0) xs) 0 n
 nowhere_behind x xs n none = λ k low high at. none (suc k) (omega arith) (omega arith) at

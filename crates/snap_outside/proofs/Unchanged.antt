@@ -1,7 +1,5 @@
 -- A store that has not changed holds what it held at every other path.
-use Rattle.std.proofs.Common.{◌≡◌, ℕ, List, Some, refl, ap, ◌∙◌}
-use Rattle.std.specs.FinMap.{get}
-use Rattle.snap_outside.specs.Files.{Files, SameBut}
+use Rattle.snap_outside.proofs.Prelude.{◌≡◌, ℕ, List, Some, refl, ap, ◌∙◌, get, Files, SameBut}
 
 pub same_files : (m f : Files) → Some f ≡ Some m → f ≡ m
 same_files m f e = cc

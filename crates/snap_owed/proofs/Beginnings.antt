@@ -1,29 +1,15 @@
 -- What begins at the pieces of a printed text.
-use Rattle.std.proofs.Common.{◌≡◌, ℕ, List, [], ◌∷◌, ◌++◌, Bool, true, false, refl, ◌∙◌, arith}
-use Rattle.std.proofs.lemmas.Bool.Decides.{nat_tests}
-use Rattle.std.specs.Prelude.{◌||◌, ◌&&◌, ◌==◌, slice_index, if◌then◌else◌}
-use Rattle.snap_token.specs.Characters.{is_blank_or_end, is_digit, is_document_start, is_document_end}
-use Rattle.snap_token.specs.Place.{Place}
-use Rattle.snap_scan.specs.Kinds.{kind_of, kind_of_sign}
-use Rattle.snap_scan.specs.declared.kind.TokenKind.{TokenKind}
+use Rattle.snap_owed.proofs.Prelude.{◌≡◌, ℕ, List, [], ◌∷◌, ◌++◌, Bool, true, false, refl, ◌∙◌, arith, nat_tests, ◌||◌, ◌&&◌, ◌==◌, slice_index, if◌then◌else◌, is_blank_or_end, is_digit, is_document_start, is_document_end, Place, kind_of, kind_of_sign, TokenKind, is_sign, is_word_start, is_word_character, is_start, Brackets, square, curly, open_sign, close_sign, here, or_parts, and_right, and_parts, not_true, and_nothing}
 use Rattle.snap_scan.specs.declared.kind.TokenKind.TheVariants as k
-use Rattle.snap_owed.specs.Forms.{is_sign, is_word_start, is_word_character, is_start, Brackets, square, curly, open_sign, close_sign}
-use Rattle.snap_owed.specs.Stands.{here}
-use Rattle.snap_owed.proofs.Skips.{none_of, and_false, stops_at}
+use Rattle.snap_owed.proofs.Skips.{stops_at}
 use Rattle.snap_owed.proofs.Escapes.{apart, other}
-use Rattle.snap_owed.proofs.Words.{both_of, not-true, word_character}
-
-pub entry-kind : (flow : Bool) (a : ℕ) (cs : List ℕ) (i l j : ℕ) → kind_of flow a (here (45 ∷ 32 ∷ cs) i l j) ≡ k.BlockEntry
-entry-kind flow a cs i l j = rw (and_false (j == 0)) refl
-
-pub mark-kind : (flow : Bool) (a : ℕ) (cs : List ℕ) (i l j : ℕ) → kind_of flow a (here (63 ∷ 32 ∷ cs) i l j) ≡ k.Key
-mark-kind flow a cs i l j = rw (and_false (j == 0)) refl
+use Rattle.snap_owed.proofs.Words.{word_character}
 
 pub colon-kind : (a : ℕ) (cs : List ℕ) (i l j : ℕ) → is_blank_or_end (slice_index cs 0) ≡ true → kind_of false a (here (58 ∷ cs) i l j) ≡ k.Value
-colon-kind a cs i l j blank = rw (and_false (j == 0), blank) refl
+colon-kind a cs i l j blank = rw (and_nothing (j == 0), blank) refl
 
 pub quote-kind : (flow : Bool) (a : ℕ) (cs : List ℕ) (i l j : ℕ) → kind_of flow a (here (34 ∷ cs) i l j) ≡ k.DoubleQuoted
-quote-kind flow a cs i l j = rw (and_false (j == 0)) refl
+quote-kind flow a cs i l j = rw (and_nothing (j == 0)) refl
 
 abbrev pub open_kind : Brackets → TokenKind
 open_kind square = k.FlowSequenceStart
@@ -34,12 +20,12 @@ close_kind square = k.FlowSequenceEnd
 close_kind curly = k.FlowMappingEnd
 
 pub opened-kind : (q : Brackets) (flow : Bool) (a : ℕ) (cs : List ℕ) (i l j : ℕ) → kind_of flow a (here (open_sign q ∷ cs) i l j) ≡ open_kind q
-opened-kind square flow a cs i l j = rw (and_false (j == 0)) refl
-opened-kind curly flow a cs i l j = rw (and_false (j == 0)) refl
+opened-kind square flow a cs i l j = rw (and_nothing (j == 0)) refl
+opened-kind curly flow a cs i l j = rw (and_nothing (j == 0)) refl
 
 pub closed-kind : (q : Brackets) (flow : Bool) (a : ℕ) (cs : List ℕ) (i l j : ℕ) → kind_of flow a (here (close_sign q ∷ cs) i l j) ≡ close_kind q
-closed-kind square flow a cs i l j = rw (and_false (j == 0)) refl
-closed-kind curly flow a cs i l j = rw (and_false (j == 0)) refl
+closed-kind square flow a cs i l j = rw (and_nothing (j == 0)) refl
+closed-kind curly flow a cs i l j = rw (and_nothing (j == 0)) refl
 
 -- a sign that is none of those that begin something else
 record IsNoSign (c : ℕ) : Type 0 where
@@ -92,20 +78,16 @@ sign-plain flow a p c is colon =
     ∙ past (c == 33) _ _ is.tag ∙ past (c == 124) _ _ is.bar ∙ past (c == 62) _ _ is.greater ∙ past (c == 39) _ _ is.single ∙ past (c == 34) _ _ is.double
     ∙ past (c == 37) _ _ is.percent ∙ past (c == 64) _ _ is.at_sign ∙ past (c == 96) _ _ is.back
 
-no-beginning : (b c : Bool) → c ≡ false → b && c ≡ false
-no-beginning true c h = h
-no-beginning false c h = refl
-
 word-kind : (flow : Bool) (a : ℕ) (cs : List ℕ) (c i l j : ℕ) → is_word_start c ≡ true → kind_of flow a (here (c ∷ cs) i l j) ≡ k.Plain
 word-kind flow a cs c i l j h =
-    let two = both_of _ (is_word_character c) h in
-    let signs = none_of (is_sign c) (c == 46) (not-true _ two.0) in
+    let two = and_parts _ (is_word_character c) h in
+    let signs = or_parts (is_sign c) (c == 46) (not_true _ two.0) in
     let is = no-sign c signs.0 in
     let word = word_character c two.1 in
     let p : Place = here (c ∷ cs) i l j in
-    let directive : (j == 0 && c == 37) ≡ false = no-beginning (j == 0) (c == 37) is.percent in
-    let start : is_document_start p ≡ false = no-beginning (j == 0) _ (rw is.dash refl) in
-    let end : is_document_end p ≡ false = no-beginning (j == 0) _ (rw signs.1 refl) in
+    let directive : (j == 0 && c == 37) ≡ false = and_right (j == 0) (c == 37) is.percent in
+    let start : is_document_start p ≡ false = and_right (j == 0) _ (rw is.dash refl) in
+    let end : is_document_end p ≡ false = and_right (j == 0) _ (rw signs.1 refl) in
     past (c == 0) _ _ word.nul ∙ past (j == 0 && c == 37) _ _ directive ∙ past (is_document_start p) _ _ start ∙ past (is_document_end p) _ _ end
     ∙ sign-plain flow a p c is word.colon
 
@@ -125,7 +107,7 @@ dash-kind flow a d cs i l j h =
     let return : (d == 13) ≡ false = apart is_digit 13 d refl h in
     let nul : (d == 0) ≡ false = apart is_digit 0 d refl h in
     let alone : is_blank_or_end d ≡ false = rw (blank, tab, line, return, nul) refl in
-    rw (dash, and_false (j == 0), alone) refl
+    rw (dash, and_nothing (j == 0), alone) refl
 
 dash-starts : (c : ℕ) (cs : List ℕ) → c ≡ 45 → is_digit (slice_index cs 0) ≡ true → Starts c cs
 dash-starts c [] same h = absurd (cc)
@@ -134,7 +116,7 @@ dash-starts c (d ∷ cs) same h =
 
 starts-by : (c : ℕ) (cs : List ℕ) (b d : Bool) → is_word_start c ≡ b → (c == 45) ≡ d → b || (d && is_digit (slice_index cs 0)) ≡ true → Starts c cs
 starts-by c cs true d e f h =
-    let is = word_character c (both_of _ (is_word_character c) e).1 in
+    let is = word_character c (and_parts _ (is_word_character c) e).1 in
     record { stops = rw (is.blank, is.line_end, is.hash) refl; blank = is.blank; line_feed = is.line_feed; kind = λ flow a tail i l j. word-kind flow a (cs ++ tail) c i l j e }
 starts-by c cs false true e f h = let same : c ≡ 45 = grind (arith, nat_tests) in dash-starts c cs same h
 starts-by c cs false false e f h = absurd (cc)

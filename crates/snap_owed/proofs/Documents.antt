@@ -1,25 +1,10 @@
 -- A printed document owes its tokens.
-use Rattle.std.proofs.Common.{◌≡◌, ℕ, List, [], ◌∷◌, ◌++◌, Bool, true, false, refl, sym, ap, ◌∙◌, append-nil, append_assoc, Some, None, Option, map, subst, inl}
-use Rattle.std.proofs.lemmas.List.{map-append}
-use Rattle.std.specs.Prelude.{if◌then◌else◌, slice_index}
-use Rattle.std.specs.List.{flat_map}
+use Rattle.snap_owed.proofs.Prelude.{◌≡◌, ℕ, List, [], ◌∷◌, ◌++◌, Bool, true, false, refl, sym, ap, ◌∙◌, append-nil, append_assoc, Some, None, Option, map, subst, inl, map-append, if◌then◌else◌, slice_index, flat_map, Mark, before_nul, mark_of, Token, TokenType, closed, State, start_state, kept, ends, is_right_of, at, pushed, unrolled, document_of, Form, IsPrintable, text_at, tokens_of, document_at, form_of, fetched, none_more, one_more, type_of, Owes, here, calm, Settles, closing, document_with, document_tokens}
 use Rattle.snap_content.specs.Lines as l
 use Rattle.snap_content.specs.Plain.{Plain}
-use Rattle.snap_token.specs.Mark.{Mark}
-use Rattle.snap_token.specs.Place.{before_nul, mark_of}
-use Rattle.snap_token.specs.declared.token.Token.{Token}
 use Rattle.snap_token.specs.declared.token.TEncoding.TheVariants.{Utf8}
 use Rattle.snap_token.specs.declared.token.TokenType.TheVariants as k
-use Rattle.snap_token.specs.declared.token.TokenType.{TokenType}
-use Rattle.snap_scan.specs.Fetching.{closed}
 use Rattle.snap_scan.specs.Scan.{start_scan}
-use Rattle.snap_scan.specs.State.{State, start_state, kept, ends, is_right_of, at, pushed, unrolled}
-use Rattle.snap_owed.specs.FormLines.{document_of}
-use Rattle.snap_owed.specs.Forms.{Form, IsPrintable, text_at, tokens_of, document_at}
-use Rattle.snap_owed.specs.PlainForms.{form_of}
-use Rattle.snap_scan.specs.Owed.{fetched, none_more, one_more, type_of, Owes}
-use Rattle.snap_owed.specs.Stands.{here, calm, Settles, closing}
-use Rattle.snap_owed.specs.Tokens.{document_with, document_tokens}
 use Rattle.snap_owed.proofs.Forms.{node, begins, steps-append, at_end}
 use Rattle.snap_owed.proofs.LaidOut.{lines-text}
 use Rattle.snap_owed.proofs.Nuls.{without-nul, form-nul}
@@ -43,7 +28,7 @@ closing-all c (o ∷ os) =
     closing-rest (is_right_of c o) k.BlockEnd (closing c os) (closing None os) (kept c os) (o ∷ os) (closing-all c os)
     ∙ same_either (is_right_of c o) (closing None (o ∷ os))
 
-abbrev start_mark : Mark
+abbrev pub start_mark : Mark
 start_mark = record { index = 0; line = 1; col = 0 }
 
 abbrev held_at_start : List Token

@@ -1,15 +1,5 @@
 -- A token that ends its line, behind which a key is given up.
-use Rattle.std.proofs.Common.{◌≡◌, ℕ, ◌+◌, List, [], ◌∷◌, ◌++◌, Bool, true, false, refl, ◌∙◌, arith, Some, None, Option, nat_lt, length}
-use Rattle.std.proofs.lemmas.Bool.Decides.{nat_tests}
-use Rattle.std.specs.Prelude.{◌||◌, slice_index}
-use Rattle.snap_token.specs.Mark.{Mark}
-use Rattle.snap_token.specs.Place.{Place, mark_of}
-use Rattle.snap_token.specs.declared.token.Token.{Token}
-use Rattle.snap_scan.specs.Keys.{fresh, is_overdue}
-use Rattle.snap_scan.specs.State.{State}
-use Rattle.snap_scan.specs.declared.keys.SimpleKey.{SimpleKey}
-use Rattle.snap_owed.specs.Forms.{blanks}
-use Rattle.snap_owed.specs.Stands.{here, Settles}
+use Rattle.snap_owed.proofs.Prelude.{◌≡◌, ℕ, ◌+◌, List, [], ◌∷◌, ◌++◌, Bool, true, false, refl, ◌∙◌, arith, Some, None, Option, nat_lt, length, nat_tests, ◌||◌, slice_index, Mark, Place, mark_of, Token, fresh, is_overdue, State, SimpleKey, blanks, here, Settles}
 use Rattle.snap_owed.proofs.Skips.{stops_at, to_next-stops, to_next-blanks, with_place, settles-by}
 
 -- the key that a token may be

@@ -1,12 +1,5 @@
 -- Codes in double quotes.
-use Rattle.std.proofs.Common.{◌≡◌, ◌<◌, ℕ, ◌+◌, ◌-◌, ◌*◌, List, [], ◌∷◌, ◌++◌, Bool, true, false, refl, ap, ◌∙◌, arith, sym, Some, Option, nat_lt, nat_le}
-use Rattle.std.proofs.lemmas.Bool.Decides.{nat_tests}
-use Rattle.std.specs.Prelude.{◌==◌}
-use Rattle.std.specs.Fmt.{digit_glyph}
-use Rattle.snap_token.specs.Folding.{no_gap}
-use Rattle.snap_token.specs.Place.{skipped}
-use Rattle.snap_token.specs.Quoted.{double, digits, hexadecimal, is_code}
-use Rattle.snap_owed.specs.Stands.{here}
+use Rattle.snap_owed.proofs.Prelude.{◌≡◌, ◌<◌, ℕ, ◌+◌, ◌-◌, ◌*◌, List, [], ◌∷◌, ◌++◌, Bool, true, false, refl, ap, ◌∙◌, arith, sym, Some, Option, nat_lt, nat_le, nat_tests, ◌==◌, digit_glyph, no_gap, skipped, double, digits, hexadecimal, is_code, here}
 
 apart-by : (P : ℕ → Bool) (a c : ℕ) → P a ≡ false → P c ≡ true → (b : Bool) → (c == a) ≡ b → b ≡ false
 apart-by P a c fails passes false e = refl

@@ -1,18 +1,5 @@
 -- An empty list or dict at the end of a line.
-use Rattle.std.proofs.Common.{◌≡◌, ℕ, ◌+◌, ◌-◌, List, [], ◌∷◌, ◌++◌, Bool, true, false, refl, ap, ◌∙◌, arith, zero-add, Some, None, Option, nat_lt, subst}
-use Rattle.std.proofs.lemmas.Bool.Decides.{nat_tests}
-use Rattle.std.specs.Prelude.{slice_index}
-use Rattle.snap_token.specs.Mark.{Mark}
-use Rattle.snap_token.specs.Place.{Place, mark_of}
-use Rattle.snap_token.specs.declared.token.Token.{Token}
-use Rattle.snap_scan.specs.Fetching.{kind_step}
-use Rattle.snap_scan.specs.Keys.{fresh, is_overdue, any_overdue}
-use Rattle.snap_scan.specs.State.{State, kept, ends, at}
-use Rattle.snap_scan.specs.declared.keys.SimpleKey.{SimpleKey}
-use Rattle.snap_scan.specs.declared.kind.TokenKind.{TokenKind}
-use Rattle.snap_owed.specs.Forms.{blanks, Brackets, square, curly, open_sign, close_sign, open_token, close_token}
-use Rattle.snap_scan.specs.Owed.{left_by, fetched}
-use Rattle.snap_owed.specs.Stands.{arrived, settled, here, calm, Settles}
+use Rattle.snap_owed.proofs.Prelude.{◌≡◌, ℕ, ◌+◌, ◌-◌, List, [], ◌∷◌, ◌++◌, Bool, true, false, refl, ap, ◌∙◌, arith, zero-add, Some, None, Option, nat_lt, subst, nat_tests, slice_index, Mark, Place, mark_of, Token, kind_step, fresh, is_overdue, any_overdue, State, kept, ends, at, SimpleKey, TokenKind, blanks, Brackets, square, curly, open_sign, close_sign, open_token, close_token, left_by, fetched, arrived, settled, here, calm, Settles}
 use Rattle.snap_owed.proofs.Beginnings.{open_kind, close_kind, opened-kind, closed-kind}
 use Rattle.snap_owed.proofs.Ends.{outside, key_of, settles-end, then-stale, in-time}
 use Rattle.snap_owed.proofs.Pieces.{fetch-settled, step-at}

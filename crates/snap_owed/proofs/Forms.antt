@@ -1,23 +1,12 @@
 -- A printed form is fetched as its tokens.
-use Rattle.std.proofs.Common.{◌≡◌, ℕ, ◌+◌, List, [], ◌∷◌, ◌++◌, Bool, true, false, refl, sym, ap, ◌∙◌, arith, append-nil, append_assoc, zero-add, ◌≤◌, Some, None, Option, map, nat_lt, length, subst, inl, inr}
-use Rattle.std.proofs.lemmas.Bool.Decides.{nat_tests}
-use Rattle.std.proofs.lemmas.List.{map-append}
-use Rattle.std.specs.Prelude.{slice_index, nat_le}
-use Rattle.snap_token.specs.Characters.{is_blank_or_end}
-use Rattle.snap_token.specs.Place.{Place, mark_of}
-use Rattle.snap_token.specs.declared.token.Token.{Token}
-use Rattle.snap_token.specs.declared.token.TokenType.{TokenType}
+use Rattle.snap_owed.proofs.Prelude.{◌≡◌, ℕ, ◌+◌, List, [], ◌∷◌, ◌++◌, Bool, true, false, refl, sym, ap, ◌∙◌, arith, append-nil, append_assoc, zero-add, ◌≤◌, Some, None, Option, map, nat_lt, length, subst, inl, inr, nat_tests, map-append, slice_index, nat_le, is_blank_or_end, Place, mark_of, Token, TokenType, State, kept, ends, is_deeper, is_right_of, at, Form, Forms, Entry, Entries, Scalar, bare, quote, Brackets, square, curly, open_sign, close_sign, open_token, close_token, scalar, hollow, list, dict, last, item, simple, complex, only, pair, IsPrintable, ArePrintable, IsEntry, AreEntries, text_at, inside, entry_at, entries_at, value_block, spelled, scalar_token, tokens_of, inside_tokens, entry_tokens, entries_tokens, blanks, is_scalar, is_key, is_start, is_tail, Steps, none_more, one_more, type_of, here, calm, Settles, closing, Lands, and_parts}
 use Rattle.snap_token.specs.declared.token.TokenType.TheVariants as k
-use Rattle.snap_scan.specs.State.{State, kept, ends, is_deeper, is_right_of, at}
-use Rattle.snap_owed.specs.Forms.{Form, Forms, Entry, Entries, Scalar, bare, quote, Brackets, square, curly, open_sign, close_sign, open_token, close_token, scalar, hollow, list, dict, last, item, simple, complex, only, pair, IsPrintable, ArePrintable, IsEntry, AreEntries, text_at, inside, entry_at, entries_at, value_block, spelled, scalar_token, tokens_of, inside_tokens, entry_tokens, entries_tokens, blanks, is_scalar, is_key, is_start, is_tail}
-use Rattle.snap_scan.specs.Owed.{Steps, none_more, one_more, type_of}
-use Rattle.snap_owed.specs.Stands.{here, calm, Settles, closing, Lands}
 use Rattle.snap_owed.proofs.Beginnings.{starts}
 use Rattle.snap_owed.proofs.Flows.{step-empty}
 use Rattle.snap_owed.proofs.Keys.{step-key, step-colon, key-new, key-again, settles-flat, settles-line, with_key, adjacent_behind, keeps-deeper, keeps-level}
 use Rattle.snap_owed.proofs.Pieces.{step-entry-new, step-entry-again, step-mark-new, step-mark-again, step-value, step-scalar, settles-blank, kept-deeper, ends-deeper, types-ends}
 use Rattle.snap_owed.proofs.Skips.{stops_at}
-use Rattle.snap_owed.proofs.Words.{EndsWord, both_of}
+use Rattle.snap_owed.proofs.Words.{EndsWord}
 
 pub steps-append : (s t u : State) → Steps s t → Steps t u → Steps s u
 steps-append _ _ u (none_more s) b = b
@@ -39,7 +28,7 @@ further (Some m) j h = grind (arith, nat_tests)
 begins-scalar : (v : Scalar) (rest : List ℕ) → is_scalar v ≡ true → stops_at (slice_index (spelled v ++ rest) 0) ≡ false
 begins-scalar (quote x) rest h = refl
 begins-scalar (bare []) rest h = absurd (cc)
-begins-scalar (bare (c ∷ w)) rest h = (starts c w (both_of (is_start c w) (is_tail false w) h).0).stops
+begins-scalar (bare (c ∷ w)) rest h = (starts c w (and_parts (is_start c w) (is_tail false w) h).0).stops
 
 pub record IsKey (v : Scalar) : Type 0 where
   pub scalar : is_scalar v ≡ true
@@ -47,7 +36,7 @@ pub record IsKey (v : Scalar) : Type 0 where
 
 pub key_facts : (v : Scalar) → is_key v ≡ true → IsKey v
 key_facts v h =
-    let two = both_of (is_scalar v) (nat_le (length (spelled v)) 1024) h in
+    let two = and_parts (is_scalar v) (nat_le (length (spelled v)) 1024) h in
     let within : nat_le (length (spelled v)) 1024 ≡ true = two.1 in
     record { scalar = two.0; short = grind (arith, nat_tests) }
 
@@ -64,7 +53,7 @@ begins-entries (pair e es) j rest h =
     let at_first : List ℕ → Bool = λ x. stops_at (slice_index x 0) in
     ap at_first (append_assoc (entry_at j e) (blanks j ++ entries_at j es) rest) ∙ begins-entry e j (blanks j ++ entries_at j es ++ rest) h.0
 
-begins-hollow : (q : Brackets) → stops_at (open_sign q) ≡ false
+pub begins-hollow : (q : Brackets) → stops_at (open_sign q) ≡ false
 begins-hollow square = refl
 begins-hollow curly = refl
 

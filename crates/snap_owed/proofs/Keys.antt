@@ -1,30 +1,13 @@
 -- A simple key and its colon.
-use Rattle.std.proofs.Common.{◌≡◌, ℕ, suc, ◌+◌, ◌-◌, ◌≤◌, List, [], ◌∷◌, ◌++◌, true, false, refl, ap, ◌∙◌, arith, append-nil, Some, Option, nat_lt, length, min, length-append}
-use Rattle.std.proofs.lemmas.Bool.Decides.{nat_tests}
+use Rattle.snap_owed.proofs.Prelude.{◌≡◌, ℕ, suc, ◌+◌, ◌-◌, ◌≤◌, List, [], ◌∷◌, ◌++◌, true, false, refl, ap, ◌∙◌, arith, append-nil, Some, Option, nat_lt, length, min, length-append, nat_tests, slice_index, insert, is_blank_or_end, no_gap, Mark, Place, mark_of, Plain, plain, plain_from, Token, kind_step, innermost, value_of_key, kind_of, State, unrolled, kept, ends, is_deeper, at, in_flow, SimpleKey, TokenKind, is_tail, is_start, is_scalar, Scalar, bare, quote, spelled, scalar_token, blanks, left_by, fetched, settled, here, calm, Settles, and_parts}
 use Rattle.std.proofs.Math.Seq.{take-append_seam, drop-append_seam}
-use Rattle.std.specs.Prelude.{slice_index}
-use Rattle.std.specs.List.{insert}
-use Rattle.snap_token.specs.Characters.{is_blank_or_end}
-use Rattle.snap_token.specs.Folding.{no_gap}
-use Rattle.snap_token.specs.Mark.{Mark}
-use Rattle.snap_token.specs.Place.{Place, mark_of}
-use Rattle.snap_token.specs.Plain.{Plain, plain, plain_from}
-use Rattle.snap_token.specs.declared.token.Token.{Token}
 use Rattle.snap_token.specs.declared.token.TokenType.TheVariants as t
-use Rattle.snap_scan.specs.Fetching.{kind_step, innermost, value_of_key}
-use Rattle.snap_scan.specs.Kinds.{kind_of}
-use Rattle.snap_scan.specs.State.{State, unrolled, kept, ends, is_deeper, at, in_flow}
-use Rattle.snap_scan.specs.declared.keys.SimpleKey.{SimpleKey}
-use Rattle.snap_scan.specs.declared.kind.TokenKind.{TokenKind}
 use Rattle.snap_scan.specs.declared.kind.TokenKind.TheVariants as k
-use Rattle.snap_owed.specs.Forms.{is_tail, is_start, is_scalar, Scalar, bare, quote, spelled, scalar_token, blanks}
-use Rattle.snap_scan.specs.Owed.{left_by, fetched}
-use Rattle.snap_owed.specs.Stands.{settled, here, calm, Settles}
 use Rattle.snap_owed.proofs.Beginnings.{starts, colon-kind}
 use Rattle.snap_owed.proofs.Ends.{outside}
 use Rattle.snap_owed.proofs.Pieces.{fetch-settled, step-at, plain_from-letter, read-plain, step-quote}
 use Rattle.snap_owed.proofs.Skips.{stops_at, to_next-stops, to_next-blanks, settles-by}
-use Rattle.snap_owed.proofs.Words.{both_of, plain-text}
+use Rattle.snap_owed.proofs.Words.{plain-text}
 
 -- a plain scalar ends before a colon
 pub plain-colon : (indent : Option ℕ) (cs : List ℕ) (i l j : ℕ) (text : List ℕ) → is_blank_or_end (slice_index cs 0) ≡ true
@@ -127,7 +110,7 @@ pub step-key : (s : State) (v : Scalar) (rest : List ℕ) (i l j : ℕ) (h : Lis
 step-key s (quote x) rest i l j h columns os is word same blank = step-quote true s x (58 ∷ rest) i l j h columns os is same
 step-key s (bare []) rest i l j h columns os is word same blank = absurd (cc)
 step-key s (bare (c ∷ w)) rest i l j h columns os is word same blank =
-    let two = both_of (is_start c w) (is_tail false w) word in
+    let two = and_parts (is_start c w) (is_tail false w) word in
     let start = starts c w two.0 in
     let tail : List ℕ = w ++ (58 ∷ rest) in
     let p : Place = here (c ∷ tail) i l j in

@@ -1,9 +1,6 @@
 -- The text by columns is the text by lines and prefixes.
-use Rattle.std.proofs.Common.{◌≡◌, ℕ, zero, suc, ◌+◌, List, [], ◌∷◌, ◌++◌, map, refl, ap, ◌∙◌, arith, sym, append_assoc}
-use Rattle.std.specs.List.{flat_map}
+use Rattle.snap_owed.proofs.Prelude.{◌≡◌, ℕ, zero, suc, ◌+◌, List, [], ◌∷◌, ◌++◌, map, refl, ap, ◌∙◌, arith, sym, append_assoc, flat_map, key_block, lines_of, item_lines, entry_block, entry_lines, text_of, Form, Forms, Entry, Entries, scalar, hollow, list, dict, last, item, simple, complex, only, pair, spelled, open_sign, close_sign, blanks, text_at, inside, entry_at, entries_at, value_block}
 use Rattle.snap_content.specs.Lines.{indented, behind, ended}
-use Rattle.snap_owed.specs.FormLines.{key_block, lines_of, item_lines, entry_block, entry_lines, text_of}
-use Rattle.snap_owed.specs.Forms.{Form, Forms, Entry, Entries, scalar, hollow, list, dict, last, item, simple, complex, only, pair, spelled, open_sign, close_sign, blanks, text_at, inside, entry_at, entries_at, value_block}
 
 -- lines at column k
 abbrev below : ℕ → List (List ℕ) → List ℕ

@@ -1,3 +1,4 @@
+mod Prelude
 pub mod Skips
 pub mod Ends
 pub mod Escapes

@@ -1,18 +1,8 @@
 -- No NUL stands in a printed text.
-use Rattle.std.proofs.Common.{◌≡◌, ℕ, zero, suc, ◌+◌, ◌/◌, ◌%◌, ◌<◌, List, [], ◌∷◌, ◌++◌, Bool, true, false, not, refl, ap, arith, nat_lt, append_assoc}
-use Rattle.std.proofs.lemmas.Bool.Decides.{nat_tests}
-use Rattle.std.specs.Prelude.{◌||◌, ◌&&◌, ◌==◌, slice_index, if◌then◌else◌, is_some}
-use Rattle.std.specs.Fmt.{digit_glyph}
-use Rattle.std.specs.List.{flat_map, list_all}
-use Rattle.snap_content.specs.Spell.{escaped, escaped_code}
-use Rattle.snap_token.specs.Characters.{is_digit}
-use Rattle.snap_token.specs.Place.{before_nul}
-use Rattle.snap_token.specs.Quoted.{hexadecimal}
-use Rattle.snap_owed.specs.Forms.{Form, Forms, Entry, Entries, Scalar, bare, quote, square, curly, scalar, hollow, list, dict, last, item, simple, complex, only, pair, IsPrintable, ArePrintable, IsEntry, AreEntries, text_at, inside, entry_at, entries_at, value_block, spelled, blanks, is_scalar, is_start, is_tail, is_word_start, is_word_character}
+use Rattle.snap_owed.proofs.Prelude.{◌≡◌, ℕ, zero, suc, ◌+◌, ◌/◌, ◌%◌, ◌<◌, List, [], ◌∷◌, ◌++◌, Bool, true, false, not, refl, ap, arith, nat_lt, append_assoc, nat_tests, ◌||◌, ◌&&◌, ◌==◌, slice_index, if◌then◌else◌, is_some, digit_glyph, flat_map, list_all, escaped, escaped_code, is_digit, before_nul, hexadecimal, Form, Forms, Entry, Entries, Scalar, bare, quote, square, curly, scalar, hollow, list, dict, last, item, simple, complex, only, pair, IsPrintable, ArePrintable, IsEntry, AreEntries, text_at, inside, entry_at, entries_at, value_block, spelled, blanks, is_scalar, is_start, is_tail, is_word_start, is_word_character, or_parts, and_parts, not_true}
 use Rattle.snap_owed.proofs.Escapes.{apart, glyph}
 use Rattle.snap_owed.proofs.Forms.{key_facts}
-use Rattle.snap_owed.proofs.Skips.{none_of}
-use Rattle.snap_owed.proofs.Words.{both_of, word_character}
+use Rattle.snap_owed.proofs.Words.{word_character}
 
 abbrev pub is_no_nul : ℕ → Bool
 is_no_nul c = not (c == 0)
@@ -20,15 +10,11 @@ is_no_nul c = not (c == 0)
 abbrev pub has_no_nul : List ℕ → Bool
 has_no_nul cs = list_all is_no_nul cs
 
-not-nul : (b : Bool) → not b ≡ true → b ≡ false
-not-nul true h = cc
-not-nul false h = refl
-
 pub without-nul : (cs : List ℕ) → has_no_nul cs ≡ true → before_nul cs ≡ cs
 without-nul [] h = refl
 without-nul (c ∷ cs) h =
-    let two = both_of (is_no_nul c) (has_no_nul cs) h in
-    let some : (c == 0) ≡ false = not-nul (c == 0) two.0 in
+    let two = and_parts (is_no_nul c) (has_no_nul cs) h in
+    let some : (c == 0) ≡ false = not_true (c == 0) two.0 in
     rw some (ap (λ (x : List ℕ). c ∷ x) (without-nul cs two.1))
 
 pub no-nul-more : (c : ℕ) (cs : List ℕ) → (c == 0) ≡ false → has_no_nul cs ≡ true → has_no_nul (c ∷ cs) ≡ true
@@ -37,7 +23,7 @@ no-nul-more c cs e h = rw (e, h) refl
 pub no-nul-append : (xs ys : List ℕ) → has_no_nul xs ≡ true → has_no_nul ys ≡ true → has_no_nul (xs ++ ys) ≡ true
 no-nul-append [] ys h k = k
 no-nul-append (x ∷ xs) ys h k =
-    let two = both_of (is_no_nul x) (has_no_nul xs) h in
+    let two = and_parts (is_no_nul x) (has_no_nul xs) h in
     rw (two.0, no-nul-append xs ys two.1 k) refl
 
 no-nul-blanks : (n : ℕ) → has_no_nul (blanks n) ≡ true
@@ -61,7 +47,7 @@ pub pick-small : (P : List ℕ → Type 0) (b : Bool) (e f : List ℕ) → (b �
 pick-small P true e f yes_ no_ = yes_ refl
 pick-small P false e f yes_ no_ = no_ refl
 
-small-code : (c : ℕ) → nat_lt c 32 || c == 127 ≡ true → c < 128
+pub small-code : (c : ℕ) → nat_lt c 32 || c == 127 ≡ true → c < 128
 small-code c h = grind (arith, nat_tests)
 
 no-nul-escaped : (c : ℕ) → has_no_nul (escaped c) ≡ true
@@ -70,7 +56,7 @@ no-nul-escaped c =
     pick P (c == 34) _ _ refl (λ _. pick P (c == 92) _ _ refl (λ _. pick P (c == 8) _ _ refl (λ _. pick P (c == 9) _ _ refl (λ _. pick P (c == 10) _ _ refl (λ _.
     pick P (c == 12) _ _ refl (λ _. pick P (c == 13) _ _ refl (λ _.
     pick-small P (nat_lt c 32 || c == 127) _ _ (λ small. no-nul-code c (small-code c small)) (λ large.
-    let above : nat_lt c 32 ≡ false = (none_of (nat_lt c 32) (c == 127) large).0 in
+    let above : nat_lt c 32 ≡ false = (or_parts (nat_lt c 32) (c == 127) large).0 in
     let some : (c == 0) ≡ false = grind (arith, nat_tests) in
     no-nul-more c [] some refl))))))))
 
@@ -80,11 +66,11 @@ no-nul-quoted (c ∷ s) =
     let split : has_no_nul (escaped c ++ (flat_map escaped s ++ 34 ∷ [])) ≡ true = no-nul-append (escaped c) (flat_map escaped s ++ 34 ∷ []) (no-nul-escaped c) (no-nul-quoted s) in
     rw (append_assoc (escaped c) (flat_map escaped s) (34 ∷ [])) split
 
-if-true : (b x y : Bool) → b ≡ true → (if b then x else y) ≡ true → x ≡ true
+pub if-true : (b x y : Bool) → b ≡ true → (if b then x else y) ≡ true → x ≡ true
 if-true true x y e h = h
 if-true false x y e h = cc
 
-if-false : (b x y : Bool) → b ≡ false → (if b then x else y) ≡ true → y ≡ true
+pub if-false : (b x y : Bool) → b ≡ false → (if b then x else y) ≡ true → y ≡ true
 if-false false x y e h = h
 if-false true x y e h = cc
 
@@ -96,7 +82,7 @@ no-nul-by c cs rest true e b h =
     let some : (c == 0) ≡ false = grind (arith, nat_tests) in
     no-nul-more c cs some (rest true (if-true (c == 32) (is_tail true cs) (is_word_character c && is_tail false cs) e h))
 no-nul-by c cs rest false e b h =
-    let two = both_of (is_word_character c) (is_tail false cs) (if-false (c == 32) (is_tail true cs) (is_word_character c && is_tail false cs) e h) in
+    let two = and_parts (is_word_character c) (is_tail false cs) (if-false (c == 32) (is_tail true cs) (is_word_character c && is_tail false cs) e h) in
     no-nul-more c cs (word_character c two.0).nul (rest false two.1)
 
 no-nul-tail : (cs : List ℕ) → Nulless cs
@@ -104,7 +90,7 @@ no-nul-tail [] = λ b h. refl
 no-nul-tail (c ∷ cs) = no-nul-by c cs (no-nul-tail cs) (c == 32) refl
 
 start-some : (c : ℕ) (cs : List ℕ) (b d : Bool) → is_word_start c ≡ b → (c == 45) ≡ d → b || (d && is_digit (slice_index cs 0)) ≡ true → (c == 0) ≡ false
-start-some c cs true d e f h = (word_character c (both_of _ (is_word_character c) e).1).nul
+start-some c cs true d e f h = (word_character c (and_parts _ (is_word_character c) e).1).nul
 start-some c cs false true e f h = let same : c ≡ 45 = grind (arith, nat_tests) in rw same refl
 start-some c cs false false e f h = absurd (cc)
 
@@ -112,7 +98,7 @@ pub no-nul-scalar : (v : Scalar) → is_scalar v ≡ true → has_no_nul (spelle
 no-nul-scalar (quote s) h = no-nul-quoted s
 no-nul-scalar (bare []) h = refl
 no-nul-scalar (bare (c ∷ w)) h =
-    let two = both_of (is_start c w) (is_tail false w) h in
+    let two = and_parts (is_start c w) (is_tail false w) h in
     no-nul-more c w (start-some c w (is_word_start c) (c == 45) refl refl two.0) (no-nul-tail w false two.1)
 
 no-nul-value : (j : ℕ) (t : Form) (text : List ℕ) → has_no_nul text ≡ true → has_no_nul (value_block j t text) ≡ true

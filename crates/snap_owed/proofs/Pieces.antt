@@ -1,35 +1,15 @@
 -- One fetch at each piece of a printed line.
-use Rattle.std.proofs.Common.{◌≡◌, ℕ, ◌+◌, List, [], ◌∷◌, ◌++◌, Bool, true, false, refl, ap, ◌∙◌, arith, append-nil, zero-add, length, subst, Some, Option, map, nat_lt}
-use Rattle.std.proofs.lemmas.Bool.Decides.{nat_tests}
-use Rattle.std.specs.Prelude.{◌||◌, ◌==◌, slice_index, if◌then◌else◌}
-use Rattle.snap_token.specs.Folding.{no_gap}
-use Rattle.snap_token.specs.Mark.{Mark}
-use Rattle.snap_token.specs.Place.{Place, mark_of}
-use Rattle.snap_token.specs.Plain.{Plain, plain, plain_from}
-use Rattle.snap_token.specs.Quoted.{Quoted, double_from}
+use Rattle.snap_owed.proofs.Prelude.{◌≡◌, ℕ, ◌+◌, List, [], ◌∷◌, ◌++◌, Bool, true, false, refl, ap, ◌∙◌, arith, append-nil, zero-add, length, subst, Some, Option, map, nat_lt, nat_tests, ◌||◌, ◌==◌, slice_index, if◌then◌else◌, no_gap, Mark, Place, mark_of, Plain, plain, plain_from, Quoted, double_from, Token, Outcome, done, refused, stream_started, kind_step, innermost, any_overdue, kind_of, State, unrolled, kept, ends, is_deeper, is_right_of, at, pushed, saved, in_flow, TokenKind, blanks, is_tail, is_start, is_bare, is_scalar, Scalar, bare, quote, spelled, scalar_token, left_by, fetched, type_of, arrived, settled, here, calm, Settles, closing, and_parts, and_nothing}
 use Rattle.snap_token.specs.declared.info.ScanInfo.TheVariants as info
-use Rattle.snap_token.specs.declared.token.Token.{Token}
 use Rattle.snap_token.specs.declared.token.TokenType.TheVariants as t
 use Rattle.snap_token.specs.declared.token.TScalarStyle.TheVariants as style
-use Rattle.snap_scan.specs.Fetching.{Outcome, done, refused, stream_started, kind_step, innermost}
-use Rattle.snap_scan.specs.Keys.{any_overdue}
-use Rattle.snap_scan.specs.Kinds.{kind_of}
-use Rattle.snap_scan.specs.State.{State, unrolled, kept, ends, is_deeper, is_right_of, at, pushed, saved, in_flow}
-use Rattle.snap_scan.specs.declared.kind.TokenKind.{TokenKind}
 use Rattle.snap_scan.specs.declared.kind.TokenKind.TheVariants as k
-use Rattle.snap_owed.specs.Forms.{blanks, is_tail, is_start, is_bare, is_scalar, Scalar, bare, quote, spelled, scalar_token}
-use Rattle.snap_scan.specs.Owed.{left_by, fetched, type_of}
-use Rattle.snap_owed.specs.Stands.{arrived, settled, here, calm, Settles, closing}
-use Rattle.snap_owed.proofs.Skips.{stops_at, and_false, to_next-stops, settles-by}
+use Rattle.snap_owed.proofs.Skips.{stops_at, to_next-stops, settles-by}
 use Rattle.snap_owed.proofs.Beginnings.{starts, quote-kind}
 use Rattle.snap_owed.proofs.Ends.{outside, key_of, settles-end, then-stale, in-time}
 use Rattle.snap_owed.proofs.Quotes.{between_quotes, read_quote, quoted-whole}
-use Rattle.snap_owed.proofs.Words.{EndsWord, word_end, plain-text, plain-ends, both_of}
-
--- the fetch at a state that is settled
-abbrev pub fetch_at : State → Outcome
-fetch_at s =
-    kind_step (kind_of (in_flow (unrolled (Some s.place.col) s)) s.adjacent (unrolled (Some s.place.col) s).place) (unrolled (Some s.place.col) s)
+use Rattle.snap_owed.proofs.Words.{EndsWord, word_end, plain-text, plain-ends}
+use Rattle.snap_scan.proofs.Owing.{fetch_at}
 
 going-on : (b c d : Bool) (x y z w : Outcome) → b ≡ false → c ≡ true → d ≡ false → (if b then x else (if c then (if d then y else z) else w)) ≡ z
 going-on b c d x y z w p q r = rw (p, q, r) refl
@@ -78,7 +58,7 @@ pub step-entry-new : (s : State) (cs : List ℕ) (i l j : ℕ) (h : List Token) 
 step-entry-new s cs i l j h os is deep =
     let m = mark_of (here (45 ∷ 32 ∷ cs) i l j) in
     step-at true s (here (45 ∷ 32 ∷ cs) i l j) h os is
-    ∙ rw (and_false (j == 0), ends-deeper m j os deep, kept-deeper j os deep, append-nil h, deep) refl
+    ∙ rw (and_nothing (j == 0), ends-deeper m j os deep, kept-deeper j os deep, append-nil h, deep) refl
 
 -- a further item
 pub step-entry-again : (s : State) (cs : List ℕ) (i l j : ℕ) (h : List Token) (columns os : List ℕ) (is : Settles true s (here (45 ∷ 32 ∷ cs) i l j) h columns)
@@ -87,7 +67,7 @@ pub step-entry-again : (s : State) (cs : List ℕ) (i l j : ℕ) (h : List Token
     fetched s ≡ Some (calm true is.adjacent (here (32 ∷ cs) (i + 1) l (j + 1)) (h ++ ends m (Some j) columns ++ at m t.BlockEntry ∷ []) (j ∷ os))
 step-entry-again s cs i l j h columns os is same =
     let level : nat_lt j j ≡ false = grind (arith, nat_tests) in
-    step-at true s (here (45 ∷ 32 ∷ cs) i l j) h columns is ∙ rw (and_false (j == 0), same, level) refl
+    step-at true s (here (45 ∷ 32 ∷ cs) i l j) h columns is ∙ rw (and_nothing (j == 0), same, level) refl
 
 -- the mark of a key, in a mapping that begins there
 pub step-mark-new : (s : State) (cs : List ℕ) (i l j : ℕ) (h : List Token) (os : List ℕ) (is : Settles true s (here (63 ∷ 32 ∷ cs) i l j) h os)
@@ -97,7 +77,7 @@ pub step-mark-new : (s : State) (cs : List ℕ) (i l j : ℕ) (h : List Token) (
 step-mark-new s cs i l j h os is deep =
     let m = mark_of (here (63 ∷ 32 ∷ cs) i l j) in
     step-at true s (here (63 ∷ 32 ∷ cs) i l j) h os is
-    ∙ rw (and_false (j == 0), ends-deeper m j os deep, kept-deeper j os deep, append-nil h, deep) refl
+    ∙ rw (and_nothing (j == 0), ends-deeper m j os deep, kept-deeper j os deep, append-nil h, deep) refl
 
 -- the mark of a further key
 pub step-mark-again : (s : State) (cs : List ℕ) (i l j : ℕ) (h : List Token) (columns os : List ℕ) (is : Settles true s (here (63 ∷ 32 ∷ cs) i l j) h columns)
@@ -106,7 +86,7 @@ pub step-mark-again : (s : State) (cs : List ℕ) (i l j : ℕ) (h : List Token)
     fetched s ≡ Some (calm true is.adjacent (here (32 ∷ cs) (i + 1) l (j + 1)) (h ++ ends m (Some j) columns ++ at m t.Key ∷ []) (j ∷ os))
 step-mark-again s cs i l j h columns os is same =
     let level : nat_lt j j ≡ false = grind (arith, nat_tests) in
-    step-at true s (here (63 ∷ 32 ∷ cs) i l j) h columns is ∙ rw (and_false (j == 0), same, level) refl
+    step-at true s (here (63 ∷ 32 ∷ cs) i l j) h columns is ∙ rw (and_nothing (j == 0), same, level) refl
 
 -- the mark of a value behind such a key
 pub step-value : (s : State) (cs : List ℕ) (i l j : ℕ) (h : List Token) (columns os : List ℕ) (is : Settles true s (here (58 ∷ 32 ∷ cs) i l j) h columns)
@@ -115,7 +95,7 @@ pub step-value : (s : State) (cs : List ℕ) (i l j : ℕ) (h : List Token) (col
     fetched s ≡ Some (calm true is.adjacent (here (32 ∷ cs) (i + 1) l (j + 1)) (h ++ ends m (Some j) columns ++ at m t.Value ∷ []) (j ∷ os))
 step-value s cs i l j h columns os is same =
     let level : nat_lt j j ≡ false = grind (arith, nat_tests) in
-    step-at true s (here (58 ∷ 32 ∷ cs) i l j) h columns is ∙ rw (and_false (j == 0), same, level) refl
+    step-at true s (here (58 ∷ 32 ∷ cs) i l j) h columns is ∙ rw (and_nothing (j == 0), same, level) refl
 
 -- a scalar is fetched, and the next line begins
 pub record ScalarStep (s : State) (before : List Token) (v : Scalar) (l m : ℕ) (cs : List ℕ) (os : List ℕ) : Type 0 where
@@ -156,7 +136,7 @@ step-bare : (b : Bool) (s : State) (w cs : List ℕ) (i l j m : ℕ) (h : List T
     → ScalarStep s (h ++ ends (mark_of (here (w ++ (10 ∷ (blanks m ++ cs))) i l j)) (Some j) columns) (bare w) l m cs os
 step-bare b s [] cs i l j m h columns os is word same stop end = absurd (cc)
 step-bare b s (c ∷ w) cs i l j m h columns os is word same stop end =
-    let two = both_of (is_start c w) (is_tail false w) word in
+    let two = and_parts (is_start c w) (is_tail false w) word in
     let start = starts c w two.0 in
     let further : List ℕ = 10 ∷ (blanks m ++ cs) in
     let tail : List ℕ = w ++ further in

@@ -1,26 +1,17 @@
 -- The form of every plain tree can be printed, and has the tree's lines and tokens.
-use Rattle.std.proofs.Common.{◌≡◌, ◌<◌, ℕ, ℤ, pos, negsuc, zero, suc, ◌/◌, ◌%◌, List, [], ◌∷◌, ◌++◌, map, Bool, true, false, not, refl, ap, ◌∙◌, arith, sym, append-nil, length, Some, None, Option, nat_lt}
-use Rattle.std.proofs.lemmas.Bool.Decides.{nat_tests}
-use Rattle.std.specs.Prelude.{◌||◌, ◌&&◌, ◌==◌, nat_le, if◌then◌else◌}
+use Rattle.snap_owed.proofs.Prelude.{◌≡◌, ◌<◌, ℕ, ℤ, pos, negsuc, zero, suc, ◌/◌, ◌%◌, List, [], ◌∷◌, ◌++◌, map, Bool, true, false, not, refl, ap, ◌∙◌, arith, sym, append-nil, length, Some, None, Option, nat_lt, nat_tests, ◌||◌, ◌&&◌, ◌==◌, nat_le, if◌then◌else◌, digits_onto, digit_glyph, signed_decimal, decimal, list_any, list_all, spell_bool, spell_text, spelling, is_flat, is_digit, TokenType, text_scalar, entry_of, scalar_of, form_of, forms_of, entries_of, node_tokens, item_tokens, or_parts, and_parts}
 use Rattle.std.specs.Char.{is_whitespace}
-use Rattle.std.specs.Fmt.{digits, digits_onto, digit_glyph, signed_decimal, decimal}
-use Rattle.std.specs.List.{list_any, list_all}
+use Rattle.std.specs.Fmt.{digits}
 use Rattle.snap_content.specs.Lines as l
 use Rattle.snap_content.specs.Plain.{Plain, null, bool, int, text, list, dict, Plains, no_items, item, Entries, no_entries, entry}
 use Rattle.snap_content.specs.Quotes.{is_special, is_leading, starts_badly, ends_badly, starts_as_hexadecimal, is_reserved, needs_quotes}
-use Rattle.snap_content.specs.Spell.{spell_bool, spell_text, spelling, is_flat}
 use Rattle.snap_content.specs.Numbers.{is_number_text}
-use Rattle.snap_token.specs.Characters.{is_digit}
-use Rattle.snap_token.specs.declared.token.TokenType.{TokenType}
 use Rattle.snap_token.specs.declared.token.TokenType.TheVariants as kind
 use Rattle.snap_token.specs.declared.token.TScalarStyle.TheVariants as style
 use Rattle.snap_owed.specs.FormLines as g
 use Rattle.snap_owed.specs.Forms as form
-use Rattle.snap_owed.specs.PlainForms.{text_scalar, entry_of, scalar_of, form_of, forms_of, entries_of}
-use Rattle.snap_owed.specs.Tokens.{node_tokens, item_tokens, entry_tokens}
+use Rattle.snap_owed.specs.Tokens.{entry_tokens}
 use Rattle.snap_owed.proofs.Escapes.{apart, other}
-use Rattle.snap_owed.proofs.Skips.{none_of}
-use Rattle.snap_owed.proofs.Words.{both_of}
 
 six : (a b d e f g : Bool) → a ≡ false → b ≡ false → d ≡ false → e ≡ false → f ≡ false → g ≡ false → not (a || b || (d || e) || f || g) ≡ true
 six a b d e f g p q r s t u = rw (p, q, r, s, t, u) refl
@@ -77,9 +68,9 @@ goes-on : (cs : List ℕ) (b : Bool) → list_any is_special cs ≡ false → en
 goes-on [] b plain ends still = rw (still refl) refl
 goes-on (c ∷ []) b plain ends still =
     let blank : (c == 32) ≡ false = other is_whitespace 32 c refl ends in
-    no-blank (c == 32) (form.is_word_character c) (form.is_tail true []) (form.is_tail false []) blank (word-character c (none_of (is_special c) false plain).0 blank) refl
+    no-blank (c == 32) (form.is_word_character c) (form.is_tail true []) (form.is_tail false []) blank (word-character c (or_parts (is_special c) false plain).0 blank) refl
 goes-on (c ∷ d ∷ cs) b plain ends still =
-    let two = none_of (is_special c) (list_any is_special (d ∷ cs)) plain in
+    let two = or_parts (is_special c) (list_any is_special (d ∷ cs)) plain in
     either-way (c == 32) (form.is_word_character c) (form.is_tail true (d ∷ cs)) (form.is_tail false (d ∷ cs)) (goes-on (d ∷ cs) true two.1 ends (λ h. absurd (cc)))
     (word-character c two.0) (goes-on (d ∷ cs) false two.1 ends (λ h. refl))
 
@@ -91,20 +82,20 @@ pub bare-text : (s : List ℕ) → needs_quotes s ≡ false → form.is_bare s �
 bare-text [] h = absurd (cc)
 bare-text (c ∷ []) h =
     let u : List ℕ = c ∷ [] in
-    let f = none_of (starts_badly u || ends_badly u || starts_as_hexadecimal u || list_any is_special u || is_reserved u) (is_number_text u) h in
-    let e = none_of (starts_badly u || ends_badly u || starts_as_hexadecimal u || list_any is_special u) (is_reserved u) f.0 in
-    let d = none_of (starts_badly u || ends_badly u || starts_as_hexadecimal u) (list_any is_special u) e.0 in
-    let b = none_of (starts_badly u || ends_badly u) (starts_as_hexadecimal u) d.0 in
-    let a = none_of (starts_badly u) (ends_badly u) b.0 in
-    starts-goes c [] (word-start c (none_of (is_special c) false d.1).0 a.0) refl
+    let f = or_parts (starts_badly u || ends_badly u || starts_as_hexadecimal u || list_any is_special u || is_reserved u) (is_number_text u) h in
+    let e = or_parts (starts_badly u || ends_badly u || starts_as_hexadecimal u || list_any is_special u) (is_reserved u) f.0 in
+    let d = or_parts (starts_badly u || ends_badly u || starts_as_hexadecimal u) (list_any is_special u) e.0 in
+    let b = or_parts (starts_badly u || ends_badly u) (starts_as_hexadecimal u) d.0 in
+    let a = or_parts (starts_badly u) (ends_badly u) b.0 in
+    starts-goes c [] (word-start c (or_parts (is_special c) false d.1).0 a.0) refl
 bare-text (c ∷ x ∷ cs) h =
     let u : List ℕ = c ∷ x ∷ cs in
-    let f = none_of (starts_badly u || ends_badly u || starts_as_hexadecimal u || list_any is_special u || is_reserved u) (is_number_text u) h in
-    let e = none_of (starts_badly u || ends_badly u || starts_as_hexadecimal u || list_any is_special u) (is_reserved u) f.0 in
-    let d = none_of (starts_badly u || ends_badly u || starts_as_hexadecimal u) (list_any is_special u) e.0 in
-    let b = none_of (starts_badly u || ends_badly u) (starts_as_hexadecimal u) d.0 in
-    let a = none_of (starts_badly u) (ends_badly u) b.0 in
-    let two = none_of (is_special c) (list_any is_special (x ∷ cs)) d.1 in
+    let f = or_parts (starts_badly u || ends_badly u || starts_as_hexadecimal u || list_any is_special u || is_reserved u) (is_number_text u) h in
+    let e = or_parts (starts_badly u || ends_badly u || starts_as_hexadecimal u || list_any is_special u) (is_reserved u) f.0 in
+    let d = or_parts (starts_badly u || ends_badly u || starts_as_hexadecimal u) (list_any is_special u) e.0 in
+    let b = or_parts (starts_badly u || ends_badly u) (starts_as_hexadecimal u) d.0 in
+    let a = or_parts (starts_badly u) (ends_badly u) b.0 in
+    let two = or_parts (is_special c) (list_any is_special (x ∷ cs)) d.1 in
     starts-goes c (x ∷ cs) (word-start c two.0 a.0) (goes-on (x ∷ cs) false two.1 a.1 (λ h. refl))
 
 -- a text of digits, at least one
@@ -169,7 +160,7 @@ digit-start d h =
 digits-tail : (ds : List ℕ) → list_all is_digit ds ≡ true → form.is_tail false ds ≡ true
 digits-tail [] h = refl
 digits-tail (d ∷ ds) h =
-    let two = both_of (is_digit d) (list_all is_digit ds) h in
+    let two = and_parts (is_digit d) (list_all is_digit ds) h in
     no-blank (d == 32) (form.is_word_character d) (form.is_tail true ds) (form.is_tail false ds) (apart is_digit 32 d refl two.0) (digit-character d two.0) (digits-tail ds two.1)
 
 bare-digits : (ds : List ℕ) → AreDigits ds → form.is_bare ds ≡ true

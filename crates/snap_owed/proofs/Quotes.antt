@@ -1,20 +1,7 @@
 -- Double quotes are read as the text that is escaped between them.
-use Rattle.std.proofs.Common.{◌≡◌, ℕ, suc, ◌+◌, ◌*◌, ◌<◌, ◌/◌, ◌%◌, List, [], ◌∷◌, ◌++◌, Bool, true, false, refl, ap, ◌∙◌, arith, sym, subst, Some, Option, nat_lt, length, append-nil, append_assoc}
-use Rattle.std.proofs.lemmas.Bool.Decides.{nat_tests}
-use Rattle.std.specs.Prelude.{◌||◌, ◌&&◌, ◌==◌, if◌then◌else◌}
-use Rattle.std.specs.Fmt.{digit_glyph}
-use Rattle.std.specs.List.{flat_map}
-use Rattle.snap_content.specs.Spell.{escaped, escaped_code}
-use Rattle.snap_token.specs.Characters.{is_blank, is_break, is_document_indicator}
-use Rattle.snap_token.specs.Folding.{no_gap}
-use Rattle.snap_token.specs.Place.{Place, skipped}
-use Rattle.snap_token.specs.Quoted.{Quoted, double, double_from, digits, is_code}
-use Rattle.snap_token.specs.declared.folding.Fold.TheVariants.{Inline}
-use Rattle.snap_token.specs.declared.folding.Gap.{Gap}
-use Rattle.snap_owed.specs.Forms.{spelled, quote}
-use Rattle.snap_owed.specs.Stands.{here}
+use Rattle.snap_owed.proofs.Prelude.{◌≡◌, ℕ, suc, ◌+◌, ◌*◌, ◌<◌, ◌/◌, ◌%◌, List, [], ◌∷◌, ◌++◌, Bool, true, false, refl, ap, ◌∙◌, arith, sym, subst, Some, Option, nat_lt, length, append-nil, append_assoc, nat_tests, ◌||◌, ◌&&◌, ◌==◌, if◌then◌else◌, digit_glyph, flat_map, escaped, escaped_code, is_blank, is_break, is_document_indicator, no_gap, Place, skipped, Quoted, double, double_from, digits, is_code, Inline, Gap, spelled, quote, here, or_parts}
 use Rattle.snap_owed.proofs.Escapes.{coded, glyph, passed}
-use Rattle.snap_owed.proofs.Skips.{none_of}
+use Rattle.snap_owed.proofs.Nuls.{small-code, pick-small}
 
 -- a gap of blanks on one line
 abbrev pub gap_in_line : List ℕ → Gap
@@ -110,25 +97,18 @@ passes-other-by c is false e =
     five (is_blank c) (is_break c) (is_document_indicator p || c == 0) (c == 34) (c == 92) _ _ _ _ _ (double no_gap full rest (skipped p)) blank break_ stands is.quotes is.slash
     ∙ ap at (passed c rest i l j is.line))
 
-pub pick : (P : List ℕ → Type 0) (b : Bool) (e f : List ℕ) → (b ≡ true → P e) → (b ≡ false → P f) → P (if b then e else f)
-pick P true e f yes_ no_ = yes_ refl
-pick P false e f yes_ no_ = no_ refl
-
-small-code : (c : ℕ) → nat_lt c 32 || c == 127 ≡ true → c < 128
-small-code c h = grind (arith, nat_tests)
-
 passes : (c : ℕ) → Passes c (escaped c)
 passes c =
     let P : List ℕ → Type 0 = λ e. Passes c e in
-    pick P (c == 34) _ _ (passes-same c (92 ∷ 34 ∷ []) 34 (passes-letter 34 (92 ∷ 34 ∷ []) (λ gap text rest i l j right. rw right refl))) (λ quotes.
-    pick P (c == 92) _ _ (passes-same c (92 ∷ 92 ∷ []) 92 (passes-letter 92 (92 ∷ 92 ∷ []) (λ gap text rest i l j right. rw right refl))) (λ slash.
-    pick P (c == 8) _ _ (passes-same c (92 ∷ 98 ∷ []) 8 (passes-letter 8 (92 ∷ 98 ∷ []) (λ gap text rest i l j right. rw right refl))) (λ back.
-    pick P (c == 9) _ _ (passes-same c (92 ∷ 116 ∷ []) 9 (passes-letter 9 (92 ∷ 116 ∷ []) (λ gap text rest i l j right. rw right refl))) (λ tab.
-    pick P (c == 10) _ _ (passes-same c (92 ∷ 110 ∷ []) 10 (passes-letter 10 (92 ∷ 110 ∷ []) (λ gap text rest i l j right. rw right refl))) (λ line.
-    pick P (c == 12) _ _ (passes-same c (92 ∷ 102 ∷ []) 12 (passes-letter 12 (92 ∷ 102 ∷ []) (λ gap text rest i l j right. rw right refl))) (λ feed.
-    pick P (c == 13) _ _ (passes-same c (92 ∷ 114 ∷ []) 13 (passes-letter 13 (92 ∷ 114 ∷ []) (λ gap text rest i l j right. rw right refl))) (λ return.
-    pick P (nat_lt c 32 || c == 127) _ _ (λ small. passes-code c (small-code c small)) (λ large.
-    let above : nat_lt c 32 ≡ false = (none_of (nat_lt c 32) (c == 127) large).0 in
+    pick-small P (c == 34) _ _ (passes-same c (92 ∷ 34 ∷ []) 34 (passes-letter 34 (92 ∷ 34 ∷ []) (λ gap text rest i l j right. rw right refl))) (λ quotes.
+    pick-small P (c == 92) _ _ (passes-same c (92 ∷ 92 ∷ []) 92 (passes-letter 92 (92 ∷ 92 ∷ []) (λ gap text rest i l j right. rw right refl))) (λ slash.
+    pick-small P (c == 8) _ _ (passes-same c (92 ∷ 98 ∷ []) 8 (passes-letter 8 (92 ∷ 98 ∷ []) (λ gap text rest i l j right. rw right refl))) (λ back.
+    pick-small P (c == 9) _ _ (passes-same c (92 ∷ 116 ∷ []) 9 (passes-letter 9 (92 ∷ 116 ∷ []) (λ gap text rest i l j right. rw right refl))) (λ tab.
+    pick-small P (c == 10) _ _ (passes-same c (92 ∷ 110 ∷ []) 10 (passes-letter 10 (92 ∷ 110 ∷ []) (λ gap text rest i l j right. rw right refl))) (λ line.
+    pick-small P (c == 12) _ _ (passes-same c (92 ∷ 102 ∷ []) 12 (passes-letter 12 (92 ∷ 102 ∷ []) (λ gap text rest i l j right. rw right refl))) (λ feed.
+    pick-small P (c == 13) _ _ (passes-same c (92 ∷ 114 ∷ []) 13 (passes-letter 13 (92 ∷ 114 ∷ []) (λ gap text rest i l j right. rw right refl))) (λ return.
+    pick-small P (nat_lt c 32 || c == 127) _ _ (λ small. passes-code c (small-code c small)) (λ large.
+    let above : nat_lt c 32 ≡ false = (or_parts (nat_lt c 32) (c == 127) large).0 in
     let nul : (c == 0) ≡ false = grind (arith, nat_tests) in
     passes-other-by c (record { quotes = quotes; slash = slash; tab = tab; line = line; return = return; nul = nul }) (c == 32) refl))))))))
 

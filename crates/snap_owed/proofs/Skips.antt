@@ -1,13 +1,5 @@
 -- Skipping, on texts of a known form.
-use Rattle.std.proofs.Common.{◌≡◌, ℕ, zero, suc, ◌+◌, List, [], ◌∷◌, ◌++◌, Bool, true, false, refl, ap, ◌∙◌, arith, add-zero}
-use Rattle.std.specs.Prelude.{◌||◌, ◌&&◌, ◌==◌, slice_index, not}
-use Rattle.snap_token.specs.Characters.{is_break, is_blank}
-use Rattle.snap_token.specs.Place.{Place, mark_of}
-use Rattle.snap_token.specs.declared.token.Token.{Token}
-use Rattle.snap_scan.specs.Keys.{any_overdue}
-use Rattle.snap_scan.specs.State.{State, to_next, is_space, in_flow, stale}
-use Rattle.snap_owed.specs.Forms.{blanks}
-use Rattle.snap_owed.specs.Stands.{here, calm, arrived, Settles}
+use Rattle.snap_owed.proofs.Prelude.{◌≡◌, ℕ, zero, suc, ◌+◌, List, [], ◌∷◌, ◌++◌, Bool, true, false, refl, ap, ◌∙◌, arith, add-zero, ◌||◌, ◌&&◌, ◌==◌, slice_index, not, is_break, is_blank, Place, mark_of, Token, any_overdue, State, to_next, is_space, in_flow, stale, blanks, here, calm, arrived, Settles, or_parts, and_nothing}
 
 abbrev pub with_place : Place → State → State
 with_place p s = record s { place = p }
@@ -24,14 +16,6 @@ to_next-blanks (suc n) cs s i l j =
 abbrev pub stops_at : ℕ → Bool
 stops_at c = is_blank c || is_break c || c == 35
 
-pub none_of : (a b : Bool) → a || b ≡ false → (a ≡ false) × (b ≡ false)
-none_of false b h = (refl, h)
-none_of true b h = (cc, cc)
-
-pub and_false : (b : Bool) → b && false ≡ false
-and_false true = refl
-and_false false = refl
-
 no_space : (a b x : Bool) → a || b ≡ false → a || (b && x) ≡ false
 no_space false false x h = refl
 no_space false true x h = cc
@@ -40,8 +24,8 @@ no_space true b x h = cc
 pub to_next-stops : (cs : List ℕ) (s : State) → stops_at (slice_index cs 0) ≡ false → to_next cs s ≡ s
 to_next-stops [] s stop = refl
 to_next-stops (c ∷ cs) s stop =
-    let first = none_of (is_blank c || is_break c) (c == 35) stop in
-    let both = none_of (is_blank c) (is_break c) first.0 in
+    let first = or_parts (is_blank c || is_break c) (c == 35) stop in
+    let both = or_parts (is_blank c) (is_break c) first.0 in
     let space : is_space c s ≡ false = no_space (c == 32) (c == 9) (in_flow s || not s.allowed) both.0 in
     rw (space, both.1, first.1) refl
 

@@ -1,18 +1,8 @@
 -- A text of one line that needs no quotes is one plain scalar.
-use Rattle.std.proofs.Common.{◌≡◌, ℕ, zero, suc, ◌+◌, List, [], ◌∷◌, ◌++◌, Bool, true, false, refl, ◌∙◌, arith, add-zero, append_assoc, append-nil, zero-add, length, ◌⊎◌, inl, inr, Some}
-use Rattle.std.proofs.lemmas.Bool.Decides.{nat_tests}
-use Rattle.std.specs.Prelude.{◌||◌, ◌&&◌, ◌==◌, slice_index, not, if◌then◌else◌}
-use Rattle.snap_token.specs.Characters.{is_break, is_blank, is_document_indicator}
-use Rattle.snap_token.specs.Folding.{no_gap}
-use Rattle.snap_token.specs.Place.{Place}
-use Rattle.snap_token.specs.Plain.{Plain, plain, is_outside, ends_plain}
-use Rattle.snap_token.specs.declared.folding.Fold.TheVariants.{Broken}
-use Rattle.snap_token.specs.declared.folding.Gap.{Gap}
-use Rattle.snap_scan.specs.Fetching.{innermost}
-use Rattle.snap_owed.specs.Forms.{blanks, is_word_character, is_tail}
-use Rattle.snap_owed.specs.Stands.{here}
+use Rattle.snap_owed.proofs.Prelude.{◌≡◌, ℕ, zero, suc, ◌+◌, List, [], ◌∷◌, ◌++◌, Bool, true, false, refl, ◌∙◌, arith, add-zero, append_assoc, append-nil, zero-add, length, ◌⊎◌, inl, inr, Some, nat_tests, ◌||◌, ◌&&◌, ◌==◌, slice_index, not, if◌then◌else◌, is_break, is_blank, is_document_indicator, no_gap, Place, Plain, plain, is_outside, ends_plain, Broken, Gap, innermost, blanks, is_word_character, is_tail, here, or_parts, and_left, and_right, and_parts, not_true}
 use Rattle.snap_owed.proofs.Quotes.{gap_in_line}
-use Rattle.snap_owed.proofs.Skips.{none_of, stops_at}
+use Rattle.snap_owed.proofs.Skips.{stops_at}
+use Rattle.snap_owed.proofs.Nuls.{if-true, if-false}
 
 -- where a plain scalar ends behind a line
 abbrev pub EndsWord : List ℕ → ℕ → List ℕ → Type 0
@@ -31,28 +21,13 @@ last-true false o h = h
 pub both-false : (a b : Bool) → a ≡ false → b ≡ false → a || b ≡ false
 both-false a b p q = rw (p, q) refl
 
-pub first-false : (a b : Bool) → a ≡ false → a && b ≡ false
-first-false a b p = rw p refl
-
-pub second-false : (a b : Bool) → b ≡ false → a && b ≡ false
-second-false true b q = q
-second-false false b q = refl
-
-pub both_of : (a b : Bool) → a && b ≡ true → (a ≡ true) × (b ≡ true)
-both_of true b h = (refl, h)
-both_of false b h = (cc, cc)
-
-pub not-true : (a : Bool) → not a ≡ true → a ≡ false
-not-true true h = cc
-not-true false h = refl
-
 ends-at : (columns cs : List ℕ) (i l n : ℕ) → stops_at (slice_index cs 0) ≡ false → EndsWord columns n cs → (text : List ℕ)
     → plain (innermost columns) false broken_gap text cs (here cs i l n) ≡ Some (word_end text (here cs i l n))
 ends-at columns [] i l n stop end text = refl
 ends-at columns (c ∷ cs) i l n stop (inl none) text = absurd (cc)
 ends-at columns (c ∷ cs) i l n stop (inr outside) text =
-    let first = none_of (is_blank c || is_break c) (c == 35) stop in
-    let two = none_of (is_blank c) (is_break c) first.0 in
+    let first = or_parts (is_blank c || is_break c) (c == 35) stop in
+    let two = or_parts (is_blank c) (is_break c) first.0 in
     let p : Place = here (c ∷ cs) i l n in
     let ended : ends_plain (innermost columns) false broken_gap p ≡ true =
     last-true _ _ (last-true (is_document_indicator p) (is_outside (innermost columns) n) outside) in
@@ -77,32 +52,24 @@ pub record IsWordCharacter (c : ℕ) : Type 0 where
 
 pub word_character : (c : ℕ) → is_word_character c ≡ true → IsWordCharacter c
 word_character c h =
-    let e = none_of (is_blank c || is_break c || c == 0 || c == 58) (c == 35) (not-true _ h) in
-    let d = none_of (is_blank c || is_break c || c == 0) (c == 58) e.0 in
-    let b = none_of (is_blank c || is_break c) (c == 0) d.0 in
-    let a = none_of (is_blank c) (is_break c) b.0 in
-    record { blank = a.0; line_end = a.1; line_feed = (none_of (c == 10) (c == 13) a.1).0; nul = b.1; colon = d.1; hash = e.1 }
+    let e = or_parts (is_blank c || is_break c || c == 0 || c == 58) (c == 35) (not_true _ h) in
+    let d = or_parts (is_blank c || is_break c || c == 0) (c == 58) e.0 in
+    let b = or_parts (is_blank c || is_break c) (c == 0) d.0 in
+    let a = or_parts (is_blank c) (is_break c) b.0 in
+    record { blank = a.0; line_end = a.1; line_feed = (or_parts (c == 10) (c == 13) a.1).0; nul = b.1; colon = d.1; hash = e.1 }
 
 pub plain-character : (c : ℕ) (g tail columns : List ℕ) (i l j : ℕ) (text : List ℕ) → IsWordCharacter c
     → plain (innermost columns) false (gap_in_line g) text (c ∷ tail) (here (c ∷ tail) i l j) ≡ plain (innermost columns) false no_gap (text ++ g ++ c ∷ []) tail (here tail (i + 1) l (j + 1))
 plain-character c g tail columns i l j text is =
     let p : Place = here (c ∷ tail) i l j in
     let ended : ends_plain (innermost columns) false (gap_in_line g) p ≡ false =
-    both-false _ _ (both-false _ _ (both-false _ _ (both-false (c == 0) _ is.nul (first-false (c == 58) _ is.colon)) refl) (second-false _ (c == 35) is.hash)) refl in
+    both-false _ _ (both-false _ _ (both-false _ _ (both-false (c == 0) _ is.nul (and_left (c == 58) _ is.colon)) refl) (and_right _ (c == 35) is.hash)) refl in
     rw (is.blank, is.line_end, ended, is.line_feed) refl
 
 -- a bare text is passed, of which the gap g and what is before it was read
 abbrev Passed : List ℕ → Type 0
 Passed w = (g : List ℕ) (b : Bool) → (b ≡ false → g ≡ []) → is_tail b w ≡ true → (columns tail : List ℕ) (i l j : ℕ) (text : List ℕ)
     → plain (innermost columns) false (gap_in_line g) text (w ++ tail) (here (w ++ tail) i l j) ≡ plain (innermost columns) false no_gap (text ++ g ++ w) tail (here tail (i + length w) l (j + length w))
-
-if-true : (b x y : Bool) → b ≡ true → (if b then x else y) ≡ true → x ≡ true
-if-true true x y e h = h
-if-true false x y e h = cc
-
-if-false : (b x y : Bool) → b ≡ false → (if b then x else y) ≡ true → y ≡ true
-if-false false x y e h = h
-if-false true x y e h = cc
 
 passed-by : (c : ℕ) (w : List ℕ) → Passed w → (q : Bool) → (c == 32) ≡ q → Passed (c ∷ w)
 passed-by c w rest true e g b known tail_is columns tail i l j text =
@@ -113,7 +80,7 @@ passed-by c w rest true e g b known tail_is columns tail i l j text =
     let k : text ++ (g ++ 32 ∷ []) ++ w ≡ text ++ g ++ (32 ∷ w) = simp append_assoc in
     rw same (on ∙ rw (k, m, n) refl)
 passed-by c w rest false e g b known tail_is columns tail i l j text =
-    let two = both_of (is_word_character c) (is_tail false w) (if-false (c == 32) (is_tail true w) (is_word_character c && is_tail false w) e tail_is) in
+    let two = and_parts (is_word_character c) (is_tail false w) (if-false (c == 32) (is_tail true w) (is_word_character c && is_tail false w) e tail_is) in
     let on = rest [] false (λ h. refl) two.1 columns tail (i + 1) l (j + 1) (text ++ g ++ c ∷ []) in
     let m : i + 1 + length w ≡ i + suc (length w) = omega arith in
     let n : j + 1 + length w ≡ j + suc (length w) = omega arith in
@@ -122,7 +89,7 @@ passed-by c w rest false e g b known tail_is columns tail i l j text =
 
 passed-nil : Passed []
 passed-nil g b known tail_is columns tail i l j text =
-    let gone : g ≡ [] = known (not-true b tail_is) in
+    let gone : g ≡ [] = known (not_true b tail_is) in
     rw (gone, append-nil (text ++ []), append-nil text, add-zero i, add-zero j) refl
 
 pub plain-text : (w : List ℕ) → Passed w

@@ -1,10 +1,7 @@
 -- The tokens of a JSON text yield the events of one document of its node.
-use Rattle.std.proofs.Common.{◌≡◌, Bool, true, false, List, [], ◌∷◌, ◌++◌, refl, sym, ◌∙◌, ap, subst, append_assoc}
-use Rattle.std.specs.Prelude.{◌||◌}
+use Rattle.snap_owed_json.proofs.Prelude.{◌≡◌, Bool, true, false, List, [], ◌∷◌, ◌++◌, refl, sym, ◌∙◌, ap, subst, append_assoc, ◌||◌, TokenType, Utf8, is_refused, has_refused, items_refused, entries_refused, json_tokens, item_tokens, entry_tokens, key_tokens, json_stream_tokens, or_parts}
 use Rattle.snap_content.specs.Plain as p
-use Rattle.snap_token.specs.declared.token.TokenType.{TokenType}
 use Rattle.snap_token.specs.declared.token.TokenType.TheVariants as k
-use Rattle.snap_token.specs.declared.token.TEncoding.TheVariants.{Utf8}
 use Rattle.snap_event.specs.declared.event.Event.{Event}
 use Rattle.snap_event.specs.declared.event.Event.TheVariants as e
 use Rattle.snap_event.specs.Nodes.{node_onto, nodes_onto, pairs_onto, stream_events}
@@ -12,10 +9,7 @@ use Rattle.snap_parser.specs.Place.{start_spot}
 use Rattle.snap_parser.specs.TokenTrees.{IsFit, AreFit, FitEntries, tokens_onto, flow_items_onto, flow_entries_onto, events_onto, item_events_onto, entry_events_onto, bare_tokens}
 use Rattle.snap_parser.specs.Twin.{Yields}
 use Rattle.snap_parser.proofs.TreeRuns.{bare-document}
-use Rattle.snap_json.specs.JsonText.{is_refused, has_refused, items_refused, entries_refused}
-use Rattle.snap_owed.proofs.Skips.{none_of}
 use Rattle.snap_owed_json.specs.Nodes.{json_tree, json_trees, json_entries, json_node, json_nodes, json_pairs}
-use Rattle.snap_owed_json.specs.Tokens.{json_tokens, item_tokens, entry_tokens, key_tokens, json_stream_tokens}
 
 mutual
   fit : (x : p.Plain) (b i : Bool) → IsFit b i (json_tree x)
@@ -74,15 +68,15 @@ mutual
   tokens (p.text s) rest h = refl
   tokens (p.list p.no_items) rest h = refl
   tokens (p.list (p.item x xs)) rest h =
-      let two = none_of (has_refused x) (items_refused xs) h in
+      let two = or_parts (has_refused x) (items_refused xs) h in
       let f : List TokenType → List TokenType = λ v. k.FlowSequenceStart ∷ v in
       let g : List TokenType → List TokenType = λ v. k.FlowSequenceStart ∷ (json_tokens x ++ v) in
       let split : json_tokens x ++ (item_tokens xs ++ k.FlowSequenceEnd ∷ []) ++ rest ≡ json_tokens x ++ (item_tokens xs ++ (k.FlowSequenceEnd ∷ rest)) = simp append_assoc in
       ap f split ∙ ap g (items xs (k.FlowSequenceEnd ∷ rest) two.1) ∙ ap f (tokens x (flow_items_onto (json_trees xs) (k.FlowSequenceEnd ∷ rest)) two.0)
   tokens (p.dict p.no_entries) rest h = refl
   tokens (p.dict (p.entry q v es)) rest h =
-      let two = none_of (is_refused q) (has_refused v || entries_refused es) h in
-      let others = none_of (has_refused v) (entries_refused es) two.1 in
+      let two = or_parts (is_refused q) (has_refused v || entries_refused es) h in
+      let others = or_parts (has_refused v) (entries_refused es) two.1 in
       let f : List TokenType → List TokenType = λ z. k.FlowMappingStart ∷ z in
       let g : List TokenType → List TokenType = λ z. k.FlowMappingStart ∷ (key_tokens q ++ (json_tokens v ++ z)) in
       let w : List TokenType → List TokenType = λ z. k.FlowMappingStart ∷ (key_tokens q ++ z) in
@@ -94,7 +88,7 @@ mutual
   items : (xs : p.Plains) (rest : List TokenType) → items_refused xs ≡ false → item_tokens xs ++ rest ≡ flow_items_onto (json_trees xs) rest
   items p.no_items rest h = refl
   items (p.item x xs) rest h =
-      let two = none_of (has_refused x) (items_refused xs) h in
+      let two = or_parts (has_refused x) (items_refused xs) h in
       let f : List TokenType → List TokenType = λ v. k.FlowEntry ∷ v in
       let g : List TokenType → List TokenType = λ v. k.FlowEntry ∷ (json_tokens x ++ v) in
       let split : json_tokens x ++ item_tokens xs ++ rest ≡ json_tokens x ++ (item_tokens xs ++ rest) = append_assoc (json_tokens x) (item_tokens xs) rest in
@@ -103,8 +97,8 @@ mutual
   entries : (es : p.Entries) (rest : List TokenType) → entries_refused es ≡ false → entry_tokens es ++ rest ≡ flow_entries_onto (json_entries es) rest
   entries p.no_entries rest h = refl
   entries (p.entry q v es) rest h =
-      let two = none_of (is_refused q) (has_refused v || entries_refused es) h in
-      let others = none_of (has_refused v) (entries_refused es) two.1 in
+      let two = or_parts (is_refused q) (has_refused v || entries_refused es) h in
+      let others = or_parts (has_refused v) (entries_refused es) two.1 in
       let f : List TokenType → List TokenType = λ z. k.FlowEntry ∷ z in
       let g : List TokenType → List TokenType = λ z. k.FlowEntry ∷ (key_tokens q ++ (json_tokens v ++ z)) in
       let w : List TokenType → List TokenType = λ z. k.FlowEntry ∷ (key_tokens q ++ z) in

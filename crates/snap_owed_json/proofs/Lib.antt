@@ -1,3 +1,4 @@
+mod Prelude
 pub mod Standing
 pub mod Signs
 pub mod Escapes

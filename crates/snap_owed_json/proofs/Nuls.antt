@@ -1,17 +1,5 @@
 -- No NUL stands in a JSON text.
-use Rattle.std.proofs.Common.{◌≡◌, ℕ, ◌+◌, List, [], ◌∷◌, ◌++◌, Bool, true, false, refl, arith, nat_lt, append_assoc}
-use Rattle.std.proofs.lemmas.Bool.Decides.{nat_tests}
-use Rattle.std.specs.Prelude.{◌==◌}
-use Rattle.std.specs.Fmt.{signed_decimal}
-use Rattle.std.specs.List.{flat_map}
-use Rattle.snap_content.specs.Plain.{Plain, null, bool, int, text, list, dict, Plains, no_items, item, Entries, no_entries, entry}
-use Rattle.snap_content.specs.Spell.{spell_bool}
-use Rattle.snap_json.specs.JsonText.{text_at, items_at, entries_at, member_text}
-use Rattle.snap_json.specs.Strings.{json_escaped, json_string}
-use Rattle.snap_json.specs.declared.format.Format.TheVariants.{Condensed}
-use Rattle.snap_owed.specs.Forms.{bare}
-use Rattle.snap_owed.proofs.Nuls.{has_no_nul, no-nul-append, no-nul-more, no-nul-code, no-nul-scalar, pick, pick-small}
-use Rattle.snap_owed.proofs.Printables.{bare-int}
+use Rattle.snap_owed_json.proofs.Prelude.{◌≡◌, ℕ, ◌+◌, List, [], ◌∷◌, ◌++◌, Bool, true, false, refl, arith, nat_lt, append_assoc, nat_tests, ◌==◌, signed_decimal, flat_map, Plain, null, bool, int, text, list, dict, Plains, no_items, item, Entries, no_entries, entry, spell_bool, text_at, items_at, entries_at, member_text, json_escaped, json_string, Condensed, bare, has_no_nul, no-nul-append, no-nul-more, no-nul-code, no-nul-scalar, pick, pick-small, bare-int}
 
 no-nul-escaped : (c : ℕ) → has_no_nul (json_escaped c) ≡ true
 no-nul-escaped c =

@@ -1,30 +1,9 @@
 -- The scalars of a JSON text, and a key up to its value.
-use Rattle.std.proofs.Common.{◌≡◌, ℕ, suc, ◌+◌, ◌-◌, ◌≤◌, List, [], ◌∷◌, ◌++◌, Bool, true, false, refl, sym, ap, ◌∙◌, subst, arith, Some, None, Option, map, nat_lt, length}
-use Rattle.std.proofs.lemmas.Bool.Decides.{nat_tests}
-use Rattle.std.specs.Prelude.{◌||◌, ◌&&◌, ◌==◌, slice_index, if◌then◌else◌}
-use Rattle.snap_token.specs.Characters.{is_flow_sign, is_blank_or_end}
-use Rattle.snap_token.specs.Place.{Place, mark_of}
-use Rattle.snap_token.specs.Plain.{Plain, plain_from}
-use Rattle.snap_token.specs.Quoted.{Quoted, double_from}
-use Rattle.snap_token.specs.declared.token.Token.{Token}
+use Rattle.snap_owed_json.proofs.Prelude.{◌≡◌, ℕ, suc, ◌+◌, ◌-◌, ◌≤◌, List, [], ◌∷◌, ◌++◌, Bool, true, false, refl, sym, ap, ◌∙◌, subst, arith, Some, None, Option, map, nat_lt, length, nat_tests, ◌||◌, ◌&&◌, ◌==◌, slice_index, if◌then◌else◌, is_flow_sign, is_blank_or_end, Place, mark_of, plain_from, Quoted, double_from, Token, kind_step, plain_read, quoted_read, sign, value_behind, value_of_key, Keys, is_required, fresh, still_fresh, has_levels, kind_of, left_by, fetched, State, at, pushed, keyless, SimpleKey, TokenKind, json_escaped, json_string, here, quote-kind, key_at, insert-at, closed_by, stops_at, quoted_token, plain_token, and_right, and_nothing}
+use Rattle.snap_token.specs.Plain.{Plain}
 use Rattle.snap_token.specs.declared.token.TokenType.TheVariants as t
 use Rattle.snap_token.specs.declared.token.TScalarStyle.TheVariants as style
-use Rattle.snap_scan.specs.Fetching.{kind_step, plain_read, quoted_read, sign, value_behind, value_of_key}
-use Rattle.snap_scan.specs.Keys.{Keys, is_required, fresh, still_fresh, has_levels}
-use Rattle.snap_scan.specs.Kinds.{kind_of}
-use Rattle.snap_scan.specs.Owed.{left_by, fetched}
-use Rattle.snap_scan.specs.State.{State, at, pushed, keyless}
-use Rattle.snap_scan.specs.declared.keys.SimpleKey.{SimpleKey}
-use Rattle.snap_scan.specs.declared.kind.TokenKind.{TokenKind}
 use Rattle.snap_scan.specs.declared.kind.TokenKind.TheVariants as k
-use Rattle.snap_json.specs.Strings.{json_escaped, json_string}
-use Rattle.snap_owed.specs.Stands.{here}
-use Rattle.snap_owed.proofs.Beginnings.{quote-kind}
-use Rattle.snap_owed.proofs.Keys.{key_at, insert-at}
-use Rattle.snap_owed.proofs.Quotes.{closed_by}
-use Rattle.snap_owed.proofs.Skips.{stops_at, and_false}
-use Rattle.snap_owed.proofs.Words.{second-false}
-use Rattle.snap_owed_json.specs.Tokens.{quoted_token, plain_token}
 use Rattle.snap_owed_json.proofs.Escapes.{read_string, string-whole}
 use Rattle.snap_owed_json.proofs.Signs.{key_from, free-from, saved-is, otherwise}
 use Rattle.snap_owed_json.proofs.Standing.{flow_state, AreFree, still-free, same-levels, fetch-flow}
@@ -53,7 +32,7 @@ read-quotes b a p h ks r free is =
     let s : State = flow_state b a p h ks in
     let reads : Option Quoted → Option State = λ q. left_by (quoted_read style.DoubleQuoted q s) in
     let moved : State → Option State = λ v. Some (pushed (at (mark_of p) (t.Scalar style.DoubleQuoted r.text)) (record v { allowed = false; place = r.place; adjacent = r.place.index })) in
-    ap left_by (otherwise (b && is_required ks.key) _ _ (second-false b (is_required ks.key) free)) ∙ ap reads is ∙ ap moved (saved-is b a p h ks)
+    ap left_by (otherwise (b && is_required ks.key) _ _ (and_right b (is_required ks.key) free)) ∙ ap reads is ∙ ap moved (saved-is b a p h ks)
 
 -- a text in quotes is fetched
 pub step-string : (n : ℕ) (b : Bool) (a : ℕ) (s tail : List ℕ) (i j : ℕ) (h : List Token) (ks : Keys) → AreFree n ks
@@ -78,7 +57,7 @@ read-word b a p h ks r free is =
     let s : State = flow_state b a p h ks in
     let reads : Option Plain → Option State = λ q. left_by (plain_read q s) in
     let moved : State → Option State = λ v. Some (pushed (at (mark_of p) (t.Scalar style.Plain r.text)) (record v { allowed = r.is_broken; place = r.place })) in
-    ap left_by (otherwise (b && is_required ks.key) _ _ (second-false b (is_required ks.key) free)) ∙ ap reads is ∙ ap moved (saved-is b a p h ks)
+    ap left_by (otherwise (b && is_required ks.key) _ _ (and_right b (is_required ks.key) free)) ∙ ap reads is ∙ ap moved (saved-is b a p h ks)
 
 -- how a word begins
 pub record Begins (w : List ℕ) : Type 0 where
@@ -113,7 +92,7 @@ colon-kind flow cs i j e =
     let same : (i == i) ≡ true = grind (arith, nat_tests) in
     let value : is_blank_or_end (slice_index cs 0) || (flow && (is_flow_sign (slice_index cs 0) || i == i)) ≡ true =
     colon-ends (is_blank_or_end (slice_index cs 0)) (is_flow_sign (slice_index cs 0)) (i == i) flow e same in
-    rw (and_false (j == 0), value) refl
+    rw (and_nothing (j == 0), value) refl
 
 -- the state behind a key that began at q, and its colon
 abbrev pub behind_colon : ℕ → Place → List ℕ → List Token → Token → List (Option SimpleKey) → State

@@ -1,25 +1,7 @@
 -- Brackets and commas of a JSON text.
-use Rattle.std.proofs.Common.{◌≡◌, ℕ, zero, suc, ◌+◌, ◌-◌, List, [], ◌∷◌, ◌++◌, Bool, true, false, refl, ap, ◌∙◌, arith, Some, None, Option, nat_lt, length, take}
-use Rattle.std.proofs.lemmas.List.{length-append, length-take-le}
-use Rattle.std.specs.Prelude.{◌&&◌, ◌==◌, slice_index_or, if◌then◌else◌}
-use Rattle.std.specs.List.{list_any}
-use Rattle.snap_token.specs.Place.{Place, mark_of}
-use Rattle.snap_token.specs.declared.token.Token.{Token}
+use Rattle.snap_owed_json.proofs.Prelude.{◌≡◌, ℕ, zero, suc, ◌+◌, ◌-◌, List, [], ◌∷◌, ◌++◌, Bool, true, false, refl, ap, ◌∙◌, arith, Some, None, Option, nat_lt, length, take, length-append, length-take-le, ◌&&◌, ◌==◌, slice_index_or, if◌then◌else◌, list_any, Place, mark_of, Token, Outcome, kind_step, sign, Keys, is_required, still_fresh, has_levels, shallower, deeper, kind_of, left_by, fetched, State, at, saved, SimpleKey, TokenKind, Brackets, square, curly, open_sign, close_sign, open_token, close_token, here, open_kind, close_kind, opened-kind, closed-kind, key_at, stops_at, or_parts, and_right, and_nothing, begins-hollow}
 use Rattle.snap_token.specs.declared.token.TokenType.TheVariants as t
-use Rattle.snap_scan.specs.Fetching.{Outcome, kind_step, sign}
-use Rattle.snap_scan.specs.Keys.{Keys, is_required, still_fresh, has_levels, shallower, deeper}
-use Rattle.snap_scan.specs.Kinds.{kind_of}
-use Rattle.snap_scan.specs.Owed.{left_by, fetched}
-use Rattle.snap_scan.specs.State.{State, at, saved}
-use Rattle.snap_scan.specs.declared.keys.SimpleKey.{SimpleKey}
-use Rattle.snap_scan.specs.declared.kind.TokenKind.{TokenKind}
 use Rattle.snap_scan.specs.declared.kind.TokenKind.TheVariants as k
-use Rattle.snap_owed.specs.Forms.{Brackets, square, curly, open_sign, close_sign, open_token, close_token}
-use Rattle.snap_owed.specs.Stands.{here}
-use Rattle.snap_owed.proofs.Beginnings.{open_kind, close_kind, opened-kind, closed-kind}
-use Rattle.snap_owed.proofs.Keys.{key_at}
-use Rattle.snap_owed.proofs.Skips.{stops_at, and_false, none_of}
-use Rattle.snap_owed.proofs.Words.{second-false}
 use Rattle.snap_owed_json.proofs.Standing.{flow_state, AreFree, still-free, fetch-flow}
 
 -- the possible key of a level, once a token was fetched at a place
@@ -33,7 +15,7 @@ free-from false p h key free = free
 -- the token that stands here may be a key, where one may begin
 pub saved-is : (b : Bool) (a : ℕ) (p : Place) (h : List Token) (ks : Keys)
     → saved (flow_state b a p h ks) ≡ flow_state b a p h (record { key = key_from b p h ks.key; outer = ks.outer })
-saved-is b a p h ks = rw (and_false (has_levels ks.outer)) refl
+saved-is b a p h ks = rw (and_nothing (has_levels ks.outer)) refl
 
 pub otherwise : (b : Bool) (x y : Outcome) → b ≡ false → (if b then x else y) ≡ y
 otherwise b x y h = rw h refl
@@ -48,7 +30,7 @@ keys_inside key outer = record { key = None; outer = outer ++ key ∷ [] }
 any-append : (ks : List (Option SimpleKey)) (key : Option SimpleKey) → list_any is_required ks ≡ false → is_required key ≡ false → list_any is_required (ks ++ key ∷ []) ≡ false
 any-append [] key h e = rw e refl
 any-append (x ∷ ks) key h e =
-    let two = none_of (is_required x) (list_any is_required ks) h in
+    let two = or_parts (is_required x) (list_any is_required ks) h in
     rw (two.0, any-append ks key two.1 e) refl
 
 pub free-inside : (n : ℕ) (key : Option SimpleKey) (ks : Keys) → AreFree n ks → is_required key ≡ false → AreFree (suc n) (keys_inside key ks.outer)
@@ -70,18 +52,14 @@ opened-is square n b a cs i j h ks free room =
     let p : Place = here (91 ∷ cs) i 1 j in
     let room_for : nat_lt (length ks.outer) 255 ≡ true = rw free.levels room in
     let with_keys : State → Option State = λ v. Some (sign t.FlowSequenceStart true (record v { keys = deeper v.keys })) in
-    ap left_by (otherwise (b && is_required ks.key) _ _ (second-false b (is_required ks.key) free.key) ∙ so (nat_lt (length ks.outer) 255) _ _ room_for)
+    ap left_by (otherwise (b && is_required ks.key) _ _ (and_right b (is_required ks.key) free.key) ∙ so (nat_lt (length ks.outer) 255) _ _ room_for)
     ∙ ap with_keys (saved-is b a p h ks)
 opened-is curly n b a cs i j h ks free room =
     let p : Place = here (123 ∷ cs) i 1 j in
     let room_for : nat_lt (length ks.outer) 255 ≡ true = rw free.levels room in
     let with_keys : State → Option State = λ v. Some (sign t.FlowMappingStart true (record v { keys = deeper v.keys })) in
-    ap left_by (otherwise (b && is_required ks.key) _ _ (second-false b (is_required ks.key) free.key) ∙ so (nat_lt (length ks.outer) 255) _ _ room_for)
+    ap left_by (otherwise (b && is_required ks.key) _ _ (and_right b (is_required ks.key) free.key) ∙ so (nat_lt (length ks.outer) 255) _ _ room_for)
     ∙ ap with_keys (saved-is b a p h ks)
-
-begins-open : (q : Brackets) → stops_at (open_sign q) ≡ false
-begins-open square = refl
-begins-open curly = refl
 
 -- an opening bracket is fetched
 pub step-open : (q : Brackets) (n : ℕ) (b : Bool) (a : ℕ) (cs : List ℕ) (i j : ℕ) (h : List Token) (ks : Keys) → AreFree n ks → nat_lt n 255 ≡ true
@@ -91,7 +69,7 @@ step-open q n b a cs i j h ks free room =
     let p : Place = here (open_sign q ∷ cs) i 1 j in
     let late : Keys = still_fresh (mark_of p) ks in
     let kinds : TokenKind → Option State = λ x. left_by (kind_step x (flow_state b a p h late)) in
-    fetch-flow n b a p h ks free (begins-open q) ∙ ap kinds (opened-kind q (has_levels ks.outer) a cs i 1 j)
+    fetch-flow n b a p h ks free (begins-hollow q) ∙ ap kinds (opened-kind q (has_levels ks.outer) a cs i 1 j)
     ∙ opened-is q n b a cs i j h late (still-free (mark_of p) n ks free) room
 
 -- the keys of a level, without its own
@@ -103,15 +81,15 @@ free-without n ks free = record { key = refl; outer = free.outer; levels = free.
 
 free-at : (ks : List (Option SimpleKey)) (n : ℕ) → list_any is_required ks ≡ false → is_required (slice_index_or ks n None) ≡ false
 free-at [] n h = refl
-free-at (x ∷ ks) zero h = (none_of (is_required x) (list_any is_required ks) h).0
-free-at (x ∷ ks) (suc n) h = free-at ks n (none_of (is_required x) (list_any is_required ks) h).1
+free-at (x ∷ ks) zero h = (or_parts (is_required x) (list_any is_required ks) h).0
+free-at (x ∷ ks) (suc n) h = free-at ks n (or_parts (is_required x) (list_any is_required ks) h).1
 
 free-take : (ks : List (Option SimpleKey)) (n : ℕ) → list_any is_required ks ≡ false → list_any is_required (take n ks) ≡ false
 free-take [] zero h = refl
 free-take [] (suc n) h = refl
 free-take (x ∷ ks) zero h = refl
 free-take (x ∷ ks) (suc n) h =
-    let two = none_of (is_required x) (list_any is_required ks) h in
+    let two = or_parts (is_required x) (list_any is_required ks) h in
     rw (two.0, free-take ks n two.1) refl
 
 free-either : (b : Bool) (x : Option SimpleKey) → is_required x ≡ false → is_required (if b then x else None) ≡ false
@@ -154,7 +132,7 @@ step-close q n b a cs i j h ks free =
     ∙ closed-is q b a cs i j h late (still-free (mark_of p) n ks free).key
 
 comma-kind : (flow : Bool) (a : ℕ) (cs : List ℕ) (i j : ℕ) → kind_of flow a (here (44 ∷ cs) i 1 j) ≡ k.FlowEntry
-comma-kind flow a cs i j = rw (and_false (j == 0)) refl
+comma-kind flow a cs i j = rw (and_nothing (j == 0)) refl
 
 -- the state behind a comma
 abbrev pub parted : ℕ → List ℕ → ℕ → ℕ → List Token → Keys → State

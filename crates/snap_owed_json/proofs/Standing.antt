@@ -1,19 +1,6 @@
 -- Where a scanner stands between the pieces of a JSON text, and what it fetches there.
-use Rattle.std.proofs.Common.{◌≡◌, ℕ, List, [], ◌∷◌, ◌++◌, Bool, true, false, refl, ap, ◌∙◌, append-nil, Some, None, Option, map, length}
-use Rattle.std.proofs.lemmas.List.{length-map}
-use Rattle.std.specs.Prelude.{◌&&◌, slice_index, if◌then◌else◌}
-use Rattle.std.specs.List.{list_any}
-use Rattle.snap_token.specs.Mark.{Mark}
-use Rattle.snap_token.specs.Place.{Place, mark_of}
-use Rattle.snap_token.specs.declared.token.Token.{Token}
-use Rattle.snap_scan.specs.Fetching.{kind_step}
-use Rattle.snap_scan.specs.Keys.{Keys, fresh, is_past, is_overdue, is_required, any_overdue, still_fresh, has_levels}
-use Rattle.snap_scan.specs.Kinds.{kind_of}
-use Rattle.snap_scan.specs.Owed.{left_by, fetched}
-use Rattle.snap_scan.specs.State.{State, unrolled, stale, in_flow}
-use Rattle.snap_scan.specs.declared.keys.SimpleKey.{SimpleKey}
+use Rattle.snap_owed_json.proofs.Prelude.{◌≡◌, ℕ, List, [], ◌∷◌, ◌++◌, Bool, true, false, refl, ap, ◌∙◌, append-nil, Some, None, Option, map, length, length-map, ◌&&◌, slice_index, if◌then◌else◌, list_any, Mark, Place, mark_of, Token, kind_step, Keys, fresh, is_past, is_overdue, is_required, any_overdue, still_fresh, has_levels, kind_of, left_by, fetched, State, unrolled, stale, in_flow, SimpleKey, stops_at, to_next-stops, or_parts, and_left}
 use Rattle.snap_owed.proofs.Pieces.{fetch-settled}
-use Rattle.snap_owed.proofs.Skips.{stops_at, to_next-stops, none_of}
 
 -- a state outside blocks, with these possible keys
 abbrev pub flow_state : Bool → ℕ → Place → List Token → Keys → State
@@ -34,17 +21,14 @@ pub record AreFree (n : ℕ) (ks : Keys) : Type 0 where
   pub outer : list_any is_required ks.outer ≡ false
   pub levels : length ks.outer ≡ n
 
-first-of : (b x : Bool) → b ≡ false → b && x ≡ false
-first-of b x h = rw h refl
-
 timely : (m : Mark) (k : Option SimpleKey) → is_required k ≡ false → is_overdue m k ≡ false
 timely m None h = refl
-timely m (Some k) h = first-of k.required (is_past m k) h
+timely m (Some k) h = and_left k.required (is_past m k) h
 
 timely-all : (m : Mark) (ks : List (Option SimpleKey)) → list_any is_required ks ≡ false → list_any (is_overdue m) ks ≡ false
 timely-all m [] h = refl
 timely-all m (k ∷ ks) h =
-    let two = none_of (is_required k) (list_any is_required ks) h in
+    let two = or_parts (is_required k) (list_any is_required ks) h in
     rw (timely m k two.0, timely-all m ks two.1) refl
 
 pub none-late : (m : Mark) (n : ℕ) (ks : Keys) → AreFree n ks → any_overdue m ks ≡ false
@@ -61,7 +45,7 @@ free-fresh m (Some k) h = free-if (is_past m k) k h
 free-all : (m : Mark) (ks : List (Option SimpleKey)) → list_any is_required ks ≡ false → list_any is_required (map (fresh m) ks) ≡ false
 free-all m [] h = refl
 free-all m (k ∷ ks) h =
-    let two = none_of (is_required k) (list_any is_required ks) h in
+    let two = or_parts (is_required k) (list_any is_required ks) h in
     rw (free-fresh m k two.0, free-all m ks two.1) refl
 
 -- keys that are given up stay so

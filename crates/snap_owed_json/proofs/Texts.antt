@@ -1,41 +1,18 @@
 -- A JSON text owes its tokens.
-use Rattle.std.proofs.Common.{◌≡◌, ℕ, List, [], ◌∷◌, ◌++◌, true, false, not, refl, sym, ap, ◌∙◌, subst, arith, append-nil, Some, None, Option, map}
-use Rattle.std.proofs.lemmas.Bool.Decides.{nat_tests}
-use Rattle.std.proofs.lemmas.List.{map-append}
-use Rattle.std.specs.Prelude.{nat_le}
-use Rattle.snap_content.specs.Plain.{Plain}
-use Rattle.snap_token.specs.Mark.{Mark}
-use Rattle.snap_token.specs.Place.{Place, mark_of, before_nul, forced}
-use Rattle.snap_token.specs.declared.token.Token.{Token}
-use Rattle.snap_token.specs.declared.token.TEncoding.TheVariants.{Utf8}
+use Rattle.snap_owed_json.proofs.Prelude.{◌≡◌, ℕ, List, [], ◌∷◌, ◌++◌, true, false, not, refl, sym, ap, ◌∙◌, subst, arith, append-nil, Some, None, Option, map, nat_tests, map-append, nat_le, Plain, Mark, Place, mark_of, before_nul, forced, Token, Utf8, TokenType, stream_end, Keys, no_keys, is_required, still_fresh, fetched, left_by, none_more, one_more, type_of, Owes, State, start_state, at, pushed, allowing, keyless, text_at, has_refused, Condensed, here, steps-append, without-nul, levels, has_long, is_bounded, json_tokens, json_stream_tokens, and_parts, not_true}
 use Rattle.snap_token.specs.declared.token.TokenType.TheVariants as t
-use Rattle.snap_token.specs.declared.token.TokenType.{TokenType}
-use Rattle.snap_scan.specs.Fetching.{stream_end}
-use Rattle.snap_scan.specs.Keys.{Keys, no_keys, is_required, still_fresh}
-use Rattle.snap_scan.specs.Owed.{fetched, left_by, none_more, one_more, type_of, Owes}
 use Rattle.snap_scan.specs.Scan.{start_scan}
-use Rattle.snap_scan.specs.State.{State, start_state, at, pushed, allowing, keyless}
-use Rattle.snap_json.specs.JsonText.{text_at, has_refused}
-use Rattle.snap_json.specs.declared.format.Format.TheVariants.{Condensed}
-use Rattle.snap_owed.specs.Stands.{here}
-use Rattle.snap_owed.proofs.Forms.{steps-append}
-use Rattle.snap_owed.proofs.Nuls.{without-nul}
-use Rattle.snap_owed.proofs.Words.{both_of, not-true}
-use Rattle.snap_owed_json.specs.Bounded.{levels, has_long, is_bounded}
-use Rattle.snap_owed_json.specs.Tokens.{json_tokens, json_stream_tokens}
 use Rattle.snap_owed_json.proofs.Nuls.{no-nul}
 use Rattle.snap_owed_json.proofs.Signs.{otherwise, without_key, free-without}
 use Rattle.snap_owed_json.proofs.Standing.{flow_state, AreFree, still-free, fetch-flow, unrolled-same, none-late}
 use Rattle.snap_owed_json.proofs.Values.{Reads, reached, IsFit, node}
+use Rattle.snap_owed.proofs.Documents.{start_mark}
 
 fit-whole : (p : Plain) → has_refused p ≡ false → is_bounded p ≡ true → IsFit 0 p
 fit-whole p accepted bounded =
-    let two = both_of (nat_le (levels p) 255) (not (has_long p)) bounded in
+    let two = and_parts (nat_le (levels p) 255) (not (has_long p)) bounded in
     let shallow : nat_le (levels p) 255 ≡ true = two.0 in
-    record { accepted = accepted; short = not-true (has_long p) two.1; shallow = grind (arith, nat_tests) }
-
-abbrev start_mark : Mark
-start_mark = record { index = 0; line = 1; col = 0 }
+    record { accepted = accepted; short = not_true (has_long p) two.1; shallow = grind (arith, nat_tests) }
 
 abbrev start_token : Token
 start_token = at start_mark (t.StreamStart Utf8)

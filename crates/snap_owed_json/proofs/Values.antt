@@ -1,29 +1,7 @@
 -- A value of a JSON text is fetched as its tokens.
-use Rattle.std.proofs.Common.{◌≡◌, ◌<◌, ◌≤◌, ℕ, suc, ◌+◌, List, [], ◌∷◌, ◌++◌, Bool, true, false, refl, sym, ap, ◌∙◌, subst, arith, append-nil, append_assoc, max, Some, None, Option, map, nat_lt, length}
+use Rattle.snap_owed_json.proofs.Prelude.{◌≡◌, ◌<◌, ◌≤◌, ℕ, suc, ◌+◌, List, [], ◌∷◌, ◌++◌, Bool, true, false, refl, sym, ap, ◌∙◌, subst, arith, append-nil, append_assoc, max, Some, None, Option, map, nat_lt, length, nat_tests, map-append, ◌||◌, codes, signed_decimal, Plain, null, bool, int, text, list, dict, Plains, no_items, item, Entries, no_entries, entry, spell_bool, Place, mark_of, Token, TokenType, Keys, fresh, still_fresh, shallower, Steps, none_more, one_more, fetched, type_of, State, at, SimpleKey, text_at, items_at, entries_at, member_text, is_refused, has_refused, items_refused, entries_refused, json_string, Condensed, Brackets, square, curly, open_sign, close_sign, open_token, close_token, here, steps-append, levels, item_levels, entry_levels, is_long, has_long, items_long, entries_long, json_tokens, item_tokens, entry_tokens, key_tokens, plain_token, quoted_token, or_parts}
 use Rattle.std.proofs.Math.Nat.{le-max_left, le-max_right}
-use Rattle.std.proofs.lemmas.Bool.Decides.{nat_tests}
-use Rattle.std.proofs.lemmas.List.{map-append}
-use Rattle.std.specs.Prelude.{◌||◌, codes}
-use Rattle.std.specs.Fmt.{signed_decimal}
-use Rattle.snap_content.specs.Plain.{Plain, null, bool, int, text, list, dict, Plains, no_items, item, Entries, no_entries, entry}
-use Rattle.snap_content.specs.Spell.{spell_bool}
-use Rattle.snap_token.specs.Place.{Place, mark_of}
-use Rattle.snap_token.specs.declared.token.Token.{Token}
-use Rattle.snap_token.specs.declared.token.TokenType.{TokenType}
 use Rattle.snap_token.specs.declared.token.TokenType.TheVariants as k
-use Rattle.snap_scan.specs.Keys.{Keys, fresh, still_fresh, shallower}
-use Rattle.snap_scan.specs.Owed.{Steps, none_more, one_more, fetched, type_of}
-use Rattle.snap_scan.specs.State.{State, at}
-use Rattle.snap_scan.specs.declared.keys.SimpleKey.{SimpleKey}
-use Rattle.snap_json.specs.JsonText.{text_at, items_at, entries_at, member_text, is_refused, has_refused, items_refused, entries_refused}
-use Rattle.snap_json.specs.Strings.{json_string}
-use Rattle.snap_json.specs.declared.format.Format.TheVariants.{Condensed}
-use Rattle.snap_owed.specs.Forms.{Brackets, square, curly, open_sign, close_sign, open_token, close_token}
-use Rattle.snap_owed.specs.Stands.{here}
-use Rattle.snap_owed.proofs.Forms.{steps-append}
-use Rattle.snap_owed.proofs.Skips.{none_of}
-use Rattle.snap_owed_json.specs.Bounded.{levels, item_levels, entry_levels, is_long, has_long, items_long, entries_long}
-use Rattle.snap_owed_json.specs.Tokens.{json_tokens, item_tokens, entry_tokens, key_tokens, plain_token, quoted_token}
 use Rattle.snap_owed_json.proofs.Scalars.{keys_from, free-behind, behind_string, step-string, behind_word, step-word, behind_colon, step-colon}
 use Rattle.snap_owed_json.proofs.Signs.{key_from, free-from, opened, step-open, free-inside, keys_inside, closed, step-close, without_key, free-without, free-outside, parted, step-comma}
 use Rattle.snap_owed_json.proofs.Standing.{flow_state, AreFree, still-free}
@@ -185,17 +163,17 @@ fit-dict n es fit = record { accepted = fit.accepted; short = fit.short; shallow
 
 fit-item : (n : ℕ) (p : Plain) (ps : Plains) → AreFit n (item p ps) → IsFit n p × AreFit n ps
 fit-item n p ps fit =
-    let accepted = none_of (has_refused p) (items_refused ps) fit.accepted in
-    let short = none_of (has_long p) (items_long ps) fit.short in
+    let accepted = or_parts (has_refused p) (items_refused ps) fit.accepted in
+    let short = or_parts (has_long p) (items_long ps) fit.short in
     let shallow = within (levels p) (item_levels ps) n fit.shallow in
     (record { accepted = accepted.0; short = short.0; shallow = shallow.0 }, record { accepted = accepted.1; short = short.1; shallow = shallow.1 })
 
 fit-entry : (n : ℕ) (key p : Plain) (es : Entries) → AreEntriesFit n (entry key p es) → IsMemberFit key n p × AreEntriesFit n es
 fit-entry n key p es fit =
-    let accepted = none_of (is_refused key) (has_refused p || entries_refused es) fit.accepted in
-    let accepted_rest = none_of (has_refused p) (entries_refused es) accepted.1 in
-    let short = none_of (is_long key) (has_long p || entries_long es) fit.short in
-    let short_rest = none_of (has_long p) (entries_long es) short.1 in
+    let accepted = or_parts (is_refused key) (has_refused p || entries_refused es) fit.accepted in
+    let accepted_rest = or_parts (has_refused p) (entries_refused es) accepted.1 in
+    let short = or_parts (is_long key) (has_long p || entries_long es) fit.short in
+    let short_rest = or_parts (has_long p) (entries_long es) short.1 in
     let shallow = within (levels p) (entry_levels es) n fit.shallow in (
       record { accepted = accepted.0; short = short.0; value = record { accepted = accepted_rest.0; short = short_rest.0; shallow = shallow.0 } },
       record { accepted = accepted_rest.1; short = short_rest.1; shallow = shallow.1 },

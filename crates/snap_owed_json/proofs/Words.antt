@@ -1,21 +1,9 @@
 -- The bare words of a JSON text: null, truth values and numbers.
-use Rattle.std.proofs.Common.{◌≡◌, ℕ, ℤ, pos, negsuc, zero, suc, ◌+◌, List, [], ◌∷◌, ◌++◌, Bool, true, false, refl, sym, ap, ◌∙◌, subst, arith, add-zero, append-nil, append_assoc, Some, None, Option, length}
-use Rattle.std.specs.Prelude.{◌||◌, ◌&&◌, ◌==◌, codes, slice_index}
-use Rattle.std.specs.Fmt.{signed_decimal, decimal}
-use Rattle.std.specs.List.{list_all}
-use Rattle.snap_content.specs.Spell.{spell_bool}
-use Rattle.snap_token.specs.Characters.{is_alpha, is_blank, is_blank_or_end, is_break, is_digit, is_flow_sign}
+use Rattle.snap_owed_json.proofs.Prelude.{◌≡◌, ℕ, ℤ, pos, negsuc, zero, suc, ◌+◌, List, [], ◌∷◌, ◌++◌, Bool, true, false, refl, sym, ap, ◌∙◌, subst, arith, add-zero, append-nil, append_assoc, Some, None, Option, length, ◌||◌, ◌&&◌, ◌==◌, codes, slice_index, signed_decimal, decimal, list_all, spell_bool, is_alpha, is_blank, is_blank_or_end, is_break, is_digit, is_flow_sign, Place, plain, plain_from, ends_plain, has_levels, SimpleKey, is_bare, is_start, is_tail, here, Starts, starts, AreDigits, decimal-digits, bare-int, and_left, and_right, and_parts}
 use Rattle.snap_token.specs.Folding.{no_gap}
-use Rattle.snap_token.specs.Place.{Place}
-use Rattle.snap_token.specs.Plain.{Plain, plain, plain_from, ends_plain}
-use Rattle.snap_scan.specs.Keys.{has_levels}
-use Rattle.snap_scan.specs.declared.keys.SimpleKey.{SimpleKey}
-use Rattle.snap_owed.specs.Forms.{is_bare, is_start, is_tail}
-use Rattle.snap_owed.specs.Stands.{here}
-use Rattle.snap_owed.proofs.Beginnings.{Starts, starts}
+use Rattle.snap_token.specs.Plain.{Plain}
 use Rattle.snap_owed.proofs.Escapes.{apart}
-use Rattle.snap_owed.proofs.Printables.{AreDigits, decimal-digits, bare-int}
-use Rattle.snap_owed.proofs.Words.{both_of, both-false, first-false, second-false}
+use Rattle.snap_owed.proofs.Words.{both-false}
 
 -- a word that JSON writes bare
 pub record IsWord (w : List ℕ) : Type 0 where
@@ -26,7 +14,7 @@ pub record IsWord (w : List ℕ) : Type 0 where
   pub alpha : list_all is_alpha letters ≡ true
 
 word-of : (c : ℕ) (w : List ℕ) → is_bare (c ∷ w) ≡ true → list_all is_alpha w ≡ true → IsWord (c ∷ w)
-word-of c w bare alpha = record { letter = c; letters = w; is = refl; starts = starts c w (both_of (is_start c w) (is_tail false w) bare).0; alpha = alpha }
+word-of c w bare alpha = record { letter = c; letters = w; is = refl; starts = starts c w (and_parts (is_start c w) (is_tail false w) bare).0; alpha = alpha }
 
 alpha-digit : (c : ℕ) → is_digit c ≡ true → is_alpha c ≡ true
 alpha-digit c h = rw h refl
@@ -34,7 +22,7 @@ alpha-digit c h = rw h refl
 alpha-digits : (cs : List ℕ) → list_all is_digit cs ≡ true → list_all is_alpha cs ≡ true
 alpha-digits [] h = refl
 alpha-digits (c ∷ cs) h =
-    let two = both_of (is_digit c) (list_all is_digit cs) h in
+    let two = and_parts (is_digit c) (list_all is_digit cs) h in
     rw (alpha-digit c two.0, alpha-digits cs two.1) refl
 
 positive-word : (w : List ℕ) → AreDigits w → is_bare w ≡ true → IsWord w
@@ -69,15 +57,15 @@ letter-read c flow tail i j text h =
     let sign : is_flow_sign c ≡ false =
     rw (apart is_alpha 44 c refl h, apart is_alpha 91 c refl h, apart is_alpha 93 c refl h, apart is_alpha 123 c refl h, apart is_alpha 125 c refl h) refl in
     let ended : ends_plain None flow no_gap p ≡ false =
-    both-false _ _ (both-false _ _ (both-false _ _ (both-false (c == 0) _ (apart is_alpha 0 c refl h) (first-false (c == 58) _ (apart is_alpha 58 c refl h)))
-    (second-false flow (is_flow_sign c) sign)) refl) refl in
+    both-false _ _ (both-false _ _ (both-false _ _ (both-false (c == 0) _ (apart is_alpha 0 c refl h) (and_left (c == 58) _ (apart is_alpha 58 c refl h)))
+    (and_right flow (is_flow_sign c) sign)) refl) refl in
     rw (blank, break_, ended, line, append-nil text) refl
 
 letters-read : (w : List ℕ) (flow : Bool) (tail : List ℕ) (i j : ℕ) (text : List ℕ) → list_all is_alpha w ≡ true
     → plain None flow no_gap text (w ++ tail) (here (w ++ tail) i 1 j) ≡ plain None flow no_gap (text ++ w) tail (here tail (i + length w) 1 (j + length w))
 letters-read [] flow tail i j text h = rw (append-nil text, add-zero i, add-zero j) refl
 letters-read (c ∷ w) flow tail i j text h =
-    let two = both_of (is_alpha c) (list_all is_alpha w) h in
+    let two = and_parts (is_alpha c) (list_all is_alpha w) h in
     let m : i + 1 + length w ≡ i + suc (length w) = omega arith in
     let n : j + 1 + length w ≡ j + suc (length w) = omega arith in
     let e : text ++ c ∷ [] ++ w ≡ text ++ (c ∷ w) = append_assoc text (c ∷ []) w in

@@ -1,12 +1,7 @@
 -- The steps over a stream's events give the documents of its nodes.
-use Rattle.std.proofs.Common.{◌≡◌, Bool, true, false, if◌then◌else◌, Option, None, Some, List, [], ◌∷◌, ◌++◌, map, refl, sym, ◌∙◌, ap, append_assoc, append-nil, unwrap_or}
-use Rattle.snap_event.specs.declared.event.Event.{Event}
+use Rattle.snap_parse.proofs.Prelude.{◌≡◌, Bool, true, false, if◌then◌else◌, Option, None, Some, List, [], ◌∷◌, ◌++◌, map, refl, sym, ◌∙◌, ap, append_assoc, append-nil, unwrap_or, Event, Node, alias, scalar, list, dict, Nodes, no_nodes, node, Pairs, no_pairs, pair, node_onto, nodes_onto, pairs_onto, documents_onto, stream_events, Value, hash, bad_value, is_bad, paired, behind, and_some, node_value, values_in, values_in_pairs, document_value, Held, in_list, in_dict, LoadState, start, put_in, put, closed, step, steps}
 use Rattle.snap_event.specs.declared.event.Event.TheVariants as e
-use Rattle.snap_event.specs.Nodes.{Node, alias, scalar, list, dict, Nodes, no_nodes, node, Pairs, no_pairs, pair, node_onto, nodes_onto, pairs_onto, documents_onto, stream_events}
-use Rattle.snap_yaml.specs.Value.{Value, hash, bad_value, pairs_of}
-use Rattle.snap_yaml.specs.Readers.{is_bad}
-use Rattle.snap_parse.specs.Documents.{paired, behind, and_some, node_value, values_in, values_in_pairs, document_value}
-use Rattle.snap_parse.specs.Steps.{Held, in_list, in_dict, LoadState, start, put_in, put, closed, step, steps}
+use Rattle.snap_yaml.specs.Value.{pairs_of}
 
 pub steps-more : (xs : List Event) (x : Event) (s : LoadState) → steps (xs ++ x ∷ []) s ≡ step x (steps xs s)
 steps-more [] x s = refl
@@ -74,10 +69,6 @@ mutual
   pairs-steps (pair x y ps) es ds n h hs =
       one-steps (node_value x) (node_onto y (pairs_onto ps es)) es (and_some (node_value y) (values_in_pairs ps)) h ds n hs (node-steps x (node_onto y (pairs_onto ps es)) ds n (h ∷ hs))
       (λ g. one-steps (node_value y) (pairs_onto ps es) es (values_in_pairs ps) g ds n hs (node-steps y (pairs_onto ps es) ds n (g ∷ hs)) (λ k. pairs-steps ps es ds n k hs))
-
-document-value : (o : Option Value) (ds : List Value) → (put_some o (at ds None [])).node ≡ o
-document-value None ds = refl
-document-value (Some v) ds = refl
 
 put-top : (o : Option Value) (es : List Event) (ds : List Value) → steps (e.DocumentEnd ∷ es) (put_some o (at ds None [])) ≡ steps es (at (ds ++ unwrap_or o bad_value ∷ []) None [])
 put-top None es ds = refl

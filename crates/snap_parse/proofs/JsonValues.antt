@@ -1,11 +1,7 @@
 -- The value of the node of a JSON text.
-use Rattle.std.proofs.Common.{◌≡◌, true, false, Option, Some, refl, ap, ◌∙◌}
+use Rattle.snap_parse.proofs.Prelude.{◌≡◌, true, false, Option, Some, refl, ap, ◌∙◌, IsWithin, AreWithin, AreEntriesWithin, json_node, json_nodes, json_pairs, paired, node_value, values_in, values_in_pairs, document_value, read_value, read_values, read_pairs}
 use Rattle.snap_content.specs.Plain as p
-use Rattle.snap_content.specs.Readable.{IsWithin, AreWithin, AreEntriesWithin}
 use Rattle.snap_yaml.specs.Value as v
-use Rattle.snap_owed_json.specs.Nodes.{json_node, json_nodes, json_pairs}
-use Rattle.snap_parse.specs.Documents.{paired, node_value, values_in, values_in_pairs, document_value}
-use Rattle.snap_parse.specs.PrintedValues.{read_value, read_values, read_pairs}
 use Rattle.snap_parse.proofs.PrintedValues.{number-read, never-bad, pair-read, item-read, value-of}
 
 mutual

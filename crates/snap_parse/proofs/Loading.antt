@@ -1,25 +1,10 @@
 -- What is loaded of a whole stream.
-use Rattle.std.proofs.Common.{◌≡◌, List, [], ◌∷◌, map, sym, ap, ◌∙◌, subst}
-use Rattle.snap_content.specs.Lines.{document_of}
-use Rattle.snap_content.specs.Plain.{Plain}
-use Rattle.snap_owed.specs.Tokens.{document_tokens}
-use Rattle.snap_owed.proofs.Documents.{plain-source}
+use Rattle.snap_parse.proofs.Prelude.{◌≡◌, List, [], ◌∷◌, map, sym, ap, ◌∙◌, subst, document_of, Plain, document_tokens, plain-source, json_node, Owes, start_scan, before_nul, TokenType, Parsing, WillGive, start_spot, Yields, node_of, Event, Node, stream_events, ℕ, Result, IfOk, Value, document_value, steps, start, AreLoaded, scan_error}
 use Rattle.snap_owed_json.specs.Bounded.{IsJsonOf}
-use Rattle.snap_owed_json.specs.Nodes.{json_node}
 use Rattle.snap_owed_json.specs.Tokens.{json_stream_tokens}
 use Rattle.snap_owed_json.proofs.Events.{json-events}
 use Rattle.snap_owed_json.proofs.Texts.{text-source}
-use Rattle.snap_scan.specs.Owed.{Owes}
-use Rattle.snap_scan.specs.Scan.{start_scan}
-use Rattle.snap_token.specs.Place.{before_nul}
-use Rattle.snap_token.specs.declared.token.TokenType.{TokenType}
-use Rattle.snap_parser.specs.Parsing.{Parsing, WillGive}
-use Rattle.snap_parser.specs.Place.{start_spot}
-use Rattle.snap_parser.specs.Twin.{Yields}
-use Rattle.snap_parse.specs.PrintedEvents.{node_of}
 use Rattle.snap_parse.proofs.PrintedRuns.{printed-events}
-use Rattle.snap_event.specs.declared.event.Event.{Event}
-use Rattle.snap_event.specs.Nodes.{Node, stream_events}
 use Rattle.snap_event.specs.Streams.{IsStream}
 use Rattle.snap_event.proofs.Documents.{whole-streams}
 use Rattle.std.proofs.lemmas.Result.{IfOk-weaker}
@@ -29,14 +14,9 @@ use Rattle.snap_parser.specs.declared.error.LoadError.{LoadError}
 use Rattle.snap_parser.specs.declared.error.LoadError.TheVariants as l
 use Rattle.snap_parser.specs.Errors.{IsLoadFounded}
 use Rattle.snap_scan.specs.Sound.{IsFounded}
-use Rattle.std.specs.Prelude.{ℕ, Result, IfOk}
 use Rattle.snap_yaml.specs.View.{value_of, array_list, Array}
 use Rattle.snap_parse.specs.declared.loader.Loader.{Loader}
 use Rattle.snap_parse.specs.Loader.{HasLoaded, HoldsDocuments}
-use Rattle.snap_yaml.specs.Value.{Value}
-use Rattle.snap_parse.specs.Documents.{document_value}
-use Rattle.snap_parse.specs.Steps.{steps, start}
-use Rattle.snap_parse.specs.Loaded.{AreLoaded, scan_error}
 use Rattle.snap_parse.proofs.Folds.{stream-steps}
 
 pub loaded : (documents : List Value) (events : List Event) → IsStream events → documents ≡ (steps events start).documents → AreLoaded documents

@@ -1,23 +1,7 @@
 -- Printed texts that are the same have the same document, whatever trees they are printed of.
-use Rattle.std.proofs.Common.{◌≡◌, ℕ, List, [], ◌∷◌, map, true, false, Some, sym, ap, ◌∙◌, refl, subst}
-use Rattle.snap_content.specs.Lines.{document_of}
-use Rattle.snap_content.specs.Plain.{Plain}
-use Rattle.snap_owed.specs.Tokens.{document_tokens}
-use Rattle.snap_owed.proofs.Documents.{plain-source}
-use Rattle.snap_scan.specs.Owed.{fetched, Steps, none_more, one_more, type_of, Owes}
-use Rattle.snap_scan.specs.Scan.{start_scan}
+use Rattle.snap_parse.proofs.Prelude.{◌≡◌, ℕ, List, [], ◌∷◌, map, true, false, Some, sym, ap, ◌∙◌, refl, subst, document_of, Plain, document_tokens, plain-source, fetched, Steps, none_more, one_more, type_of, Owes, start_scan, before_nul, TokenType, Event, stream_events, Spot, start_spot, Parsed, parse_step, stage_step, Yields, finished, then_one, Value, document_value, node_of, steps, start}
 use Rattle.snap_scan.specs.State.{State}
-use Rattle.snap_token.specs.Place.{before_nul}
-use Rattle.snap_token.specs.declared.token.TokenType.{TokenType}
-use Rattle.snap_event.specs.declared.event.Event.{Event}
-use Rattle.snap_event.specs.Nodes.{stream_events}
-use Rattle.snap_parser.specs.Place.{Spot, start_spot}
-use Rattle.snap_parser.specs.Twin.{Parsed, parse_step, stage_step, Yields, finished, then_one}
 use Rattle.snap_parser.specs.declared.state.Stage.TheVariants as g
-use Rattle.snap_yaml.specs.Value.{Value}
-use Rattle.snap_parse.specs.Documents.{document_value}
-use Rattle.snap_parse.specs.PrintedEvents.{node_of}
-use Rattle.snap_parse.specs.Steps.{steps, start}
 use Rattle.snap_parse.proofs.Folds.{stream-steps}
 use Rattle.snap_parse.proofs.PrintedRuns.{printed-events}
 

@@ -1,20 +1,12 @@
 -- The tokens of a printed tree yield the events of one document of its node.
-use Rattle.std.proofs.Common.{◌≡◌, ℕ, Bool, true, false, List, [], ◌∷◌, ◌++◌, refl, sym, ◌∙◌, ap, subst, append_assoc}
-use Rattle.std.specs.Prelude.{if◌then◌else◌}
+use Rattle.snap_parse.proofs.Prelude.{◌≡◌, ℕ, Bool, true, false, List, [], ◌∷◌, ◌++◌, refl, sym, ◌∙◌, ap, subst, append_assoc, if◌then◌else◌, needs_quotes, TokenType, Event, node_onto, nodes_onto, pairs_onto, stream_events, start_spot, tree_of, trees_of, entries_of, node_of, nodes_of, pairs_of, Yields}
 use Rattle.snap_content.specs.Plain as p
-use Rattle.snap_content.specs.Quotes.{needs_quotes}
-use Rattle.snap_token.specs.declared.token.TokenType.{TokenType}
 use Rattle.snap_token.specs.declared.token.TokenType.TheVariants as k
 use Rattle.snap_token.specs.declared.token.TEncoding.TheVariants.{Utf8}
 use Rattle.snap_token.specs.declared.token.TScalarStyle.TheVariants as style
-use Rattle.snap_event.specs.declared.event.Event.{Event}
 use Rattle.snap_event.specs.declared.event.Event.TheVariants as e
-use Rattle.snap_event.specs.Nodes.{node_onto, nodes_onto, pairs_onto, stream_events}
 use Rattle.snap_owed.specs.Tokens as o
-use Rattle.snap_parser.specs.Place.{start_spot}
-use Rattle.snap_parse.specs.PrintedEvents.{tree_of, trees_of, entries_of, node_of, nodes_of, pairs_of}
 use Rattle.snap_parser.specs.TokenTrees.{IsFit, AreFit, FitEntries, tokens_onto, items_onto, entries_onto, events_onto, item_events_onto, entry_events_onto, document_tokens}
-use Rattle.snap_parser.specs.Twin.{Yields}
 use Rattle.snap_parser.proofs.TreeRuns.{document}
 
 mutual

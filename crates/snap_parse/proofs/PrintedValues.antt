@@ -1,27 +1,20 @@
 -- The value of the node of a printed tree.
-use Rattle.std.proofs.Common.{◌≡◌, ℕ, ℤ, List, [], ◌∷◌, Bool, true, false, ◌==◌, ◌||◌, ◌&&◌, nat_lt, if◌then◌else◌, Option, None, Some, unwrap_or, refl, sym, ap, ◌∙◌, arith}
-use Rattle.std.specs.Prelude.{codes}
+use Rattle.snap_parse.proofs.Prelude.{◌≡◌, ℕ, ℤ, List, [], ◌∷◌, Bool, true, false, ◌==◌, ◌||◌, ◌&&◌, nat_lt, if◌then◌else◌, Option, None, Some, unwrap_or, refl, sym, ap, ◌∙◌, arith, codes, bytes_eq, needs_quotes, IsNumber, IsWithin, AreWithin, AreEntriesWithin, is_bad, paired, and_some, scalar_value, node_value, values_in, values_in_pairs, document_value, node_of, nodes_of, pairs_of, read_number, read_value, read_values, read_pairs}
 use Rattle.std.proofs.lemmas.Bool.Decides.{nat_tests}
 use Rattle.std.specs.Char.{digit_value, is_ascii_digit}
 use Rattle.std.specs.Fmt.{signed_decimal}
 use Rattle.std.specs.List.{list_all}
-use Rattle.std.specs.Str.{bytes_eq}
 use Rattle.snap_content.specs.Numbers.{is_digits, is_integer_text}
 use Rattle.snap_content.specs.Plain as p
-use Rattle.snap_content.specs.Quotes.{needs_quotes}
-use Rattle.snap_content.specs.Readable.{IsNumber, IsWithin, AreWithin, AreEntriesWithin}
 use Rattle.snap_content.specs.Typed as t
 use Rattle.snap_token.specs.declared.token.TScalarStyle.TheVariants as style
-use Rattle.snap_yaml.specs.Readers.{is_bad}
 use Rattle.snap_yaml.specs.Through.{plain_typed}
 use Rattle.snap_yaml.specs.Typing.{is_digits_in, is_integer_in, integer_of, behind_zero, prefixed_number, is_real_text, integer_or, typed_number, typed_word, typed_yaml}
 use Rattle.snap_yaml.specs.Value as v
-use Rattle.snap_yaml.proofs.Through.{typed_through}
+use Rattle.snap_yaml.proofs.Through.{typed_through, digit_test}
 use Rattle.snap_print.proofs.Typing.{typed_bare}
 use Rattle.snap_print.proofs.Typing as words
-use Rattle.snap_parse.specs.Documents.{paired, and_some, scalar_value, node_value, values_in, values_in_pairs, document_value}
-use Rattle.snap_parse.specs.PrintedEvents.{node_of, nodes_of, pairs_of}
-use Rattle.snap_parse.specs.PrintedValues.{read_number, read_value, read_values, read_pairs}
+use Rattle.snap_content.proofs.Booleans.{both_second}
 
 -- texts
 kept-no-text : (b : Bool) (z : ℤ) (s : List ℕ) → (if b then t.value (p.int z) else t.real) ≡ t.value (p.text s) → ⊥
@@ -51,13 +44,9 @@ pub data IsNumeral (w : List ℕ) (x : v.Value) : Type 0 where
   kept : x ≡ v.real w → is_integer_in 10 w ≡ false → IsNumeral w x
   other : ((z : ℤ) → plain_typed x ≡ t.value (p.int z) → ⊥) → IsNumeral w x
 
-right : (a b : Bool) → (a && b) ≡ true → b ≡ true
-right true b h = h
-right false b h = absurd (cc)
-
 integer-short : (base : ℕ) (cs : List ℕ) → is_integer_in base cs ≡ true → t.has_64_bits (t.number_in base cs) ≡ true
 integer-short base [] h = absurd (cc)
-integer-short base (c ∷ cs) h = right (if c == 43 || c == 45 then is_digits_in base cs else is_digits_in base (c ∷ cs)) (t.has_64_bits (t.number_in base (c ∷ cs))) h
+integer-short base (c ∷ cs) h = both_second (if c == 43 || c == 45 then is_digits_in base cs else is_digits_in base (c ∷ cs)) (t.has_64_bits (t.number_in base (c ∷ cs))) h
 
 chosen-short : (b : Bool) (z y : ℤ) → (b ≡ true → t.has_64_bits z ≡ true) → (if b then Some z else None) ≡ Some y → t.has_64_bits y ≡ true
 chosen-short true z y short h = let same : z ≡ y = cc in ap t.has_64_bits (sym same) ∙ short refl
@@ -110,13 +99,9 @@ numeral w =
     (numeral-if (bytes_eq w (codes "true")) w (v.boolean true) f (other (λ z h. cc))
     (numeral-if (bytes_eq w (codes "false")) w (v.boolean false) (typed_number w) (other (λ z h. cc)) (decimal-or (is_integer_in 10 w) w refl))))
 
--- the digits of a whole number
-digit-test : (c : ℕ) → nat_lt (digit_value c) 10 ≡ is_ascii_digit c
-digit-test c = grind (arith, nat_tests)
-
 all-digits : (cs : List ℕ) → list_all is_ascii_digit cs ≡ list_all (λ c. nat_lt (digit_value c) 10) cs
 all-digits [] = refl
-all-digits (c ∷ cs) = ap (λ b. b && list_all is_ascii_digit cs) (sym (digit-test c)) ∙ ap (λ b. nat_lt (digit_value c) 10 && b) (all-digits cs)
+all-digits (c ∷ cs) = ap (λ b. b && list_all is_ascii_digit cs) (sym (digit_test c)) ∙ ap (λ b. nat_lt (digit_value c) 10 && b) (all-digits cs)
 
 same-digits : (cs : List ℕ) → is_digits cs ≡ is_digits_in 10 cs
 same-digits [] = refl

@@ -1,19 +1,8 @@
 -- The stream's end in meanings and events.
-use Rattle.std.proofs.Common.{◌≡◌, List, [], ◌∷◌, Option, None, Some, Bool, true, false, not, refl, ap, sym}
-use Rattle.snap_event.specs.declared.event.Event.{Event}
+use Rattle.snap_parser.proofs.Prelude.{◌≡◌, List, [], ◌∷◌, Option, None, Some, Bool, true, false, not, refl, ap, Event, Open, due, given, sequence, key, value, Meaning, ahead, open_in, ended, given_at, leaf, start, after, is_stream_end, Passed, State, Stage, meaning_in, passed_of, stops, goes}
 use Rattle.snap_event.specs.declared.event.Event.TheVariants as e
-use Rattle.snap_event.specs.Meaning.{Open, due, given, sequence, key, value, Meaning, ahead, open_in, ended, given_at, leaf, start, after, end_document, end_stream, is_inside, is_stream_end}
-use Rattle.snap_parser.specs.declared.load.Passed.{Passed}
 use Rattle.snap_parser.specs.declared.load.Passed.TheVariants as w
-use Rattle.snap_parser.specs.declared.state.State.{State}
-use Rattle.snap_parser.specs.declared.state.Stage.{Stage}
 use Rattle.snap_parser.specs.declared.state.Stage.TheVariants as g
-use Rattle.snap_parser.specs.Place.{meaning_in}
-use Rattle.snap_parser.specs.Runs.{passed_of, stops, goes}
-
-abbrev inside_of : Option Meaning → Bool
-inside_of None = false
-inside_of (Some m) = is_inside m
 
 -- a node ends no stream
 leaf-ended : (o : Option (List Open)) → leaf o ≡ Some ended → ⊥
@@ -123,36 +112,6 @@ pub going-on : (multi : Bool) (kind : Passed) → stops multi kind ≡ false →
 going-on multi w.StreamEnd h at = cc
 going-on multi w.DocumentEnd h at = cc
 going-on multi w.Other h at = cc
-
-document-closed : (m n : Meaning) → end_document m ≡ Some n → is_inside n ≡ false
-document-closed ahead n h = absurd (cc)
-document-closed (open_in []) n h = absurd (cc)
-document-closed (open_in (due ∷ os)) n h = absurd (cc)
-document-closed (open_in (given ∷ [])) n h = let f : Option Meaning → Bool = λ v. inside_of v in ap f (sym h)
-document-closed (open_in (given ∷ (o ∷ os))) n h = absurd (cc)
-document-closed (open_in (sequence ∷ os)) n h = absurd (cc)
-document-closed (open_in (key ∷ os)) n h = absurd (cc)
-document-closed (open_in (value ∷ os)) n h = absurd (cc)
-document-closed ended n h = absurd (cc)
-
-stream-closed : (m n : Meaning) → end_stream m ≡ Some n → is_inside n ≡ false
-stream-closed ahead n h = absurd (cc)
-stream-closed (open_in []) n h = let f : Option Meaning → Bool = λ v. inside_of v in ap f (sym h)
-stream-closed (open_in (o ∷ os)) n h = absurd (cc)
-stream-closed ended n h = let f : Option Meaning → Bool = λ v. inside_of v in ap f (sym h)
-
--- where loading stops no document is open
-pub stop-closed : (multi : Bool) (event : Event) (m n : Meaning) → goes multi event ≡ false → after event m ≡ Some n → is_inside n ≡ false
-stop-closed multi e.StreamStart m n g h = absurd (cc)
-stop-closed multi e.StreamEnd m n g h = stream-closed m n h
-stop-closed multi e.DocumentStart m n g h = absurd (cc)
-stop-closed multi e.DocumentEnd m n g h = document-closed m n h
-stop-closed multi (e.Alias id) m n g h = absurd (cc)
-stop-closed multi (e.Scalar text style id tag) m n g h = absurd (cc)
-stop-closed multi (e.SequenceStart id) m n g h = absurd (cc)
-stop-closed multi e.SequenceEnd m n g h = absurd (cc)
-stop-closed multi (e.MappingStart id) m n g h = absurd (cc)
-stop-closed multi e.MappingEnd m n g h = absurd (cc)
 
 -- an event that isn't passed as the stream's end isn't it
 pub no-end : (event : Event) (kind : Passed) → kind ≡ passed_of event → (kind ≡ w.StreamEnd → ⊥) → is_stream_end event ≡ false

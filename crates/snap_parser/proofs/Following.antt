@@ -1,22 +1,16 @@
 -- Runs of a parser whose events are known.
-use Rattle.std.proofs.Common.{◌≡◌, List, [], ◌∷◌, ◌++◌, Option, Some, Bool, true, false, not, refl, sym, ◌∙◌, ap, subst, append_assoc}
-use Rattle.std.specs.List.{list_all}
-use Rattle.snap_event.specs.declared.event.Event.{Event}
+use Rattle.snap_parser.proofs.Prelude.{◌≡◌, List, [], ◌∷◌, ◌++◌, Option, Some, Bool, true, false, not, refl, sym, ◌∙◌, ap, subst, append_assoc, list_all, Event, Meaning, ended, after, Passed, Parsing, meaning, WillGive, forgetting, Steps, Run, run_start, run_more, passed_of, stops, goes, GetsMore, Passing, LoadsUpTo, and_parts}
 use Rattle.snap_event.specs.declared.event.Event.TheVariants as e
-use Rattle.snap_event.specs.Meaning.{Meaning, ended, after}
-use Rattle.snap_parser.specs.declared.load.Passed.{Passed}
 use Rattle.snap_parser.specs.declared.load.Passed.TheVariants as w
-use Rattle.snap_parser.specs.Parsing.{Parsing, meaning, WillGive}
-use Rattle.snap_parser.specs.Runs.{forgetting, Steps, Run, run_start, run_more, passed_of, stops, goes, GetsMore, Passing, LoadsUpTo}
 use Rattle.snap_parser.proofs.Endings.{end-ends, event-ends, last-is-end, stage-ended, ended-stage}
 use Rattle.snap_parser.proofs.Giving.{none-ended, ended-none}
-use Rattle.snap_parser.proofs.Running.{both, join, step-allowed, step-behind}
+use Rattle.snap_parser.proofs.Running.{join, step-allowed, step-behind}
 
 -- a test of each element of a longer list
 all-front : (f : Event → Bool) (xs : List Event) (x : Event) → list_all f (xs ++ x ∷ []) ≡ true → (list_all f xs ≡ true) × (f x ≡ true)
-all-front f [] x h = (refl, (both (f x) true h).0)
+all-front f [] x h = (refl, (and_parts (f x) true h).0)
 all-front f (y ∷ ys) x h =
-    let k = both (f y) (list_all f (ys ++ x ∷ [])) h in
+    let k = and_parts (f y) (list_all f (ys ++ x ∷ [])) h in
     let l = all-front f ys x k.1 in
     (join (f y) (list_all f ys) k.0 l.0, l.1)
 

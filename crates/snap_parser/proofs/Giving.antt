@@ -1,23 +1,8 @@
 -- What a parser will give.
-use Rattle.std.proofs.Common.{◌≡◌, List, [], ◌∷◌, Option, None, Some, ℕ, refl, sym, ◌∙◌, ap, subst}
-use Rattle.snap_token.specs.declared.info.ScanError.{ScanError}
+use Rattle.snap_parser.proofs.Prelude.{◌≡◌, List, [], ◌∷◌, Option, None, Some, ℕ, refl, sym, ◌∙◌, ap, subst, ScanError, TokenType, Owes, start_scan, Event, after, Stage, Tokens, start_tokens, spot_of, meaning_now, Names, Naming, Parsing, WillGive, GoesOn, IsNext, Spot, start_spot, WillTake, Parsed, parse_step, stage_step, Yields, finished, then_one}
 use Rattle.snap_token.specs.declared.info.ScanError.TheVariants.{OutOfMemory}
-use Rattle.snap_token.specs.declared.token.TokenType.{TokenType}
-use Rattle.snap_scan.specs.Owed.{Owes}
-use Rattle.snap_scan.specs.Scan.{start_scan}
-use Rattle.snap_event.specs.declared.event.Event.{Event}
-use Rattle.snap_event.specs.Meaning.{after}
 use Rattle.snap_parser.specs.declared.machine.Machine.{Machine}
-use Rattle.snap_parser.specs.declared.state.Stage.{Stage}
 use Rattle.snap_parser.specs.declared.state.Stage.TheVariants as g
-use Rattle.snap_parser.specs.declared.tokens.Tokens.{Tokens}
-use Rattle.snap_parser.specs.Feed.{start_tokens}
-use Rattle.snap_parser.specs.Machine.{spot_of, meaning_now}
-use Rattle.snap_parser.specs.Names.{Names, Naming}
-use Rattle.snap_parser.specs.Parsing.{Parsing, WillGive, GoesOn, IsNext}
-use Rattle.snap_parser.specs.Place.{Spot, start_spot}
-use Rattle.snap_parser.specs.Taking.{WillTake}
-use Rattle.snap_parser.specs.Twin.{Parsed, parse_step, stage_step, Yields, finished, then_one}
 
 -- a new parser gives what the tokens yield that its scanner owes
 pub new-gives : (source : List ℕ) (f : Tokens) (p : Spot) (names : Names) (tokens : List TokenType) (events : List Event) → f ≡ start_tokens source → p ≡ start_spot → Owes (start_scan source).state tokens

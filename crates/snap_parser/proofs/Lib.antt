@@ -1,3 +1,4 @@
+mod Prelude
 pub mod Endings
 pub mod Running
 pub mod Naming

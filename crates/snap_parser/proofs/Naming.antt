@@ -1,8 +1,6 @@
 -- Names and their numbers.
-use Rattle.std.proofs.Common.{◌≡◌, ◌≤◌, ◌+◌, ℕ, List, Option, Some, None, MatchOption, cond, refl, sym, subst, arith}
-use Rattle.std.specs.Prelude.{⊤}
+use Rattle.snap_parser.proofs.Prelude.{◌≡◌, ◌≤◌, ◌+◌, ℕ, List, Option, Some, None, MatchOption, cond, refl, sym, subst, arith, ⊤, Names, id_of, is_same, IsAnchored, IsKnown}
 use Rattle.std.specs.Map.{lookup}
-use Rattle.snap_parser.specs.Names.{Names, id_of, is_same, IsAnchored, IsKnown}
 
 -- a number that is found is that of a name
 pub known-is : (o : Option ℕ) (name : List ℕ) (names : Names) → o ≡ id_of name names → MatchOption o ⊤ (λ id. IsKnown id names)
@@ -17,7 +15,3 @@ registers id name es fs next old is some up each =
     let new : Names = record { known = fs; next = next } in
     let P : Names → Type 0 = λ v. IsAnchored id v new in
     subst P is (record { bare = λ none. absurd (omega (arith, some, none)); named = λ _. (refl, name, record { known = each; next = up }) })
-
--- a node without an anchor
-pub no-anchor : (names : Names) → IsAnchored 0 names names
-no-anchor names = record { bare = λ _. refl; named = λ some. absurd (some refl) }

@@ -1,17 +1,9 @@
 -- What holds behind a token, by its kind.
-use Rattle.std.proofs.Common.{◌≡◌, List, ℕ, Bool, false, refl, subst, ap, ◌∙◌}
-use Rattle.std.specs.Prelude.{All}
-use Rattle.snap_token.specs.declared.token.Token.{Token}
-use Rattle.snap_token.specs.declared.token.TokenType.{TokenType}
+use Rattle.snap_parser.proofs.Prelude.{◌≡◌, List, ℕ, Bool, false, refl, subst, ap, ◌∙◌, All, Token, TokenType, Holds, shown, is_end, IsFounded, Tokens, State, Took, HasSigns, IsSoundIn}
 use Rattle.snap_token.specs.declared.token.TokenType.TheVariants as k
 use Rattle.snap_token.specs.declared.info.ScanError.TheVariants.{Syntax}
 use Rattle.snap_token.specs.declared.info.ScanInfo.TheVariants.{P3}
-use Rattle.snap_scan.specs.Sound.{Holds, shown, is_end, IsFounded}
-use Rattle.snap_parser.specs.declared.tokens.Tokens.{Tokens}
-use Rattle.snap_parser.specs.declared.state.State.{State}
 use Rattle.snap_parser.specs.declared.state.State.TheVariants as s
-use Rattle.snap_parser.specs.Feed.{Took}
-use Rattle.snap_parser.specs.Machine.{HasSigns, IsSoundIn}
 use Rattle.snap_parser.proofs.Signs.{list-sign, dict-sign}
 
 -- behind a token that begins this state

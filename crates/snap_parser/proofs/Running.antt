@@ -1,19 +1,9 @@
 -- Runs of a parser, and what is loaded on them.
-use Rattle.std.proofs.Common.{◌≡◌, List, [], ◌∷◌, ◌++◌, Option, None, Some, Bool, true, false, not, ◌&&◌, refl, option_and_then, sym, ◌∙◌, ap, subst, append_assoc, append-nil}
-use Rattle.std.specs.List.{list_all}
-use Rattle.snap_event.specs.declared.event.Event.{Event}
+use Rattle.snap_parser.proofs.Prelude.{◌≡◌, List, [], ◌∷◌, ◌++◌, Option, None, Some, Bool, true, false, not, ◌&&◌, refl, option_and_then, sym, ◌∙◌, ap, subst, append_assoc, append-nil, list_all, Event, Meaning, ahead, ended, after, after_all, is_stream_end, Passed, Parsing, meaning, forgetting, Steps, Run, run_start, run_more, passed_of, stops, goes, GetsMore, HandsOn, Passing, LoadsUpTo, TellsStream, and_parts}
 use Rattle.snap_event.specs.declared.event.Event.TheVariants as e
-use Rattle.snap_event.specs.Meaning.{Meaning, ahead, ended, is_inside, after, after_all, is_stream_end}
 use Rattle.snap_event.specs.Streams.{HasNoEnd, IsStream}
-use Rattle.snap_parser.specs.declared.load.Passed.{Passed}
 use Rattle.snap_parser.specs.declared.load.Passed.TheVariants as w
-use Rattle.snap_parser.specs.Parsing.{Parsing, meaning}
-use Rattle.snap_parser.specs.Runs.{forgetting, Steps, Run, run_start, run_more, passed_of, stops, goes, GetsMore, HandsOn, Passing, LoadsUpTo, TellsStream}
-use Rattle.snap_parser.proofs.Endings.{event-behind, end-ends, last-is-end, going-no-end, stop-closed}
-
-pub both : (a b : Bool) → a && b ≡ true → (a ≡ true) × (b ≡ true)
-both true b h = (refl, h)
-both false b h = absurd (cc)
+use Rattle.snap_parser.proofs.Endings.{event-behind, end-ends, last-is-end, going-no-end}
 
 pub join : (a b : Bool) → a ≡ true → b ≡ true → a && b ≡ true
 join true b h k = k
@@ -22,7 +12,7 @@ join false b h k = absurd (cc)
 -- a test of each element of a longer list
 all-more : (f : Event → Bool) (xs : List Event) (x : Event) → list_all f xs ≡ true → f x ≡ true → list_all f (xs ++ x ∷ []) ≡ true
 all-more f [] x h e = join (f x) true e refl
-all-more f (y ∷ ys) x h e = let k = both (f y) (list_all f ys) h in join (f y) (list_all f (ys ++ x ∷ [])) k.0 (all-more f ys x k.1 e)
+all-more f (y ∷ ys) x h e = let k = and_parts (f y) (list_all f ys) h in join (f y) (list_all f (ys ++ x ∷ [])) k.0 (all-more f ys x k.1 e)
 
 -- what is forgotten changes no meaning
 meaning-kept : (event : Event) (p : Parsing) → meaning (forgetting event p) ≡ meaning p
@@ -86,10 +76,6 @@ passing-stop tells multi old mid new p q r kind a b s = record {
   gets = gets-more tells old mid new a.events b.event a.gets b.gets;
 }
 
--- where loading stops no document is open
-pub loads-closed : {R : Type 0} (tells : R → List Event → Type 0) (multi : Bool) (old new : R) (p q : Parsing) → LoadsUpTo tells multi old new p q → is_inside (meaning q) ≡ false
-loads-closed tells multi old new p q l = stop-closed multi l.last (meaning l.between) (meaning q) l.stops (step-allowed l.last l.between q l.steps)
-
 chain-step : (es : List Event) (event : Event) (m n : Meaning) (o : Option Meaning) → ((l : Meaning) → after_all es l ≡ Some m → after_all (es ++ event ∷ []) l ≡ Some n)
     → option_and_then (after_all es) o ≡ Some m → option_and_then (after_all (es ++ event ∷ [])) o ≡ Some n
 chain-step es event m n None f h = absurd (cc)
@@ -112,7 +98,7 @@ run-allowed p _ _ (run_more _ q r es event run steps) = chain-more es event (mea
 no-ends : (es : List Event) → list_all (goes true) es ≡ true → HasNoEnd es
 no-ends [] h = refl
 no-ends (x ∷ es) h =
-    let k = both (goes true x) (list_all (goes true) es) h in
+    let k = and_parts (goes true x) (list_all (goes true) es) h in
     join (not (is_stream_end x)) (list_all (λ event. not (is_stream_end event)) es) (going-no-end x k.0) (no-ends es k.1)
 
 -- events up to the stream's end, which may come from its start

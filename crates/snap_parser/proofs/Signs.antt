@@ -1,8 +1,7 @@
 -- The signs that stand in a text where a collection begins.
-use Rattle.std.proofs.Common.{◌≡◌, ◌≤◌, ◌+◌, ◌||◌, ◌==◌, codes, ℕ, List, [], ◌∷◌, Bool, true, false, count_by, refl, arith, cond}
+use Rattle.snap_parser.proofs.Prelude.{◌≡◌, ◌≤◌, ◌+◌, ◌||◌, ◌==◌, codes, ℕ, List, [], ◌∷◌, Bool, true, false, count_by, refl, arith, cond, Holds}
 use Rattle.std.proofs.lemmas.List.Sums.{sum_by-cons}
 use Rattle.snap_token.specs.Causes.{is_among, one_of}
-use Rattle.snap_scan.specs.Sound.{Holds}
 
 stepped : (a b : Bool) (m n : ℕ) → (a ≡ true → b ≡ true) → m ≤ n → cond a 1 0 + m ≤ cond b 1 0 + n
 stepped true true m n h le = omega (arith, le)

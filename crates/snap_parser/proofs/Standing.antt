@@ -1,11 +1,6 @@
 -- Where a parser stands, and what holds there.
-use Rattle.std.proofs.Common.{◌≡◌, List, ◌∷◌, subst, sym, ℕ}
-use Rattle.std.specs.Prelude.{All}
+use Rattle.snap_parser.proofs.Prelude.{◌≡◌, List, ◌∷◌, subst, sym, ℕ, All, Tokens, State, Feeds, HasSigns, IsSoundIn}
 use Rattle.std.proofs.lemmas.List.Elements.{All-head, All-tail, All-cons}
-use Rattle.snap_parser.specs.declared.tokens.Tokens.{Tokens}
-use Rattle.snap_parser.specs.declared.state.State.{State}
-use Rattle.snap_parser.specs.Feed.{Feeds}
-use Rattle.snap_parser.specs.Machine.{HasSigns, IsSoundIn}
 
 -- behind what was open innermost
 pub sound-popped : (source : List ℕ) (f : Tokens) (y : State) (ys zs : List State) → zs ≡ y ∷ ys → Feeds source f → All (HasSigns source) zs → IsSoundIn source f y ys

@@ -1,12 +1,5 @@
 -- What is taken of the tokens that a scanner owes.
-use Rattle.std.proofs.Common.{◌≡◌, List, [], ◌∷◌, Option, None, Some, Ok, Err, subst}
-use Rattle.snap_token.specs.declared.info.ScanError.{ScanError}
-use Rattle.snap_token.specs.declared.token.Token.{Token}
-use Rattle.snap_token.specs.declared.token.TokenType.{TokenType}
-use Rattle.snap_scan.specs.Owed.{IsFirst, GivesOwed}
-use Rattle.snap_scan.specs.Scan.{Scan}
-use Rattle.snap_parser.specs.declared.tokens.Tokens.{Tokens}
-use Rattle.snap_parser.specs.Taking.{WillTakeFrom, IsTakenFirst, TakesFirst}
+use Rattle.snap_parser.proofs.Prelude.{◌≡◌, List, [], ◌∷◌, Option, None, Some, Ok, Err, subst, ScanError, Token, TokenType, IsFirst, GivesOwed, Scan, Tokens, WillTakeFrom, IsTakenFirst, TakesFirst}
 
 first-taken : (t : Token) (new : Scan) (ts : List TokenType) → new.error ≡ None → IsFirst t new.state ts → IsTakenFirst t (record { scanner = new; held = None }) ts
 first-taken t new [] kept is = absurd is

@@ -1,16 +1,10 @@
 -- A tree's tokens yield its events.
-use Rattle.std.proofs.Common.{◌≡◌, Bool, true, false, if◌then◌else◌, Option, None, Some, List, [], ◌∷◌, refl, ◌∙◌, subst}
-use Rattle.snap_token.specs.declared.token.TokenType.{TokenType}
+use Rattle.snap_parser.proofs.Prelude.{◌≡◌, Bool, true, false, if◌then◌else◌, Option, None, Some, List, [], ◌∷◌, refl, ◌∙◌, subst, TokenType, Event, State, Spot, start_spot, Parsed, at, left_spot, node_step, filled_step, first_document_step, bare, parse_step, Yields, finished, then_one}
 use Rattle.snap_token.specs.declared.token.TokenType.TheVariants as k
-use Rattle.snap_event.specs.declared.event.Event.{Event}
 use Rattle.snap_event.specs.declared.event.Event.TheVariants as e
-use Rattle.snap_parser.specs.declared.state.State.{State}
 use Rattle.snap_parser.specs.declared.state.State.TheVariants as s
 use Rattle.snap_parser.specs.declared.state.Stage.TheVariants as g
 use Rattle.snap_parser.specs.declared.state.Ends.TheVariants as n
-use Rattle.snap_parser.specs.Place.{Spot, start_spot}
-use Rattle.snap_parser.specs.Twin.{Parsed, at, left_spot, node_step, filled_step, first_document_step, bare, parse_step}
-use Rattle.snap_parser.specs.Twin.{Yields, finished, then_one}
 use Rattle.snap_parser.specs.TokenTrees.{Tree, scalar, block_list, indentless_list, block_dict, flow_list, flow_dict, Trees, no_items, item, Entries, no_entries, entry, IsFit, AreFit, FitEntries, tokens_onto, items_onto, entries_onto, flow_items_onto, flow_entries_onto, events_onto, item_events_onto, entry_events_onto, document_tokens, bare_tokens, document_events}
 
 -- a node's event, and then those behind it

@@ -1,16 +1,10 @@
 -- The last place of a mark in a text, by its bytes and by its characters.
-use Rattle.std.proofs.Common.{◌≡◌, ℕ, ◌<◌, ◌≤◌, ◌+◌, List, [], ◌∷◌, ◌++◌, Option, None, Some, Bor, length, take, drop, get_or, refl, sym, ap, ◌∙◌, subst, arith, length-append, length-drop, MatchOption, IfSome, inl, inr, ◌⊎◌}
-use Rattle.std.proofs.Math.Seq.{take-append_seam, drop-append_seam}
+use Rattle.snap_path.proofs.Prelude.{◌≡◌, ℕ, ◌<◌, ◌≤◌, ◌+◌, List, [], ◌∷◌, ◌++◌, Option, None, Some, Bor, length, take, drop, get_or, refl, sym, ap, ◌∙◌, subst, arith, length-append, length-drop, MatchOption, IfSome, inl, inr, ◌⊎◌, take-append_seam, drop-append_seam, encodes-chars, encodes-append, encodes-IsAscii, chars-append, length-le-encodes, IsUtf8-take, IsUtf8-from_ascii, IsCharBoundary-before_ascii, list_all, chars, IsUtf8, IsAscii, IsAscii-list_all, chars-ascii, cut_last, cut_of}
 use Rattle.std.proofs.lemmas.List.{take-append-drop, take-append-le}
-use Rattle.std.proofs.lemmas.Str.{encodes-chars, encodes-append, encodes-IsAscii, chars-append, length-le-encodes, IsUtf8-take, IsUtf8-from_ascii, IsCharBoundary-before_ascii}
 use Rattle.std.proofs.lemmas.Bool.{cases_lt}
-use Rattle.std.specs.List.{list_all}
 use Rattle.std.specs.Char.{is_ascii}
 use Rattle.std.specs.Prelude.{IsTrue}
-use Rattle.std.specs.Str.{chars, IsUtf8, IsAscii}
 use Rattle.std.specs.Str.Pattern.{RFindsText, SplitsAroundMatch, LacksTextAt}
-use Rattle.snap_content.proofs.Ascii.{IsAscii-list_all, chars-ascii}
-use Rattle.snap_path.specs.Names.{cut_last, cut_of}
 use Rattle.snap_path.proofs.Cuts.{cut_last-is, cut_last-none}
 use lib.Utf8.{encodes}
 

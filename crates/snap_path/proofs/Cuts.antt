@@ -1,8 +1,5 @@
 -- The cut of a text at the last place where a mark stands.
-use Rattle.std.proofs.Common.{◌≡◌, ◌≢◌, ◌==◌, ℕ, ◌≤◌, List, [], ◌∷◌, ◌++◌, Bool, true, false, cond, Option, None, Some, length, take, drop, refl, sym, ap, ◌∙◌, arith, eq-eqb, true-eqb, lit≤, Bor, MatchOption}
-use Rattle.std.proofs.Math.Seq.{take-append_seam, drop-append_seam}
-use Rattle.std.specs.Str.{chars}
-use Rattle.snap_path.specs.Names.{Cut, cut_of, past_mark, later_or_here, cut_last}
+use Rattle.snap_path.proofs.Prelude.{◌≡◌, ◌≢◌, ◌==◌, ℕ, ◌≤◌, List, [], ◌∷◌, ◌++◌, Bool, true, false, cond, Option, None, Some, length, take, drop, refl, sym, ap, ◌∙◌, arith, eq-eqb, true-eqb, lit≤, Bor, MatchOption, take-append_seam, drop-append_seam, chars, Cut, cut_of, past_mark, later_or_here, cut_last}
 
 -- the mark stands between both parts, and nowhere later
 pub record IsLastCut (mark text before behind : List ℕ) : Type 0 where

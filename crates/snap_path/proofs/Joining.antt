@@ -1,11 +1,6 @@
 -- Paths that are joined, and their names.
-use Rattle.std.proofs.Common.{◌≡◌, ℕ, List, [], ◌∷◌, ◌++◌, Bool, true, false, ◌==◌, ◌||◌, cond, Some, refl, sym, ap, ◌∙◌, subst, append_assoc}
-use Rattle.std.specs.List.{filter, list_any, All}
-use Rattle.std.proofs.lemmas.List.Elements.{All-nil, All-cons, All-head, All-tail, All-append, All-filter, filter_passes, All-same}
+use Rattle.snap_path.proofs.Prelude.{◌≡◌, ℕ, List, [], ◌∷◌, ◌++◌, Bool, true, false, ◌==◌, ◌||◌, cond, Some, refl, sym, ap, ◌∙◌, subst, append_assoc, filter, list_any, All, All-nil, All-cons, All-head, All-tail, All-append, All-filter, filter_passes, All-same, between_slashes, is_component, components, is_absolute, slashed, path_of_parts, joined, all_but_last, last_of, parent_of, name_of, IsName, front_behind, front_of, onto, or_left, or_right}
 use Rattle.snap_content.specs.Front.{begins}
-use Rattle.snap_path.specs.Paths.{between_slashes, is_component, components, is_absolute, slashed, path_of_parts, joined, all_but_last, last_of, parent_of, name_of, IsName, front_behind, front_of}
-use Rattle.snap_str.specs.Lines.{onto}
-use Rattle.snap_content.proofs.Booleans.{or_left, or_right}
 
 abbrev pub is_slash : ℕ → Bool
 is_slash c = c == 47

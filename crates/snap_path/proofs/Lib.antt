@@ -1,4 +1,5 @@
-mod Parts
+mod Prelude
+pub mod Parts
 pub mod Cuts
 mod CutTexts
 pub mod Joining

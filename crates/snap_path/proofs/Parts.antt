@@ -1,14 +1,7 @@
 -- The components of a text: character by character, and from its last slash.
-use Rattle.std.proofs.Common.{◌≡◌, ℕ, List, [], ◌∷◌, ◌++◌, Bool, true, false, ◌==◌, cond, codes, length, ◌<◌, subst, arith, Option, None, Some, refl, sym, ap, ◌∙◌, append_assoc, append-nil}
-use Rattle.std.specs.List.{filter, flat_map}
-use Rattle.std.proofs.lemmas.List.Elements.{filter-append}
+use Rattle.snap_path.proofs.Prelude.{◌≡◌, ℕ, List, [], ◌∷◌, ◌++◌, Bool, true, false, ◌==◌, cond, codes, length, ◌<◌, subst, arith, Option, None, Some, refl, sym, ap, ◌∙◌, append_assoc, append-nil, filter, flat_map, filter-append, bytes_eq, then_slashed, stand_behind, start, path_of_parts, is_absolute, joined, between_slashes, is_component, components, slashed, behind_slash, steps_up, all_but_last, last_of, Apart, apart, AreApart, from_apart, onto, Cut, cut_of, later_or_here, cut_last, or_left, or_right}
 use Rattle.std.proofs.lemmas.List.Concat.{flat_map-append}
-use Rattle.std.specs.Str.{bytes_eq}
-use Rattle.snap_path.specs.Paths.{then_slashed, stand_behind, start, path_of_parts, is_absolute, joined, between_slashes, is_component, components, slashed, behind_slash, steps_up, all_but_last, last_of, Apart, apart, AreApart, from_apart}
-use Rattle.snap_str.specs.Lines.{onto}
-use Rattle.snap_path.specs.Names.{Cut, cut_of, later_or_here, cut_last}
 use Rattle.snap_str.specs.Cut.{Lacks, IsCutAtFirst}
-use Rattle.snap_content.proofs.Booleans.{or_left, or_right}
 
 between_first : (c : ℕ) (before behind : List ℕ) (slash : Bool) → (c == 47) ≡ slash → slash ≡ false → between_slashes (before ++ 47 ∷ behind) ≡ before ∷ between_slashes behind
     → between_slashes (c ∷ (before ++ 47 ∷ behind)) ≡ (c ∷ before) ∷ between_slashes behind

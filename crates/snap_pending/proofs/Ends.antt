@@ -1,14 +1,6 @@
 -- The ends of saving, exit by exit.
-use Rattle.std.proofs.Common.{◌≡◌, ℕ, Bool, false, List, Option, Some, Result, Ok, Err, refl, ap, sym, ◌∙◌, subst, OnOk, OnErr, IsErrOf}
-use Rattle.std.proofs.lemmas.Str.{encodes-chars}
-use Rattle.std.specs.Prelude.{encode_utf8_all}
-use Rattle.std.specs.Str.{IsUtf8, chars}
-use Rattle.snap_content.specs.declared.error.Error.{Error}
-use Rattle.snap_content.specs.declared.error.Error.TheVariants.{FailedParsingYaml, UnexpectedDataType, MissingField, FileIo, FloatText, JsonKey, NotText, NoFile, OutOfMemory}
-use Rattle.snap_outside.specs.Files.{Files, SameBut, appended}
+use Rattle.snap_pending.proofs.Prelude.{◌≡◌, ℕ, Bool, false, List, Option, Some, Result, Ok, Err, refl, ap, sym, ◌∙◌, subst, OnOk, OnErr, IsErrOf, encodes-chars, encode_utf8_all, IsUtf8, chars, Error, FailedParsingYaml, UnexpectedDataType, MissingField, FileIo, FloatText, JsonKey, NotText, NoFile, OutOfMemory, Files, SameBut, appended, SaveEnd, SavingEnd, SavingRefused, PrintRefused, same_but, nothing_written}
 use Rattle.snap_store.specs.Causes.{ErrorCause}
-use Rattle.snap_store.specs.Reading.{SaveEnd}
-use Rattle.snap_pending.specs.Saved.{SavingEnd, SavingRefused, PrintRefused}
 
 -- what was printed was written, or failed
 pub saved : {T : Type 0} → (path : List ℕ) (refused : Bool) (result : Result T Error) → refused ≡ false → SaveEnd path result → SavingEnd path refused result
@@ -59,17 +51,9 @@ no_key_here {T} {P} path result is end = absurd (never (subst Q is end))
 pub no_key : {T P : Type 0} → (path : List ℕ) (result : Result T Error) → SaveEnd path result → IsErrOf result JsonKey → P
 no_key path result end key = no_key_here path result key end
 
-pub same_but : (path : List ℕ) (m : Files) (files : Option Files) → files ≡ Some m → SameBut path m files
-same_but path m files told = record { files = m; told = told; others = λ q other. refl }
-
 pub at_ok : {T P Q : Type 0} → (result : Result T Error) → (P → Q) → OnOk result P → OnOk result Q
 at_ok (Ok value) f p = f p
 at_ok (Err error) f p = tt
-
-pub same_but_then : {T : Type 0} → (result : Result T Error) (path : List ℕ) (files : Option Files)
-    → OnErr result ((m : Files) → files ≡ Some m → SameBut path m files)
-same_but_then (Ok done) path files = tt
-same_but_then (Err error) path files = λ m told. same_but path m files told
 
 -- the bytes of a text are those of its characters
 pub text_added : (m : Files) (now : Option Files) (path bytes sent printed text : List ℕ) → IsUtf8 bytes → chars bytes ≡ printed → printed ≡ text → sent ≡ bytes

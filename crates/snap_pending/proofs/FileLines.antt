@@ -1,18 +1,11 @@
 -- The file of some lines, one line more and all of them, and the files beside it.
-use Rattle.std.proofs.Common.{◌≡◌, ◌≢◌, ℕ, ◌+◌, ◌<◌, ◌≤◌, Bool, true, false, cond, List, [], ◌∷◌, ◌++◌, length, take, get_or, Option, None, Some, refl, ap, sym, ◌∙◌}
+use Rattle.snap_pending.proofs.Prelude.{◌≡◌, ◌≢◌, ℕ, ◌+◌, ◌<◌, ◌≤◌, Bool, true, false, cond, List, [], ◌∷◌, ◌++◌, length, take, get_or, Option, None, Some, refl, ap, sym, ◌∙◌, append-nil, take_more, take_all, flat_map, encode_utf8_all, unwrap_or, bytes_eq, inl, inr, Files, SameBut, MayBeGone, appended, with_lines}
 use Rattle.std.proofs.lemmas.Cmp.{nat_list_cmp_total}
 use Rattle.std.proofs.lemmas.Grind.{flat_map-append}
-use Rattle.std.proofs.lemmas.List.{append-nil, take_more, take_all}
 use Rattle.std.proofs.lemmas.List.Concat.{flat_map-cons}
 use Rattle.std.proofs.lemmas.Map.Text.{is_eq-slice_cmp}
 use Rattle.std.proofs.lemmas.Slice.Eq.{bytes_eq-Decides}
 use Rattle.std.specs.FinMap.{get, insert, remove, get-insert, get-remove, same_map, slice_cmp-IsAntisymmetric, nat_cmp-IsAntisymmetric}
-use Rattle.std.specs.List.{flat_map}
-use Rattle.std.specs.Prelude.{encode_utf8_all, unwrap_or}
-use Rattle.std.specs.Str.{bytes_eq}
-use Rattle.std.proofs.Common.{inl, inr}
-use Rattle.snap_outside.specs.Files.{Files, SameBut, MayBeGone, appended}
-use Rattle.snap_pending.specs.Saved.{with_lines}
 
 get-inserted : (m : Files) (k q v : List ℕ) → get (insert m k v) q ≡ cond (bytes_eq q k) (Some v) (get m q)
 get-inserted m k q v = get-insert nat_list_cmp_total m k v q ∙ ap (λ b. cond b (Some v) (get m q)) (is_eq-slice_cmp q k)

@@ -1,11 +1,6 @@
 -- The records of the last run.
-use Rattle.std.proofs.Common.{◌≡◌, ℕ, suc, ◌-◌, Bool, true, false, cond, List, [], ◌∷◌, length, map, Some, refl, ap, sym, ◌∙◌}
+use Rattle.snap_pending.proofs.Prelude.{◌≡◌, ℕ, suc, ◌-◌, Bool, true, false, cond, List, [], ◌∷◌, length, map, Some, refl, ap, sym, ◌∙◌, filter, slice_get, bytes_eq, last_run, is_of_run, batch_of, pending_of, PendingInlineSnapshot}
 use Rattle.std.proofs.Math.Numerals.{sub-one}
-use Rattle.std.specs.List.{filter, slice_get}
-use Rattle.std.specs.Str.{bytes_eq}
-use Rattle.snap_pending.specs.Batches.{last_run, is_of_run, batch_of}
-use Rattle.snap_pending.specs.Pending.{pending_of}
-use Rattle.snap_pending.specs.declared.pending.PendingInlineSnapshot.{PendingInlineSnapshot}
 
 -- what passes is seen as what passes of what is seen
 filter_seen : {X Y : Type 0} (f : X → Y) (test : Y → Bool) (xs : List X) → map f (filter (λ x. test (f x)) xs) ≡ filter test (map f xs)

@@ -1,3 +1,4 @@
+mod Prelude
 mod FileLines
 mod Ends
 mod Records

@@ -1,30 +1,11 @@
 -- The lines that records are saved as are read back.
-use Rattle.std.proofs.Common.{◌≡◌, ◌⊎◌, inl, inr, ℕ, nat_lt, Bool, true, false, ◌==◌, ◌||◌, List, [], ◌∷◌, ◌++◌, map, Option, Some, refl, ap, sym, ◌∙◌, subst, append_assoc, arith, if◌then◌else◌, encode_utf8_all}
-use Rattle.std.proofs.lemmas.Bool.{or_parts}
+use Rattle.snap_pending.proofs.Prelude.{◌≡◌, ◌⊎◌, inl, inr, ℕ, nat_lt, Bool, true, false, ◌==◌, ◌||◌, List, [], ◌∷◌, ◌++◌, map, Option, Some, refl, ap, sym, ◌∙◌, subst, append_assoc, arith, if◌then◌else◌, encode_utf8_all, or_parts, encodes-append, chars_from_encodes, All, list_any, flat_map, chars, IsUtf8, Plain, Error, json_plain, json_text, Condensed, IsJsonOf, lines, without_return, lines-line, IsTextFile, IsBack, AreBack, IsReadable, HasTexts, batch_of, Tell, Refuse, IsBatch, HasRefusedLine, Pending, record_of, record_line, TellsRecord, RecordRefused, LineTells, LineRefused}
 use Rattle.std.proofs.lemmas.Bool.Decides.{nat_tests}
-use Rattle.std.proofs.lemmas.Str.{encodes-append, chars_from_encodes}
 use Rattle.std.proofs.lemmas.List.Elements.{All-head, All-tail}
-use Rattle.std.specs.List.{All, list_any, flat_map}
-use Rattle.std.specs.Str.{chars, IsUtf8}
-use Rattle.snap_content.specs.Plain.{Plain}
-use Rattle.snap_content.specs.declared.error.Error.{Error}
 use Rattle.snap_content.specs.declared.error.Error.TheVariants as e
-use Rattle.snap_json.specs.JsonPlain.{json_plain}
-use Rattle.snap_json.specs.JsonText.{json_text}
 use Rattle.snap_json.specs.OneLine.{is_low}
-use Rattle.snap_json.specs.declared.format.Format.TheVariants.{Condensed}
 use Rattle.snap_json.proofs.OneLine.{text_clear}
-use Rattle.snap_owed_json.specs.Bounded.{IsJsonOf}
 use Rattle.snap_str.specs.Cut.{Lacks}
-use Rattle.snap_str.specs.Lines.{lines, without_return}
-use Rattle.snap_str.proofs.LineTexts.{lines-line}
-use Rattle.snap_store.specs.Reading.{IsTextFile}
-use Rattle.snap_pending.specs.Back.{IsBack, AreBack, IsReadable, HasTexts}
-use Rattle.snap_pending.specs.Batches.{batch_of}
-use Rattle.snap_pending.specs.Loaded.{Tell, Refuse, IsBatch, HasRefusedLine}
-use Rattle.snap_pending.specs.Pending.{Pending}
-use Rattle.snap_pending.specs.Record.{record_of, record_line}
-use Rattle.snap_pending.specs.Told.{TellsRecord, RecordRefused, LineTells, LineRefused}
 use Rattle.snap_pending.proofs.RecordBack.{record-back}
 use Rattle.snap_pending.proofs.RecordKept.{never-refused}
 

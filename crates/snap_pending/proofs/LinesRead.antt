@@ -1,25 +1,10 @@
 -- The lines of a file, read one by one.
-use Rattle.std.proofs.Common.{◌≡◌, ℕ, zero, suc, ◌/◌, ◌%◌, ◌==◌, ℤ, pos, negsuc, Bool, true, false, List, [], ◌∷◌, ◌++◌, Option, Result, Ok, Err, ap, sym, ◌∙◌, subst, inl, inr, append_assoc, IsErrAnd}
-use Rattle.std.proofs.lemmas.List.{append-nil}
+use Rattle.snap_pending.proofs.Prelude.{◌≡◌, ℕ, zero, suc, ◌/◌, ◌%◌, ◌==◌, ℤ, pos, negsuc, Bool, true, false, List, [], ◌∷◌, ◌++◌, Option, Result, Ok, Err, ap, sym, ◌∙◌, subst, append_assoc, IsErrAnd, append-nil, if◌then◌else◌, Error, FailedParsingYaml, UnexpectedDataType, MissingField, FileIo, FloatText, JsonKey, NotText, NoFile, OutOfMemory, Pending, Plain, null, bool, int, text, list, dict, no_items, item, no_entries, entry, content_of, plain, Tree, text_at, Condensed, IsJsonOf, tree, LineTells, LineRefused, LineEnd, RecordEnd, MayBeJsonOf, IsNoJson, parsing_refusal, PendingInlineSnapshot, Tell, Refuse, LoadRefused, LoadEnd, lines}
 use Rattle.std.specs.Fmt.{decimal, signed_decimal, digits, digits_onto, digit_glyph}
-use Rattle.std.specs.Prelude.{if◌then◌else◌}
-use Rattle.snap_content.specs.declared.error.Error.{Error}
-use Rattle.snap_content.specs.declared.error.Error.TheVariants.{FailedParsingYaml, UnexpectedDataType, MissingField, FileIo, FloatText, JsonKey, NotText, NoFile, OutOfMemory}
-use Rattle.snap_pending.specs.Pending.{Pending}
-use Rattle.snap_content.specs.Plain.{Plain, null, bool, int, text, list, dict, no_items, item, no_entries, entry, content_of, plain}
 use Rattle.snap_content.specs.Readable.{IsWithin}
-use Rattle.snap_content.specs.Tree.{Tree}
 use Rattle.snap_content.proofs.PlainMade.{plain_made}
-use Rattle.snap_json.specs.JsonText.{text_at}
-use Rattle.snap_json.specs.declared.format.Format.TheVariants.{Condensed}
-use Rattle.snap_owed_json.specs.Bounded.{IsJsonOf}
-use Rattle.snap_content.specs.View.{tree}
 use Rattle.snap_content.specs.declared.content.Content.{Content}
 use Rattle.snap_emit.specs.Parsed.{MayBeReadAs, IsUnprinted, IsReadFrom, RefusalEnd}
-use Rattle.snap_pending.specs.Told.{LineTells, LineRefused, LineEnd, RecordEnd, MayBeJsonOf, IsNoJson, parsing_refusal}
-use Rattle.snap_pending.specs.declared.pending.PendingInlineSnapshot.{PendingInlineSnapshot}
-use Rattle.snap_pending.specs.Loaded.{Tell, Refuse, LinesEnd, LoadRefused, LoadEnd}
-use Rattle.snap_str.specs.Lines.{lines}
 use Rattle.snap_pending.specs.declared.batch.Batch.{Batch}
 
 -- what the lines that are left tell, the whole tells behind what was read
@@ -36,29 +21,6 @@ told_more whole left more line records now pending is tells same told = λ rest 
     let P : List (List ℕ) → Type 0 = λ ls. Tell ls (pending ∷ rest) in
     let Q : List Pending → Type 0 = λ ps. Tell whole ps in
     subst Q (sym (ap (λ ps. ps ++ rest) same ∙ append_assoc records (pending ∷ []) rest)) (told (pending ∷ rest) (subst P (sym is) (tells, h)))
-
-pub refused_more : (path : List ℕ) (whole left more : List (List ℕ)) (line : List ℕ) (pending : Pending) → left ≡ line ∷ more → LineTells line pending
-    → Refused path whole left → Refused path whole more
-refused_more path whole left more line pending is tells refused = λ error h.
-    let P : List (List ℕ) → Type 0 = λ ls. Refuse path ls error in
-    refused error (subst P (sym is) (inr (pending, tells, h)))
-
-pub refused_here : (path : List ℕ) (whole left more : List (List ℕ)) (line : List ℕ) (error : Error) → left ≡ line ∷ more → LineRefused path line error
-    → Refused path whole left → LinesEnd path whole (Err error)
-refused_here path whole left more line error is h refused = ends error h (λ r.
-    let P : List (List ℕ) → Type 0 = λ ls. Refuse path ls error in
-    refused error (subst P (sym is) (inl r)))
-  where
-    ends : (e : Error) → LineRefused path line e → (LineRefused path line e → Refuse path whole e) → LinesEnd path whole (Err e)
-    ends (FailedParsingYaml named) h f = f h
-    ends UnexpectedDataType h f = f h
-    ends MissingField h f = f h
-    ends OutOfMemory h f = tt
-    ends (FileIo named) h f = absurd h
-    ends (FloatText named) h f = absurd h
-    ends JsonKey h f = absurd h
-    ends (NotText named) h f = absurd h
-    ends (NoFile named) h f = absurd h
 
 -- no line is left
 pub all_told : (whole : List (List ℕ)) (rest : List ℕ) (records : List Pending) → rest ≡ [] → Told whole (lines rest) records → Tell whole records

@@ -1,10 +1,6 @@
 -- Lists, one element more and all of them.
-use Rattle.std.proofs.Common.{◌≡◌, ℕ, zero, suc, ◌+◌, ◌<◌, ◌≤◌, Bool, true, false, ◌||◌, List, [], ◌∷◌, ◌++◌, length, take, get_or, map, refl, ap, sym, ◌∙◌, arith}
-use Rattle.std.proofs.lemmas.List.{map-append, take_more, take_all}
-use Rattle.std.specs.List.{list_any}
-use Rattle.snap_content.specs.declared.error.Error.{Error}
-use Rattle.snap_content.specs.declared.error.Error.TheVariants.{FailedParsingYaml, UnexpectedDataType, MissingField, FileIo, FloatText, JsonKey, NotText, NoFile, OutOfMemory}
-use Rattle.snap_pending.specs.Saved.{PrintRefused}
+use Rattle.snap_pending.proofs.Prelude.{◌≡◌, ℕ, zero, suc, ◌+◌, ◌<◌, ◌≤◌, Bool, true, false, ◌||◌, List, [], ◌∷◌, ◌++◌, length, take, get_or, map, refl, ap, sym, ◌∙◌, arith, map-append, take_more, take_all, list_any, Error, FailedParsingYaml, UnexpectedDataType, MissingField, FileIo, FloatText, JsonKey, NotText, NoFile, OutOfMemory, PrintRefused}
+use Rattle.snap_content.proofs.Booleans.{or_nothing}
 
 mapped_more : {X Y : Type 0} (f : X → Y) (xs : List X) (i : ℕ) (x : X) → i < length xs → x ≡ get_or xs i x
     → map f (take (i + 1) xs) ≡ map f (take i xs) ++ f x ∷ []
@@ -20,12 +16,8 @@ or_assoc : (a b c : Bool) → a || (b || c) ≡ (a || b) || c
 or_assoc true b c = refl
 or_assoc false b c = refl
 
-or_alone : (a : Bool) → a || false ≡ a
-or_alone true = refl
-or_alone false = refl
-
 any_one_more : {X : Type 0} (test : X → Bool) (xs : List X) (x : X) → list_any test (xs ++ x ∷ []) ≡ list_any test xs || test x
-any_one_more test [] x = or_alone (test x)
+any_one_more test [] x = or_nothing (test x)
 any_one_more test (y ∷ xs) x = ap (λ b. test y || b) (any_one_more test xs x) ∙ or_assoc (test y) (list_any test xs) (test x)
 
 pub none_more : {X : Type 0} (test : X → Bool) (xs : List X) (i : ℕ) (x : X) → i < length xs → x ≡ get_or xs i x

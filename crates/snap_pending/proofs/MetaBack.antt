@@ -1,20 +1,12 @@
 -- What is read back of the metadata in a record.
-use Rattle.std.proofs.Common.{◌≡◌, ℕ, ◌^◌, ◌<◌, pos, Bool, true, false, cond, not, ◌&&◌, nat_lt, List, Option, None, Some, refl, ap, sym, ◌∙◌}
+use Rattle.snap_pending.proofs.Prelude.{◌≡◌, ℕ, ◌^◌, ◌<◌, pos, Bool, true, false, cond, not, ◌&&◌, nat_lt, List, Option, None, Some, refl, ap, sym, ◌∙◌, IfSome, codes, option_and_then, option_map, if◌then◌else◌, Tree, string, i64, u32, u64, u128, TreePairs, no_pairs, pair, json_plain, json_pairs, is_text, binary_kind, kind_in, fields, Meta, text_pair, line_pair, info_pair, kind_pairs, meta_pairs, meta_tree, without_nil_info, TellsFields, SnapshotKind, in_json, meta_back, TellsMeta}
 use Rattle.std.specs.Option.{option_or}
-use Rattle.std.specs.Prelude.{IfSome, codes, option_and_then, option_map, if◌then◌else◌}
 use Rattle.snap_content.specs.Plain as p
-use Rattle.snap_content.specs.Tree.{Tree, string, i64, u32, u64, u128, map, TreePairs, no_pairs, pair}
-use Rattle.snap_json.specs.JsonPlain.{json_plain, json_pairs}
-use Rattle.snap_store.specs.Fields.{is_text, binary_kind, kind_in, fields}
-use Rattle.snap_store.specs.Meta.{Meta}
-use Rattle.snap_store.specs.MetaTree.{text_pair, line_pair, info_pair, kind_pairs, meta_pairs, meta_tree, without_nil_info, TellsFields}
+use Rattle.snap_content.specs.Tree.{map}
 use Rattle.snap_store.specs.TreeFields.{tree_text, tree_line, is_key, is_nil, last_by, last_in, last_filled_in, text_at, line_at, kind_told, fields_told}
-use Rattle.snap_store.specs.declared.metadata.SnapshotKind.{SnapshotKind}
 use Rattle.snap_store.specs.declared.metadata.SnapshotKind.TheVariants.{Text, Binary}
 use Rattle.snap_store.proofs.MetaTrees.{meta_tree-tells}
 use Rattle.snap_store.proofs.TreesMade.{kind-made, fields-made, same_meta}
-use Rattle.snap_pending.specs.Back.{in_json, meta_back}
-use Rattle.snap_pending.specs.Told.{TellsMeta}
 
 -- the same pairs, with the line as a reader makes it
 

@@ -1,19 +1,9 @@
 -- The parts of a snapshot and of a record, exit by exit.
-use Rattle.std.proofs.Common.{◌≡◌, ℕ, List, Option, None, Some, Result, Ok, Err, refl, ap, sym, subst}
-use Rattle.std.specs.Prelude.{codes, option_map}
-use Rattle.snap_content.specs.Plain.{Plain, Entries, text, dict}
-use Rattle.snap_content.specs.declared.error.Error.{Error}
-use Rattle.snap_content.specs.declared.error.Error.TheVariants.{FailedParsingYaml, UnexpectedDataType, MissingField, FileIo, FloatText, JsonKey, NotText, NoFile, OutOfMemory}
-use Rattle.snap_store.specs.Fields.{last_value}
-use Rattle.snap_store.specs.Meta.{Meta}
-use Rattle.snap_store.specs.Views.{meta_of}
-use Rattle.snap_store.specs.declared.contents.SnapshotContents.{SnapshotContents}
+use Rattle.snap_pending.proofs.Prelude.{◌≡◌, ℕ, List, Option, None, Some, Result, Ok, Err, refl, ap, sym, subst, codes, option_map, Plain, Entries, text, dict, Error, FailedParsingYaml, UnexpectedDataType, MissingField, FileIo, FloatText, JsonKey, NotText, NoFile, OutOfMemory, last_value, Meta, meta_of, SnapshotContents, Held, held_of, TellsMeta, HoldsText, HeldRefused, HeldEnd, IsOtherHeld, LacksInHeld, MayTell, IsOtherRecord, LacksInRecord, RecordRefused}
 use Rattle.snap_store.specs.declared.metadata.MetaData.{MetaData}
 use Rattle.snap_store.specs.declared.snapshot.Snapshot.{Snapshot}
-use Rattle.snap_pending.specs.Pending.{Held, held_of}
 use Rattle.snap_pending.specs.Told.IsOtherHeld.{no_metadata, no_text}
 use Rattle.snap_pending.specs.Told.LacksInHeld.{lacks_module, lacks_extension}
-use Rattle.snap_pending.specs.Told.{TellsMeta, HoldsText, HeldRefused, HeldEnd, IsOtherHeld, LacksInHeld, MayTell, IsOtherRecord, LacksInRecord, RecordRefused}
 use Rattle.snap_pending.specs.Parts.{MetadataEnd, ContentsEnd, NamedEnd, MayBeHeldEnd}
 
 -- a snapshot that is refused by one of its parts

@@ -1,20 +1,7 @@
 -- A record is told by what JSON keeps of it.
-use Rattle.std.proofs.Common.{◌≡◌, ℕ, ◌^◌, ◌<◌, pos, Bool, true, false, nat_lt, List, Option, None, Some, refl, ap, sym, ◌∙◌, subst}
-use Rattle.std.proofs.lemmas.Bool.{lt-ltb}
-use Rattle.std.specs.Prelude.{IfSome, codes, option_map, if◌then◌else◌}
+use Rattle.snap_pending.proofs.Prelude.{◌≡◌, ℕ, ◌^◌, ◌<◌, pos, Bool, true, false, nat_lt, List, Option, None, Some, refl, ap, sym, ◌∙◌, subst, lt-ltb, IfSome, codes, option_map, if◌then◌else◌, Tree, string, u32, TreePairs, no_pairs, pair, json_plain, json_pairs, last_value, last_filled, text_value, line_value, Meta, text_pair, meta_tree, text_in, SnapshotContents, normal, meta_back, IsHeldBack, MayBeBack, IsBack, HasShortLine, HasShortLines, Held, Pending, held_tree, tree_or_none, record_of, HoldsText, TellsMeta, TellsHeld, MayTell, TellsRecord}
 use Rattle.snap_content.specs.Plain as p
-use Rattle.snap_content.specs.Tree.{Tree, string, u32, map, TreePairs, no_pairs, pair}
-use Rattle.snap_json.specs.JsonPlain.{json_plain, json_pairs}
-use Rattle.snap_store.specs.Fields.{last_value, last_filled, text_value, line_value}
-use Rattle.snap_store.specs.Meta.{Meta}
-use Rattle.snap_store.specs.MetaTree.{text_pair, meta_tree}
-use Rattle.snap_store.specs.Views.{text_in}
-use Rattle.snap_store.specs.declared.contents.SnapshotContents.{SnapshotContents}
-use Rattle.snap_text.specs.Normal.{normal}
-use Rattle.snap_pending.specs.Back.{meta_back, IsHeldBack, MayBeBack, IsBack, HasShortLine, HasShortLines}
-use Rattle.snap_pending.specs.Pending.{Held, Pending}
-use Rattle.snap_pending.specs.Record.{held_tree, tree_or_none, record_of}
-use Rattle.snap_pending.specs.Told.{HoldsText, TellsMeta, TellsHeld, MayTell, TellsRecord}
+use Rattle.snap_content.specs.Tree.{map}
 use Rattle.snap_pending.proofs.MetaBack.{meta-back}
 
 pub dict-same : (a b : p.Entries) → p.dict a ≡ p.dict b → a ≡ b

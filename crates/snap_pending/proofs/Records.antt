@@ -1,14 +1,5 @@
 -- The pairs of a record and of its snapshots.
-use Rattle.std.proofs.Common.{◌≡◌, ℕ, List, Option, ap, ◌∙◌}
-use Rattle.std.specs.Prelude.{option_map, codes}
-use Rattle.snap_content.specs.Tree.{Tree, string, u32, no_pairs, pair}
-use Rattle.snap_store.specs.Meta.{Meta}
-use Rattle.snap_store.specs.MetaTree.{text_pair, meta_tree}
-use Rattle.snap_store.specs.Views.{text_in}
-use Rattle.snap_store.specs.declared.contents.SnapshotContents.{SnapshotContents}
-use Rattle.snap_text.specs.Normal.{normal}
-use Rattle.snap_pending.specs.Pending.{Held}
-use Rattle.snap_pending.specs.Record.{tree_or_none}
+use Rattle.snap_pending.proofs.Prelude.{◌≡◌, ℕ, List, Option, ap, ◌∙◌, option_map, codes, Tree, string, u32, no_pairs, pair, Meta, text_pair, meta_tree, text_in, SnapshotContents, normal, Held, tree_or_none}
 
 pub record_pairs : (run run' : List ℕ) (line : Tree) (line' : ℕ) (made made' stood stood' : Option Held) → run ≡ run' → line ≡ u32 line' → made ≡ made' → stood ≡ stood'
     → pair (string (codes "run_id")) (string run) (pair (string (codes "line")) line (

@@ -1,13 +1,7 @@
 -- Paths below others.
-use Rattle.std.proofs.Common.{◌≡◌, ℕ, List, [], ◌∷◌, ◌++◌, Bool, true, false, cond, refl, sym, ap, ◌∙◌, subst}
+use Rattle.snap_place.proofs.Prelude.{◌≡◌, ℕ, List, [], ◌∷◌, ◌++◌, Bool, true, false, cond, refl, sym, ap, ◌∙◌, subst, All-append, if◌then◌else◌, bytes_eq, is_component, components, is_absolute, slashed, path_of_parts, joined, Apart, apart, from_apart, same_start, relative_from, IsName, name-from-parts, components-names, parts-components, parts-absolute, joined-normal, holds_slash}
 use Rattle.std.proofs.lemmas.Slice.Eq.{bytes_eq-Decides}
-use Rattle.std.proofs.lemmas.List.Elements.{All-append}
-use Rattle.std.specs.Prelude.{if◌then◌else◌}
-use Rattle.std.specs.Str.{bytes_eq}
-use Rattle.snap_path.specs.Paths.{is_component, components, is_absolute, slashed, path_of_parts, joined, Apart, apart, from_apart, same_start, relative_from, IsName}
-use Rattle.snap_path.proofs.Joining.{name-from-parts, components-names, parts-components, parts-absolute, joined-normal}
 use Rattle.snap_place.specs.Below.{IsOfParts}
-use Rattle.snap_place.specs.Place.{holds_slash}
 
 pub name : (text : List ℕ) → is_component text ≡ true → holds_slash text ≡ false → IsName text
 name text part none = name-from-parts text (record { component = part; unbroken = none })

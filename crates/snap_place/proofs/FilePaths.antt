@@ -1,15 +1,8 @@
 -- The path of a snapshot is that of a file.
-use Rattle.std.proofs.Common.{◌≡◌, ◌==◌, ℕ, List, [], ◌∷◌, ◌++◌, Bool, true, false, cond, Some, refl, sym, ap, ◌∙◌, subst, append_assoc, codes}
-use Rattle.std.specs.Prelude.{IsSome}
-use Rattle.std.specs.List.{filter}
-use Rattle.std.proofs.lemmas.List.Elements.{All-append}
-use Rattle.snap_path.specs.Paths.{between_slashes, is_component, components, is_absolute, path_of_parts, joined, last_of, name_of, parent_of, IsName}
+use Rattle.snap_place.proofs.Prelude.{◌≡◌, ◌==◌, ℕ, List, [], ◌∷◌, ◌++◌, Bool, true, false, cond, Some, refl, sym, ap, ◌∙◌, subst, append_assoc, codes, IsSome, filter, All-append, between_slashes, is_component, components, is_absolute, path_of_parts, joined, last_of, name_of, parent_of, IsName, joined-normal, parts-components, components-names, PlaceView, file_prefix, flat_name, file_name, path_of, IsFilePath}
 use Rattle.snap_str.specs.Lines.{onto}
-use Rattle.snap_path.proofs.Joining.{joined-normal, parts-components, components-names}
 use Rattle.snap_settings.specs.Settings.{SettingsView}
-use Rattle.snap_place.specs.Place.{PlaceView}
-use Rattle.snap_place.specs.SnapshotPath.{file_prefix, flat_name, file_name, path_of}
-use Rattle.snap_place.specs.SnapshotPath.{IsFilePath}
+use Rattle.snap_path.proofs.Parts.{last_of-push}
 
 -- the last part has two characters at least
 pub record Ends (parts : List (List ℕ)) : Type 0 where
@@ -42,12 +35,6 @@ filter-append : (xs ys : List (List ℕ)) → filter is_component (xs ++ ys) ≡
 filter-append [] ys = refl
 filter-append (x ∷ xs) ys = filter_first (is_component x) x (filter is_component xs) (filter is_component ys) (filter is_component (xs ++ ys)) (filter-append xs ys)
 
--- a list that ends in a part has it as its last
-last-push : (front : List (List ℕ)) (part : List ℕ) → last_of (front ++ part ∷ []) ≡ Some part
-last-push [] part = refl
-last-push (x ∷ []) part = refl
-last-push (x ∷ y ∷ front) part = last-push (y ∷ front) part
-
 pub record HasLast (parts : List (List ℕ)) : Type 0 where
   pub front : List (List ℕ)
   pub part : List ℕ
@@ -64,7 +51,7 @@ last_behind : (base parts : List (List ℕ)) → HasLast parts → HasLast (base
 last_behind base parts h = record { front = base ++ h.front; part = h.part; is = ap (λ p. base ++ p) h.is ∙ sym (append_assoc base h.front (h.part ∷ [])) }
 
 some_last : (parts : List (List ℕ)) → HasLast parts → IsSome (last_of parts)
-some_last parts h = subst IsSome (sym (ap last_of h.is ∙ last-push h.front h.part)) refl
+some_last parts h = subst IsSome (sym (ap last_of h.is ∙ last_of-push h.front h.part)) refl
 
 -- a path whose tail has a last component has one
 joined_named : (base tail : List ℕ) → HasLast (components tail) → IsSome (name_of (joined base tail))

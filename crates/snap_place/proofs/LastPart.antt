@@ -1,7 +1,5 @@
 -- The last part of a path: a text without a slash is its own, and in any other it stands behind the last slash.
-use Rattle.std.proofs.Common.{◌≡◌, ◌==◌, ◌||◌, ℕ, Bool, true, false, cond, List, [], ◌∷◌, ◌++◌, refl, ap, ◌∙◌}
-use Rattle.snap_place.specs.Place.{holds_slash, last_part}
-use Rattle.snap_content.proofs.Booleans.{or_left, or_right}
+use Rattle.snap_place.proofs.Prelude.{◌≡◌, ◌==◌, ◌||◌, ℕ, Bool, true, false, cond, List, [], ◌∷◌, ◌++◌, refl, ap, ◌∙◌, holds_slash, last_part, or_left, or_right}
 
 pub whole : (t : List ℕ) → holds_slash t ≡ false → last_part t ≡ t
 whole [] h = refl

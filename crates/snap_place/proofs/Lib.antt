@@ -1,3 +1,4 @@
+mod Prelude
 pub mod FilePaths
 mod LastPart
 mod BelowPaths

@@ -1,14 +1,5 @@
 -- Digits: what they are not, and the numbers that are written with them.
-use Rattle.std.proofs.Common.{◌≡◌, ℕ, zero, suc, ◌<◌, ◌≤◌, ◌+◌, ◌-◌, ◌^◌, ◌%◌, List, [], ◌∷◌, ◌++◌, true, false, ◌==◌, ◌||◌, refl, ap, ◌∙◌, arith}
-use Rattle.std.proofs.lemmas.Bool.Decides.{nat_tests}
-use Rattle.std.proofs.lemmas.Fmt.{decimal_by_steps_wide}
-use Rattle.std.specs.Char.{is_ascii_digit, is_whitespace}
-use Rattle.std.specs.Fmt.{decimal}
-use Rattle.std.specs.List.{list_any, list_all}
-use Rattle.snap_content.specs.Numbers.{is_digits, is_integer_text, is_decimal_text, past_digits}
-use Rattle.snap_content.specs.Quotes.{is_special, ends_badly}
-use Rattle.snap_print.proofs.Tests.{and_left, and_right, and_true}
-use Rattle.snap_content.proofs.Booleans.{or_false}
+use Rattle.snap_print.proofs.Prelude.{◌≡◌, ℕ, zero, suc, ◌<◌, ◌≤◌, ◌+◌, ◌-◌, ◌^◌, ◌%◌, List, [], ◌∷◌, ◌++◌, true, false, ◌==◌, ◌||◌, refl, ap, ◌∙◌, arith, nat_tests, decimal_by_steps_wide, is_ascii_digit, is_whitespace, decimal, list_any, list_all, is_digits, is_integer_text, is_decimal_text, past_digits, is_special, ends_badly, and_from, or_from, both_second, both_first}
 
 -- digits
 plain_digit : (k : ℕ) → k < 10 → is_special (48 + k) ≡ false
@@ -44,14 +35,14 @@ digit_clear c h = let d = digit_from c (low_end c h) (high_end c h) in ap is_spe
 pub digits_clear : (cs : List ℕ) → list_all is_ascii_digit cs ≡ true → list_any is_special cs ≡ false
 digits_clear [] h = refl
 digits_clear (c ∷ cs) h =
-    or_false (is_special c) (list_any is_special cs) (digit_clear c (and_left (is_ascii_digit c) (list_all is_ascii_digit cs) h))
-    (digits_clear cs (and_right (is_ascii_digit c) (list_all is_ascii_digit cs) h))
+    or_from (is_special c) (list_any is_special cs) (digit_clear c (both_first (is_ascii_digit c) (list_all is_ascii_digit cs) h))
+    (digits_clear cs (both_second (is_ascii_digit c) (list_all is_ascii_digit cs) h))
 
 all_push : (cs : List ℕ) (c : ℕ) → list_all is_ascii_digit cs ≡ true → is_ascii_digit c ≡ true → list_all is_ascii_digit (cs ++ c ∷ []) ≡ true
-all_push [] c h k = and_true (is_ascii_digit c) true k refl
+all_push [] c h k = and_from (is_ascii_digit c) true k refl
 all_push (d ∷ ds) c h k =
-    and_true (is_ascii_digit d) (list_all is_ascii_digit (ds ++ c ∷ [])) (and_left (is_ascii_digit d) (list_all is_ascii_digit ds) h)
-    (all_push ds c (and_right (is_ascii_digit d) (list_all is_ascii_digit ds) h) k)
+    and_from (is_ascii_digit d) (list_all is_ascii_digit (ds ++ c ∷ [])) (both_first (is_ascii_digit d) (list_all is_ascii_digit ds) h)
+    (all_push ds c (both_second (is_ascii_digit d) (list_all is_ascii_digit ds) h) k)
 
 digits_push : (cs : List ℕ) (c : ℕ) → is_digits cs ≡ true → is_ascii_digit c ≡ true → is_digits (cs ++ c ∷ []) ≡ true
 digits_push [] c h k = absurd (cc)
@@ -62,7 +53,7 @@ glyph k h = grind (arith, nat_tests)
 
 pub decimal_digits : (n : ℕ) → n < 10 ^ 64 → is_digits (decimal n) ≡ true
 decimal_digits n small =
-    decimal_by_steps_wide (λ _ ds. is_digits ds ≡ true) (λ k below. and_true (is_ascii_digit (48 + k)) true (glyph k below) refl)
+    decimal_by_steps_wide (λ _ ds. is_digits ds ≡ true) (λ k below. and_from (is_ascii_digit (48 + k)) true (glyph k below) refl)
     (λ k ds _ before. digits_push ds (48 + k % 10) before (glyph (k % 10) (omega arith))) n small
 
 -- a digit is no white space
@@ -84,11 +75,11 @@ digit_dark c h = let d = digit_from c (low_end c h) (high_end c h) in ap is_whit
 
 pub digits_trimmed : (cs : List ℕ) → list_all is_ascii_digit cs ≡ true → ends_badly cs ≡ false
 digits_trimmed [] h = refl
-digits_trimmed (c ∷ []) h = digit_dark c (and_left (is_ascii_digit c) true h)
-digits_trimmed (c ∷ d ∷ cs) h = digits_trimmed (d ∷ cs) (and_right (is_ascii_digit c) (list_all is_ascii_digit (d ∷ cs)) h)
+digits_trimmed (c ∷ []) h = digit_dark c (both_first (is_ascii_digit c) true h)
+digits_trimmed (c ∷ d ∷ cs) h = digits_trimmed (d ∷ cs) (both_second (is_ascii_digit c) (list_all is_ascii_digit (d ∷ cs)) h)
 
 pub minus_digit : (c : ℕ) (cs : List ℕ) → is_digits (c ∷ cs) ≡ true → (c == 45) ≡ false
-minus_digit c cs h = let low = low_end c (and_left (is_ascii_digit c) (list_all is_ascii_digit cs) h) in above c low
+minus_digit c cs h = let low = low_end c (both_first (is_ascii_digit c) (list_all is_ascii_digit cs) h) in above c low
   where
     above : (c : ℕ) → 48 ≤ c → (c == 45) ≡ false
     above c low = grind (arith, nat_tests)
@@ -102,7 +93,7 @@ wide_negative n h = omega arith
 pub digits_integer : (cs : List ℕ) → is_digits cs ≡ true → is_integer_text cs ≡ true
 digits_integer [] h = absurd (cc)
 digits_integer (c ∷ cs) h =
-    let low = low_end c (and_left (is_ascii_digit c) (list_all is_ascii_digit cs) h) in
+    let low = low_end c (both_first (is_ascii_digit c) (list_all is_ascii_digit cs) h) in
     rw (signless c low) h
   where
     signless : (c : ℕ) → 48 ≤ c → (c == 43 || c == 45) ≡ false
@@ -111,8 +102,8 @@ digits_integer (c ∷ cs) h =
 -- a whole number is a number text
 past_all_digits : (cs : List ℕ) → list_all is_ascii_digit cs ≡ true → past_digits cs ≡ []
 past_all_digits [] h = refl
-past_all_digits (c ∷ cs) h = rw (and_left (is_ascii_digit c) (list_all is_ascii_digit cs) h) (past_all_digits cs (and_right (is_ascii_digit c) (list_all is_ascii_digit cs) h))
+past_all_digits (c ∷ cs) h = rw (both_first (is_ascii_digit c) (list_all is_ascii_digit cs) h) (past_all_digits cs (both_second (is_ascii_digit c) (list_all is_ascii_digit cs) h))
 
 pub digits_decimal : (cs : List ℕ) → is_digits cs ≡ true → is_decimal_text cs ≡ true
 digits_decimal [] h = absurd (cc)
-digits_decimal (c ∷ cs) h = rw (past_all_digits (c ∷ cs) h) (and_true (is_ascii_digit c) true (and_left (is_ascii_digit c) (list_all is_ascii_digit cs) h) refl)
+digits_decimal (c ∷ cs) h = rw (past_all_digits (c ∷ cs) h) (and_from (is_ascii_digit c) true (both_first (is_ascii_digit c) (list_all is_ascii_digit cs) h) refl)

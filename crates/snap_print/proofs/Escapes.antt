@@ -1,12 +1,5 @@
 -- How a character is written between double quotes.
-use Rattle.std.proofs.Common.{◌≡◌, ℕ, ◌<◌, ◌+◌, ◌*◌, ◌/◌, ◌%◌, List, [], ◌∷◌, ◌++◌, Bool, true, false, ◌==◌, ◌||◌, cond, nat_lt, refl, ap, ◌∙◌, arith, append_assoc}
-use Rattle.std.proofs.lemmas.Bool.Decides.{nat_tests}
-use Rattle.std.specs.Fmt.{digit_glyph}
-use Rattle.std.specs.List.{flat_map, list_any}
-use Rattle.std.specs.Prelude.{codes}
-use Rattle.snap_content.specs.Printed.{is_break}
-use Rattle.snap_content.specs.Spell.{escaped, escaped_code}
-use Rattle.snap_content.proofs.Booleans.{or_left}
+use Rattle.snap_print.proofs.Prelude.{◌≡◌, ℕ, ◌<◌, ◌+◌, ◌*◌, ◌/◌, ◌%◌, List, [], ◌∷◌, ◌++◌, Bool, true, false, ◌==◌, ◌||◌, cond, nat_lt, refl, ap, ◌∙◌, arith, append_assoc, nat_tests, digit_glyph, flat_map, list_any, codes, is_break, escaped, escaped_code, or_left}
 
 -- by a letter behind a backslash, by a code, or as it is
 pub data Kind (c : ℕ) : List ℕ → Type 0 where

@@ -1,3 +1,4 @@
+mod Prelude
 pub mod Tests
 pub mod Digits
 pub mod Words

@@ -1,15 +1,9 @@
 -- Every printed line is a line.
-use Rattle.std.proofs.Common.{◌≡◌, ℕ, List, [], ◌∷◌, ◌++◌, map, Bool, true, false, ◌==◌, cond, refl, sym, ap, ◌∙◌, append_assoc, append-nil}
-use Rattle.std.specs.List.{flat_map, list_any}
+use Rattle.snap_print.proofs.Prelude.{◌≡◌, ℕ, List, [], ◌∷◌, ◌++◌, map, Bool, true, false, ◌==◌, cond, refl, sym, ap, ◌∙◌, append_assoc, append-nil, flat_map, list_any, IsLine, AreLines, is_break, begins_dashes, ends_badly, IsWithin, AreWithin, AreEntriesWithin, spelling, is_flat, is_scalar, or_left, or_right, both_first}
 use Rattle.snap_content.specs.Plain as p
 use Rattle.snap_content.specs.Lines.{behind, indented, lines_of, item_lines, entry_lines, entry_block, is_simple, ended}
-use Rattle.snap_content.specs.Printed.{IsLine, AreLines, is_break, begins_dashes}
-use Rattle.snap_content.specs.Quotes.{ends_badly}
-use Rattle.snap_content.specs.Readable.{IsWithin, AreWithin, AreEntriesWithin}
-use Rattle.snap_content.specs.Spell.{spelling, is_flat, is_scalar}
 use Rattle.snap_print.proofs.Spellings.{spelling_line}
-use Rattle.snap_print.proofs.Tests.{and_left, and_no}
-use Rattle.snap_content.proofs.Booleans.{or_left, or_right}
+use Rattle.snap_print.proofs.Tests.{and_no}
 
 -- a simple key is written on one line
 scalar_flat : (k : p.Plain) → is_scalar k ≡ true → is_flat k ≡ true
@@ -21,7 +15,7 @@ scalar_flat (p.list _) h = absurd (cc)
 scalar_flat (p.dict _) h = absurd (cc)
 
 simple_flat : (k : p.Plain) → is_simple k ≡ true → is_flat k ≡ true
-simple_flat k h = scalar_flat k (and_left (is_scalar k) _ h)
+simple_flat k h = scalar_flat k (both_first (is_scalar k) _ h)
 
 lines-append : (xs ys : List (List ℕ)) → AreLines xs → AreLines ys → AreLines (xs ++ ys)
 lines-append [] ys h k = k

@@ -1,16 +1,9 @@
 -- The four kinds of pieces: scalars and empty collections, each of which is a line.
-use Rattle.std.proofs.Common.{◌≡◌, ℕ, List, [], ◌∷◌, ◌++◌, Bool, true, false, not, cond, refl, ap, ◌∙◌}
-use Rattle.std.specs.List.{flat_map, list_any}
+use Rattle.snap_print.proofs.Prelude.{◌≡◌, ℕ, List, [], ◌∷◌, ◌++◌, Bool, true, false, not, cond, refl, ap, ◌∙◌, flat_map, list_any, IsLine, is_break, begins_dashes, needs_quotes, is_special, is_word, IsWithin, spelling, is_flat, quoted, escaped, ends_badly-push, or_left, or_right}
 use Rattle.snap_content.specs.Plain as p
-use Rattle.snap_content.specs.Printed.{IsLine, is_break, begins_dashes}
-use Rattle.snap_content.specs.Quotes.{needs_quotes, is_special}
-use Rattle.snap_content.specs.Readable.{is_word, IsWithin}
-use Rattle.snap_content.specs.Spell.{spelling, is_flat, quoted, escaped}
-use Rattle.snap_content.proofs.Ends.{ends_badly-push}
 use Rattle.snap_print.proofs.Escapes.{unbroken-escaped}
 use Rattle.snap_print.proofs.Tests.{apart}
 use Rattle.snap_print.proofs.Words.{IsPlainWord, word}
-use Rattle.snap_content.proofs.Booleans.{or_left, or_right}
 
 -- the four kinds of pieces
 pub data Piece (t : p.Plain) : List ℕ → Type 0 where

@@ -1,7 +1,5 @@
 -- Facts on tests.
-use Rattle.std.proofs.Common.{◌≡◌, ℕ, Bool, true, false, ◌==◌, ◌&&◌, refl, ap, ◌∙◌, arith}
-use Rattle.std.proofs.lemmas.Bool.Decides.{nat_tests}
-use Rattle.std.proofs.lemmas.Bool.{false_from_ne_true}
+use Rattle.snap_print.proofs.Prelude.{◌≡◌, ℕ, Bool, true, false, ◌==◌, ◌&&◌, refl, ap, ◌∙◌, arith, nat_tests, false_from_ne_true, and_from, both_second, both_first}
 
 pub absurd_tests : (b : Bool) → b ≡ true → b ≡ false → ⊥
 absurd_tests true holds fails = absurd (cc)
@@ -14,18 +12,6 @@ apart test c d fails holds = false_from_ne_true (c == d) (λ same. absurd_tests 
     equal : (c d : ℕ) → (c == d) ≡ true → c ≡ d
     equal c d h = grind (arith, nat_tests)
 
-pub and_left : (a b : Bool) → (a && b) ≡ true → a ≡ true
-and_left true b h = refl
-and_left false b h = h
-
-pub and_right : (a b : Bool) → (a && b) ≡ true → b ≡ true
-and_right true b h = h
-and_right false b h = absurd (cc)
-
-pub and_true : (a b : Bool) → a ≡ true → b ≡ true → (a && b) ≡ true
-and_true true b h k = k
-and_true false b h k = h
-
 pub no_and : (a b : Bool) → a ≡ false → (a && b) ≡ false
 no_and true b h = absurd (cc)
 no_and false b h = refl
@@ -37,6 +23,3 @@ and_no false b h = refl
 pub by_contrary : (a b : Bool) → (a ≡ true → b ≡ true) → b ≡ false → a ≡ false
 by_contrary true b there fails = absurd (absurd_tests b (there refl) fails)
 by_contrary false b there fails = refl
-
-pub numbers_differ : (a b : ℕ) → (a == b) ≡ false → a ≡ b → ⊥
-numbers_differ a b h is = grind (arith, nat_tests)

@@ -1,24 +1,11 @@
 -- Each word is typed as the scalar that it spells.
-use Rattle.std.proofs.Common.{◌≡◌, ℕ, suc, ◌<◌, ◌≤◌, ◌^◌, ℤ, pos, negsuc, List, [], ◌∷◌, Bool, true, false, ◌==◌, ◌||◌, ◌&&◌, not, cond, drop, refl, sym, ap, ◌∙◌, arith}
-use Rattle.std.proofs.lemmas.Bool.Decides.{nat_tests}
-use Rattle.std.proofs.lemmas.Fmt.{decimal_is_IsNumeral_wide}
-use Rattle.std.specs.Char.{is_ascii_digit}
-use Rattle.std.specs.Fmt.{decimal, signed_decimal}
-use Rattle.std.specs.List.{list_any, list_all}
-use Rattle.std.specs.Prelude.{codes}
-use Rattle.std.specs.Str.{bytes_eq}
+use Rattle.snap_print.proofs.Prelude.{◌≡◌, ℕ, suc, ◌<◌, ◌≤◌, ◌^◌, ℤ, pos, negsuc, List, [], ◌∷◌, Bool, true, false, ◌==◌, ◌||◌, ◌&&◌, not, cond, drop, refl, sym, ap, ◌∙◌, arith, nat_tests, decimal_is_IsNumeral_wide, is_ascii_digit, decimal, signed_decimal, list_any, list_all, codes, bytes_eq, is_digits, is_integer_text, is_number_text, is_float_text, is_octal_text, is_plus_text, is_plus_inf, needs_quotes, starts_badly, ends_badly, starts_as_hexadecimal, is_special, is_reserved, is_leading, is_word, IsWithin, IsNumber, spelling, not_true, both_second, both_first, false_from_ne_true, and_from, or_from}
 use Rattle.std.specs.Str.Parse.{digits_value}
 use Rattle.snap_content.specs.Plain as p
-use Rattle.snap_content.specs.Numbers.{is_digits, is_integer_text, is_number_text, is_float_text, is_octal_text, is_plus_text, is_plus_inf}
-use Rattle.snap_content.specs.Quotes.{needs_quotes, starts_badly, ends_badly, starts_as_hexadecimal, is_special, is_reserved, is_leading}
-use Rattle.snap_content.specs.Readable.{is_word, IsWithin, IsNumber}
-use Rattle.snap_content.specs.Spell.{spelling}
 use Rattle.snap_content.specs.Typed.{Typed, value, typed, number_in, below_zero, has_128_bits, is_hexadecimal_text, is_hexadecimal_integer, is_null_word, is_inf_word, is_named_number}
 use Rattle.snap_print.proofs.Digits.{decimal_digits, low_end, wide, wide_negative}
-use Rattle.snap_print.proofs.Tests.{absurd_tests, apart, and_left, and_right, and_true, no_and, and_no}
+use Rattle.snap_print.proofs.Tests.{absurd_tests, apart, no_and, and_no}
 use Rattle.snap_print.proofs.Words.{same_word, integer, no_number_no_integer}
-use Rattle.snap_content.proofs.Booleans.{or_false, not_true}
-use Rattle.std.proofs.lemmas.Bool.{false_from_ne_true}
 
 -- the tests of `typed`, one after the other
 layers : (x o q n t f i r : Bool) (hx ho hp hn ht hf hi hr rest : Typed) → x ≡ false → o ≡ false → q ≡ false → n ≡ false → t ≡ false → f ≡ false → i ≡ false → r ≡ false
@@ -101,10 +88,10 @@ typed_bare s h =
     layers (is_hexadecimal_text s) (is_octal_text s) (is_plus_text s) (is_null_word s) (bytes_eq s (codes "true")) (bytes_eq s (codes "false"))
     (is_integer_text s && has_128_bits (number_in 10 s)) (is_float_text s || is_named_number s) _ _ _ _ _ _ _ _ _
     (no_and (starts_as_hexadecimal s) (is_hexadecimal_integer (drop 2 s)) u.no_hexadecimal) n.1.0 n.1.1.0
-    (or_false (bytes_eq s (codes "~")) (bytes_eq s (codes "null")) (unquoted_apart s (codes "~") h refl) (unquoted_apart s (codes "null") h refl))
+    (or_from (bytes_eq s (codes "~")) (bytes_eq s (codes "null")) (unquoted_apart s (codes "~") h refl) (unquoted_apart s (codes "null") h refl))
     (unquoted_apart s (codes "true") h refl) (unquoted_apart s (codes "false") h refl)
     (no_and (is_integer_text s) (has_128_bits (number_in 10 s)) (no_number_no_integer s u.no_number))
-    (or_false (is_float_text s) (is_named_number s) n.0 (no_name s h u.start n.1.1.1))
+    (or_from (is_float_text s) (is_named_number s) n.0 (no_name s h u.start n.1.1.1))
 
 -- digits
 bits : (n : ℕ) → n < 2 ^ 128 → has_128_bits (pos n) ≡ true
@@ -119,7 +106,7 @@ apart_low c d low high = grind (arith, nat_tests)
 number_of_digits : (cs : List ℕ) (n : ℕ) → is_digits cs ≡ true → digits_value 10 cs ≡ n → number_in 10 cs ≡ pos n
 number_of_digits [] n h is = absurd (cc)
 number_of_digits (c ∷ cs) n h is =
-    let low = low_end c (and_left (is_ascii_digit c) (list_all is_ascii_digit cs) h) in
+    let low = low_end c (both_first (is_ascii_digit c) (list_all is_ascii_digit cs) h) in
     rw (apart_low c 45 low (omega arith), apart_low c 43 low (omega arith)) (ap pos is)
 
 number_is : (z : ℤ) → IsNumber z → number_in 10 (signed_decimal z) ≡ z
@@ -141,21 +128,21 @@ no_hexadecimal_digits : (cs : List ℕ) → is_digits cs ≡ true → is_hexadec
 no_hexadecimal_digits [] h = refl
 no_hexadecimal_digits (c ∷ []) h = refl
 no_hexadecimal_digits (c ∷ d ∷ cs) h =
-    let rest = and_right (is_ascii_digit c) (list_all is_ascii_digit (d ∷ cs)) h in
+    let rest = both_second (is_ascii_digit c) (list_all is_ascii_digit (d ∷ cs)) h in
     no_and (c == 48 && d == 120) (is_hexadecimal_integer cs)
-    (and_no (c == 48) (d == 120) (second_digit cs is_ascii_digit d 120 (and_left (is_ascii_digit d) (list_all is_ascii_digit cs) rest) refl))
+    (and_no (c == 48) (d == 120) (second_digit cs is_ascii_digit d 120 (both_first (is_ascii_digit d) (list_all is_ascii_digit cs) rest) refl))
 
 no_octal_digits : (cs : List ℕ) → is_digits cs ≡ true → is_octal_text cs ≡ false
 no_octal_digits [] h = refl
 no_octal_digits (c ∷ []) h = refl
 no_octal_digits (c ∷ d ∷ cs) h =
-    let rest = and_right (is_ascii_digit c) (list_all is_ascii_digit (d ∷ cs)) h in
-    no_and (c == 48 && d == 111) _ (and_no (c == 48) (d == 111) (second_digit cs is_ascii_digit d 111 (and_left (is_ascii_digit d) (list_all is_ascii_digit cs) rest) refl))
+    let rest = both_second (is_ascii_digit c) (list_all is_ascii_digit (d ∷ cs)) h in
+    no_and (c == 48 && d == 111) _ (and_no (c == 48) (d == 111) (second_digit cs is_ascii_digit d 111 (both_first (is_ascii_digit d) (list_all is_ascii_digit cs) rest) refl))
 
 no_plus_digits : (cs : List ℕ) → is_digits cs ≡ true → is_plus_text cs ≡ false
 no_plus_digits [] h = refl
 no_plus_digits (c ∷ cs) h =
-    no_and (c == 43) _ (apart_low c 43 (low_end c (and_left (is_ascii_digit c) (list_all is_ascii_digit cs) h)) (omega arith))
+    no_and (c == 43) _ (apart_low c 43 (low_end c (both_first (is_ascii_digit c) (list_all is_ascii_digit cs) h)) (omega arith))
 
 no_minus_octal : (cs : List ℕ) → is_octal_text (45 ∷ cs) ≡ false
 no_minus_octal [] = refl
@@ -185,9 +172,9 @@ typed_number z h =
     let ranged : has_128_bits (number_in 10 w) ≡ true = ap has_128_bits is ∙ in_range z h in
     up_to_integer (is_hexadecimal_text w) (is_octal_text w) (is_plus_text w) (is_null_word w) (bytes_eq w (codes "true")) (bytes_eq w (codes "false"))
     (is_integer_text w && has_128_bits (number_in 10 w)) _ _ _ _ _ _ _ _ plain.no_hexadecimal plain.no_octal plain.no_plus
-    (or_false (bytes_eq w (codes "~")) (bytes_eq w (codes "null")) (differs w (codes "~") is_integer_text true false whole refl refl) (differs w (codes "null") is_integer_text true false whole refl refl))
+    (or_from (bytes_eq w (codes "~")) (bytes_eq w (codes "null")) (differs w (codes "~") is_integer_text true false whole refl refl) (differs w (codes "null") is_integer_text true false whole refl refl))
     (differs w (codes "true") is_integer_text true false whole refl refl) (differs w (codes "false") is_integer_text true false whole refl refl)
-    (and_true (is_integer_text w) (has_128_bits (number_in 10 w)) whole ranged)
+    (and_from (is_integer_text w) (has_128_bits (number_in 10 w)) whole ranged)
     ∙ ap (λ n. value (p.int n)) is
 
 -- each word is typed as the scalar that is spelled so

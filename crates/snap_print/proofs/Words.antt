@@ -1,21 +1,10 @@
 -- Words: scalars that are written without double quotes.
-use Rattle.std.proofs.Common.{◌≡◌, ℕ, suc, ◌<◌, ◌≤◌, ℤ, pos, negsuc, List, [], ◌∷◌, ◌++◌, Bool, true, false, ◌==◌, ◌||◌, ◌&&◌, cond, refl, ap, ◌∙◌, arith}
-use Rattle.std.proofs.lemmas.Bool.Decides.{nat_tests}
+use Rattle.snap_print.proofs.Prelude.{◌≡◌, ℕ, suc, ◌<◌, ◌≤◌, ℤ, pos, negsuc, List, [], ◌∷◌, ◌++◌, Bool, true, false, ◌==◌, ◌||◌, ◌&&◌, cond, refl, ap, ◌∙◌, arith, nat_tests, is_ascii_digit, decimal, signed_decimal, list_any, list_all, codes, bytes_eq, is_digits, is_integer_text, is_number_text, is_float_text, is_decimal_text, past_sign, ends_infinity, past_inf, is_end, past_nan, is_octal_text, is_plus_text, is_plus_inf, needs_quotes, is_special, is_leading, is_reserved, starts_badly, ends_badly, starts_as_hexadecimal, is_word, IsWithin, IsNumber, spelling, not_true, both_first}
 use Rattle.std.proofs.lemmas.Slice.Eq.{bytes_eq-Decides}
-use Rattle.std.specs.Char.{is_ascii_digit}
-use Rattle.std.specs.Fmt.{decimal, signed_decimal}
-use Rattle.std.specs.List.{list_any, list_all}
-use Rattle.std.specs.Prelude.{codes}
-use Rattle.std.specs.Str.{bytes_eq}
 use Rattle.snap_content.specs.Front.{begins}
 use Rattle.snap_content.specs.Plain as p
-use Rattle.snap_content.specs.Numbers.{is_digits, is_integer_text, is_number_text, is_float_text, is_decimal_text, past_sign, ends_infinity, past_inf, is_end, past_nan, is_octal_text, is_plus_text, is_plus_inf}
-use Rattle.snap_content.specs.Quotes.{needs_quotes, is_special, is_leading, is_reserved, starts_badly, ends_badly, starts_as_hexadecimal}
-use Rattle.snap_content.specs.Readable.{is_word, IsWithin, IsNumber}
-use Rattle.snap_content.specs.Spell.{spelling}
 use Rattle.snap_print.proofs.Digits.{low_end, digits_clear, digits_trimmed, digits_decimal, digits_integer, decimal_digits, minus_digit, wide, wide_negative}
-use Rattle.snap_print.proofs.Tests.{apart, and_left, no_and, by_contrary}
-use Rattle.snap_content.proofs.Booleans.{not_true}
+use Rattle.snap_print.proofs.Tests.{apart, no_and, by_contrary}
 
 -- a text without special characters, which begins as no other piece does
 pub record IsPlainWord (w : List ℕ) : Type 0 where
@@ -31,7 +20,7 @@ pub record IsPlainWord (w : List ℕ) : Type 0 where
 digits_word : (cs : List ℕ) → is_digits cs ≡ true → IsPlainWord cs
 digits_word [] h = absurd (cc)
 digits_word (c ∷ cs) h =
-    let digit = and_left (is_ascii_digit c) (list_all is_ascii_digit cs) h in
+    let digit = both_first (is_ascii_digit c) (list_all is_ascii_digit cs) h in
     let low = low_end c digit in
     record {
       first = c;

@@ -1,20 +1,9 @@
 -- Decimal digits, as a text and as a number.
-use Rattle.std.proofs.Common.{◌≡◌, ℕ, ◌<◌, ◌≤◌, ◌^◌, List, [], ◌∷◌, Bool, true, false, Result, Ok, Err, length, nat_lt, refl, sym, ap, ◌∙◌, arith, subst}
-use Rattle.std.specs.Prelude.{take_while}
-use Rattle.std.specs.Char.{digit_value}
-use Rattle.std.specs.Str.{chars, IsUtf8}
+use Rattle.snap_property.proofs.Prelude.{◌≡◌, ℕ, ◌<◌, ◌≤◌, ◌^◌, List, [], ◌∷◌, Bool, true, false, Result, Ok, Err, length, nat_lt, refl, sym, ap, ◌∙◌, arith, subst, take_while, digit_value, chars, IsUtf8, nat_tests, encode_ascii, encodes-chars, is_digit, is_nil, Place, S10, found, encodes}
 use Rattle.std.specs.Str.Parse.{AllDigits, ParsesUnsigned, digits_value}
-use Rattle.std.proofs.lemmas.Bool.Decides.{nat_tests}
-use Rattle.std.proofs.lemmas.Str.{encode_ascii, encodes-chars}
 use Rattle.std.proofs.lemmas.Str.Parse.{IsNumeralModel, digit_from_value, numerals_by_value, tells_digits, parse_gives, digits_value_short}
-use Rattle.snap_token.specs.Characters.{is_digit}
-use Rattle.snap_token.specs.Folding.{is_nil}
-use Rattle.snap_token.specs.Place.{Place}
-use Rattle.snap_token.specs.declared.info.ScanInfo.TheVariants.{S10}
 use Rattle.snap_property.specs.Directive.{number_of}
-use Rattle.snap_property.specs.Reading.{found}
 use Rattle.snap_property.proofs.Taken.{run-true, run-false}
-use lib.Utf8.{encodes}
 
 digit-small : (c : ℕ) → is_digit c ≡ true → digit_value c < 10
 digit-small c is = grind (arith, nat_tests)

@@ -1,13 +1,5 @@
 -- The octets of one character: what they are, and which character they make.
-use Rattle.std.proofs.Common.{◌≡◌, ℕ, ◌+◌, ◌-◌, ◌*◌, ◌/◌, ◌%◌, ◌<◌, ◌≤◌, List, [], ◌∷◌, true, false, length, nat_lt, refl, sym, ap, ◌∙◌, arith, subst, All, append-nil, inl, inr}
-use Rattle.std.specs.Char.{IsScalar}
-use Rattle.std.specs.Str.{chars, chars_after, continuation_len, lead_bits}
-use Rattle.std.proofs.lemmas.Bool.{cases_lt, and_from}
-use Rattle.std.proofs.lemmas.Bool.Decides.{nat_tests}
-use Rattle.std.proofs.lemmas.List.Elements.{All-nil, All-cons, All-head, All-tail}
-use Rattle.std.proofs.lemmas.Str.{encode_ascii, chars-encodes}
-use Rattle.snap_property.specs.Characters.{IsFurther, is_first, least_code}
-use lib.Utf8.{encode, encodes, scalar, scalar_cases}
+use Rattle.snap_property.proofs.Prelude.{◌≡◌, ℕ, ◌+◌, ◌-◌, ◌*◌, ◌/◌, ◌%◌, ◌<◌, ◌≤◌, List, [], ◌∷◌, true, false, length, nat_lt, refl, sym, ap, ◌∙◌, arith, subst, All, append-nil, inl, inr, IsScalar, chars, chars_after, continuation_len, lead_bits, cases_lt, and_from, nat_tests, All-nil, All-cons, All-head, All-tail, encode_ascii, chars-encodes, IsFurther, is_first, least_code, encode, encodes, scalar, scalar_cases}
 
 -- the first octet of a character, and the further ones
 pub record Parts (c : ℕ) : Type 0 where

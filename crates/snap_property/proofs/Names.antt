@@ -1,19 +1,5 @@
 -- Names of anchors, and handles of tags.
-use Rattle.std.proofs.Common.{◌≡◌, ◌≢◌, ℕ, ◌==◌, ◌||◌, List, true, false, not, Result, Ok, Err, refl, sym, ap, ◌∙◌, subst, codes}
-use Rattle.std.specs.Prelude.{take_while, IfErr}
-use Rattle.std.proofs.lemmas.Bool.{ne_eqb}
-use Rattle.snap_token.specs.declared.info.ScanError.{ScanError}
-use Rattle.snap_token.specs.declared.info.ScanInfo.{ScanInfo}
-use Rattle.snap_token.specs.declared.info.ScanInfo.TheVariants.{S22}
-use Rattle.snap_token.specs.Causes.{is_among, IsExplained, IsRefusedBy}
-use Rattle.snap_token.specs.Characters.{is_alpha}
-use Rattle.snap_token.specs.Folding.{is_nil}
-use Rattle.snap_token.specs.Mark.{Mark}
-use Rattle.snap_token.specs.Place.{Place, skipped, skipped_while, mark_of}
-use Rattle.snap_token.proofs.Explained.{explained}
-use Rattle.snap_property.specs.Anchor.{ends_name, named, anchor_from}
-use Rattle.snap_property.specs.Reading.{Found, found, ahead, run_of}
-use Rattle.snap_property.specs.Tag.{local, shorthand}
+use Rattle.snap_property.proofs.Prelude.{◌≡◌, ◌≢◌, ℕ, ◌==◌, ◌||◌, List, true, false, not, Result, Ok, Err, refl, sym, ap, ◌∙◌, subst, codes, take_while, IfErr, ne_eqb, ScanError, ScanInfo, S22, is_among, IsExplained, IsRefusedBy, is_alpha, is_nil, Mark, Place, skipped, skipped_while, mark_of, explained, ends_name, named, anchor_from, Found, found, ahead, run_of, local, shorthand}
 
 named-of : (p q r : Place) (text : List ℕ) → q ≡ skipped p → text ≡ take_while is_alpha q.left → r ≡ skipped_while is_alpha q
     → anchor_from p ≡ named (record { value = text; place = r })

@@ -1,20 +1,5 @@
 -- Octets that are spelled in a tag, between places.
-use Rattle.std.proofs.Common.{◌≡◌, ◌≢◌, ℕ, suc, ◌+◌, ◌*◌, ◌-◌, ◌<◌, ◌≤◌, ◌==◌, ◌&&◌, List, [], ◌∷◌, ◌++◌, Bool, true, false, Option, Some, None, length, slice_index, refl, sym, ap, ◌∙◌, arith, subst, All, append_assoc, Result, Ok, Err}
-use Rattle.std.specs.Char.{IsScalar, encode_utf8}
-use Rattle.std.specs.Option.{is_some}
-use Rattle.std.specs.Prelude.{MatchResult}
-use Rattle.snap_token.specs.declared.info.ScanInfo.{ScanInfo}
-use Rattle.std.specs.Str.{chars_after, continuation_len, lead_bits}
-use Rattle.std.proofs.lemmas.Bool.Decides.{nat_tests}
-use Rattle.std.proofs.lemmas.List.Elements.{All-nil, All-cons, All-head, All-tail}
-use Rattle.std.proofs.lemmas.Bool.{ne_eqb, both_ways}
-use Rattle.snap_token.specs.Characters.{is_uri}
-use Rattle.snap_token.specs.Place.{Place, skipped, skip_from, skipped_while}
-use Rattle.snap_token.specs.Quoted.{hexadecimal, value_of}
-use Rattle.snap_token.proofs.Places.{passed-first}
-use Rattle.snap_property.specs.Octets.{octets, spelled, before_octets, is_in_tag}
-use Rattle.snap_property.specs.Characters.{Spells, SpellsNone, IsFurther, Continues, BreaksOff, SpellsNoCharacter, is_first, least_code, IsBadOctet}
-use Rattle.snap_property.specs.Reading.{ahead}
+use Rattle.snap_property.proofs.Prelude.{◌≡◌, ◌≢◌, ℕ, suc, ◌+◌, ◌*◌, ◌-◌, ◌<◌, ◌≤◌, ◌==◌, ◌&&◌, List, [], ◌∷◌, ◌++◌, Bool, true, false, Option, Some, None, length, slice_index, refl, sym, ap, ◌∙◌, arith, subst, All, append_assoc, Result, Ok, Err, IsScalar, encode_utf8, is_some, MatchResult, ScanInfo, chars_after, continuation_len, lead_bits, nat_tests, All-nil, All-cons, All-head, All-tail, ne_eqb, both_ways, is_uri, Place, skipped, skip_from, skipped_while, hexadecimal, value_of, passed-first, octets, spelled, before_octets, is_in_tag, Spells, SpellsNone, IsFurther, Continues, BreaksOff, SpellsNoCharacter, is_first, least_code, IsBadOctet, ahead}
 use Rattle.snap_property.proofs.Encoded.{Parts, Made, parts, parts-code, octets-of-code}
 use Rattle.snap_property.proofs.Taken.{second-is, third-is}
 
@@ -110,16 +95,6 @@ no-digits p sign none =
     let nothing : octets p.left ≡ None = octets-none p.left sign none in
     record { escaped = λ _. nothing; high = λ octet rest high e. absurd (cc) }
 
--- one further octet
-pub continues-one : (p q : Place) (bits octet : ℕ) → Spells p (octet ∷ []) q → IsFurther octet → Continues p 1 bits (bits * 64 + (octet - 128)) q
-continues-one p q bits octet spells further = record {
-  further = octet ∷ [];
-  spells = spells;
-  many = refl;
-  all = All-cons IsFurther octet [] further (All-nil IsFurther);
-  made = refl;
-}
-
 same-one : (a b : ℕ) → a ∷ [] ≡ b ∷ [] → a ≡ b
 same-one a b e = cc
 
@@ -198,9 +173,6 @@ as-parts : (p q : Place) (first c : ℕ) (rest : List ℕ) (k : Parts c) → Spe
 as-parts p q first c rest k one e =
     let f : List ℕ → Option (List ℕ) = λ l. Some (l ++ rest) in
     before-cons first (octets q.left) k.first (k.further ++ rest) (sym one.octets ∙ e ∙ ap f k.is)
-
-pub no-octet : (p : Place) → ahead p ≡ 37 → SpellsNone p → SpellsNoCharacter p
-no-octet p sign none c rest s e = let nothing : octets p.left ≡ None = none.escaped sign in absurd (cc)
 
 pub no-first : (p q : Place) (first : ℕ) → Spells p (first ∷ []) q → is_first first ≡ false → SpellsNoCharacter p
 no-first p q first one other c rest s e =

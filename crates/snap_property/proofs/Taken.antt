@@ -1,8 +1,6 @@
 -- A run of characters, and what stands behind it.
-use Rattle.std.proofs.Common.{◌≡◌, ℕ, List, [], ◌∷◌, ◌++◌, Bool, true, false, cond, refl, sym, ap, ◌∙◌}
-use Rattle.std.specs.Prelude.{take_while, slice_index}
+use Rattle.snap_property.proofs.Prelude.{◌≡◌, ℕ, List, [], ◌∷◌, ◌++◌, Bool, true, false, cond, refl, sym, ap, ◌∙◌, take_while, slice_index, Place, passed, behind, skipped, skip_from}
 use Rattle.std.proofs.lemmas.List.Sums.{take_while-cons}
-use Rattle.snap_token.specs.Place.{Place, passed, behind, skipped, skip_from}
 
 pub run-true : (f : ℕ → Bool) (c : ℕ) (cs : List ℕ) → f c ≡ true → take_while f (c ∷ cs) ≡ c ∷ take_while f cs
 run-true f c cs is = let g : Bool → List ℕ = λ b. cond b (c ∷ take_while f cs) [] in take_while-cons f c cs ∙ ap g is

@@ -1,36 +1,14 @@
 -- The text of a tag, one character further.
-use Rattle.std.proofs.Common.{◌≡◌, ◌≢◌, ℕ, ◌<◌, ◌==◌, ◌&&◌, List, [], ◌∷◌, ◌++◌, Bool, true, false, Option, Some, None, Result, Ok, Err, slice_index, refl, sym, ap, ◌∙◌, arith, subst, append-nil, append_assoc, if◌then◌else◌}
-use Rattle.std.specs.Char.{IsScalar, encode_utf8}
-use Rattle.std.specs.Option.{is_some}
-use Rattle.std.specs.Prelude.{take_while}
-use Rattle.std.specs.Str.{chars, IsUtf8, is_utf8}
-use Rattle.std.proofs.lemmas.Bool.{ne_eqb, both_ways, or_parts, or_left, or_right, and_parts, false_from_ne_true}
-use Rattle.std.proofs.lemmas.Str.{IsUtf8-from_is_utf8, is_utf8-from_IsUtf8, IsUtf8-past_char, IsUtf8-append, IsUtf8-encode, chars_past_char, chars-nil, IsUtf8-nil, encode_ascii}
-use Rattle.snap_token.specs.declared.info.ScanInfo.{ScanInfo}
-use Rattle.snap_token.specs.declared.info.ScanInfo.TheVariants.{S17, S21}
-use Rattle.snap_token.specs.Characters.{is_uri, is_alpha}
-use Rattle.snap_token.specs.Place.{Place, skipped, skip_from, skipped_while, passed, behind}
-use Rattle.snap_token.proofs.Places.{passed-none, passed-first}
-use Rattle.snap_token.specs.Quoted.{hexadecimal}
-use Rattle.snap_property.specs.Octets.{octets, escaped, spelled, before_octets, is_in_tag, text_of, placed, uri_from, some_uri_from, headed}
-use Rattle.snap_property.specs.Characters.{Spells, SpellsNoCharacter}
-use Rattle.snap_property.specs.Reading.{Found, found, ahead, ◌>>=◌, Refuses}
-use Rattle.snap_token.specs.Folding.{is_nil}
-use Rattle.snap_token.specs.declared.info.ScanError.{ScanError}
+use Rattle.snap_property.proofs.Prelude.{◌≡◌, ◌≢◌, ℕ, ◌<◌, ◌==◌, ◌&&◌, List, [], ◌∷◌, ◌++◌, Bool, true, false, Option, Some, None, Result, Ok, Err, slice_index, refl, sym, ap, ◌∙◌, arith, subst, append-nil, append_assoc, if◌then◌else◌, IsScalar, encode_utf8, is_some, take_while, chars, IsUtf8, is_utf8, ne_eqb, both_ways, or_parts, or_left, or_right, and_parts, false_from_ne_true, IsUtf8-from_is_utf8, is_utf8-from_IsUtf8, IsUtf8-past_char, IsUtf8-append, IsUtf8-encode, chars_past_char, chars-nil, IsUtf8-nil, encode_ascii, ScanInfo, S17, S21, is_uri, is_alpha, Place, skipped, skip_from, skipped_while, passed, behind, passed-none, passed-first, hexadecimal, octets, escaped, spelled, before_octets, is_in_tag, text_of, placed, uri_from, some_uri_from, headed, Spells, SpellsNoCharacter, Found, found, ahead, ◌>>=◌, Refuses, is_nil, ScanError, encode, encodes, scalar, scalars, low_scalar}
 use Rattle.snap_property.proofs.Answered.{refuses-then, refuses-same}
 use Rattle.snap_property.proofs.Taken.{run-true, run-false, passed-true, passed-false}
 use Rattle.snap_property.proofs.Spelled.{uri-small, spells-same}
-use lib.Utf8.{encode, encodes, scalar, scalars, low_scalar}
-
-same-tests : (a b : Bool) → (a ≡ true → b ≡ true) → (b ≡ true → a ≡ true) → a ≡ b
-same-tests true b f g = sym (f refl)
-same-tests false true f g = g refl
-same-tests false false f g = refl
+use Rattle.snap_content.proofs.Ends.{same_test}
 
 -- a character before a text
 utf8-behind : (c : ℕ) (bs : List ℕ) → IsScalar c → is_utf8 (encode c ++ bs) ≡ is_utf8 bs
 utf8-behind c bs s =
-    same-tests (is_utf8 (encode c ++ bs)) (is_utf8 bs)
+    same_test (is_utf8 (encode c ++ bs)) (is_utf8 bs)
     (λ e. is_utf8-from_IsUtf8 bs (IsUtf8-past_char (encode c ++ bs) bs c (IsUtf8-from_is_utf8 (encode c ++ bs) e) refl))
     (λ e. is_utf8-from_IsUtf8 (encode c ++ bs) (IsUtf8-append (encode c) bs (IsUtf8-encode c s) (IsUtf8-from_is_utf8 bs e)))
 

@@ -1,7 +1,6 @@
 -- How the scan for the first document goes on.
-use Rattle.std.proofs.Common.{◌≡◌, ℕ, ◌+◌, ◌<◌, Bool, true, false, cond, nat_eq, zero, suc, ◌≤◌, subst, ◌&&◌, ◌==◌, List, [], ◌∷◌, ◌++◌, length, take, drop, get_or, refl, sym, ◌∙◌, ap, arith, drop-cons, add-one, ◌-◌, length-drop}
+use Rattle.snap_request.proofs.Prelude.{◌≡◌, ℕ, ◌+◌, ◌<◌, Bool, true, false, cond, nat_eq, zero, suc, ◌≤◌, subst, ◌&&◌, ◌==◌, List, [], ◌∷◌, ◌++◌, length, take, drop, get_or, refl, sym, ◌∙◌, ap, arith, drop-cons, add-one, ◌-◌, length-drop, get_or-drop, drop-drop, drop_all, take_all, take_more}
 use Rattle.memchr.specs.Find.{Nowhere, Passes, is_byte}
-use Rattle.std.proofs.lemmas.List.{get_or-drop, drop-drop, drop_all, take_all, take_more}
 use Rattle.std.specs.List.{concat}
 use Rattle.snap_str.specs.Lines.{onto}
 use Rattle.snap_request.specs.Cut.{begins_document, documents}

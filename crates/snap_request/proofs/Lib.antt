@@ -1,3 +1,4 @@
+mod Prelude
 mod Cutting
 pub mod Requesting
 mod RequestMade

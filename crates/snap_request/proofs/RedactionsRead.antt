@@ -1,29 +1,10 @@
 -- The redactions in a list that was read.
-use Rattle.std.proofs.Common.{◌≡◌, ℕ, ◌^◌, ℤ, pos, negsuc, Bool, true, false, cond, nat_lt, List, [], ◌∷◌, ◌++◌, Option, None, Some, option_map, refl, sym, ap, ◌∙◌, codes, append_assoc, append-nil}
+use Rattle.snap_request.proofs.Prelude.{◌≡◌, ℕ, ◌^◌, ℤ, pos, negsuc, Bool, true, false, cond, nat_lt, List, [], ◌∷◌, ◌++◌, Option, None, Some, option_map, refl, sym, ap, ◌∙◌, append_assoc, append-nil, Plain, Plains, dict, tree, item_trees, item_list, Items, Content, Seq, ReplacementView, replacement_of, replacements_of, needed, put_from, redaction_in, redactions_in}
 use Rattle.snap_content.specs.Plain as p
-use Rattle.snap_content.specs.Plain.{Plain, Plains, Entries, dict}
 use Rattle.snap_content.specs.Tree as t
-use Rattle.snap_content.specs.View.{tree, item_trees, item_list, Items}
-use Rattle.snap_content.specs.declared.content.Content.{Content, Seq}
 use Rattle.snap_content.proofs.Views.{tree-Seq}
-use Rattle.snap_select.specs.Selected.{selected}
-use Rattle.snap_select.specs.Parts.{Parts}
-use Rattle.snap_store.specs.Fields.{last_value, text_value}
 use Rattle.snap_select.specs.declared.replacement.Replacement.{Replacement}
 use Rattle.snap_select.specs.declared.selector.Selector.{Selector}
-use Rattle.snap_settings.specs.Replaced.{ReplacementView, replacement_of, replacements_of}
-use Rattle.snap_request.specs.Requests.{needed, is_keyed, redaction_keys, put_from, redaction_from, redaction_in, redactions_in}
-use Rattle.snap_request.proofs.RequestMade.{needed_by}
-
--- a map of these two is this redaction
-pub redaction_made : (es : Entries) (at : List ℕ) (parts : Parts) (put : t.Tree → t.Tree) → is_keyed redaction_keys es ≡ true
-    → text_value (last_value (codes "at") es) ≡ Some at → selected at ≡ Some parts → put_from (last_value (codes "put") es) (last_value (codes "sort") es) ≡ Some put
-    → redaction_in (dict es) ≡ Some (record { parts = parts; put = put })
-redaction_made es at parts put keyed at_at at_parts at_put =
-    ap (λ b. cond b (redaction_from es) None) keyed
-    ∙ needed_by (text_value (last_value (codes "at") es)) _ at at_at
-    ∙ needed_by (selected at) _ parts at_parts
-    ∙ needed_by (put_from (last_value (codes "put") es) (last_value (codes "sort") es)) _ put at_put
 
 -- what is put where the pairs hold a tree for it, and do not say that a list is to be sorted
 pub put_made : (made : t.Tree) (put sort : Option Plain) → Some made ≡ option_map p.content_of put → None ≡ option_map p.content_of sort → Some (λ _. made) ≡ put_from put sort
@@ -72,17 +53,6 @@ pub record IsReadOn (plains : Plains) (rest : List Content) (made : List Replace
 
 abbrev pub ReadsOn : List Content → List Content → List ReplacementView → Type 0
 ReadsOn whole rest made = (plains : Plains) → item_trees whole ≡ p.trees_made plains → IsReadOn plains rest made
-
-all_kept : (found : Option (List ReplacementView)) → found ≡ needed found (λ later. Some ([] ++ later))
-all_kept None = refl
-all_kept (Some rs) = refl
-
-pub reads_begin : (whole : List Content) (made : List ReplacementView) → made ≡ [] → ReadsOn whole whole made
-reads_begin whole made none plains is = record {
-  held = plains;
-  rest_is = is;
-  goes_on = all_kept (redactions_in plains) ∙ ap (λ m. needed (redactions_in plains) (λ later. Some (m ++ later))) (sym none);
-}
 
 -- the first item of a list that was read
 record IsItem (first : Content) (more : List Content) (held : Plains) : Type 0 where

@@ -1,18 +1,9 @@
 -- The request that the pairs of a map are.
-use Rattle.std.proofs.Common.{◌≡◌, ℕ, Bool, true, cond, List, [], ◌∷◌, length, Option, None, Some, option_map, refl, ap, sym, ◌∙◌, codes, arith}
+use Rattle.snap_request.proofs.Prelude.{◌≡◌, ℕ, Bool, true, cond, List, [], ◌∷◌, length, Option, None, Some, option_map, refl, ap, sym, ◌∙◌, codes, arith, Plain, Entries, dict, pair_trees, Content, last_value, text_value, line_value, names_file, IsUtf8, chars, IsReadFrom, MayBeReadAs, RefusalEnd, ReplacementView, RequestView, Spells, ReadsAs, needed, pair_count, request_keys, redactions_from, sort_from, request_from, request_in, is_keyed}
 use Rattle.snap_content.specs.Plain as p
-use Rattle.snap_content.specs.Plain.{Plain, Entries, dict}
 use Rattle.snap_content.specs.Tree as t
-use Rattle.snap_content.specs.View.{pair_trees}
-use Rattle.snap_content.specs.declared.content.Content.{Content}
-use Rattle.snap_store.specs.Fields.{last_value, text_value, line_value}
-use Rattle.snap_place.specs.Place.{names_file}
-use Rattle.std.specs.Str.{IsUtf8, chars}
 use Rattle.snap_content.specs.declared.error.Error.{Error}
 use Rattle.snap_content.specs.declared.error.Error.TheVariants.{FailedParsingYaml, UnexpectedDataType, MissingField, FileIo, FloatText, JsonKey, NotText, NoFile, OutOfMemory}
-use Rattle.snap_emit.specs.Parsed.{IsReadFrom, MayBeReadAs, RefusalEnd}
-use Rattle.snap_settings.specs.Replaced.{ReplacementView}
-use Rattle.snap_request.specs.Requests.{RequestView, Spells, ReadsAs, needed, pair_count, request_keys, redactions_from, sort_from, request_from, request_in, is_keyed}
 use Rattle.snap_request.proofs.Requesting.{no_request_read}
 
 others_same : (a b c d : t.Tree) (x y : t.TreePairs) → t.pair a b x ≡ t.pair c d y → x ≡ y

@@ -1,15 +1,9 @@
 -- What makes a tree a request.
-use Rattle.std.proofs.Common.{◌≡◌, ℕ, List, Bool, true, false, cond, drop, Option, None, Some, refl, sym, ap, ◌∙◌, codes}
+use Rattle.snap_request.proofs.Prelude.{◌≡◌, ℕ, List, Bool, true, false, cond, drop, Option, None, Some, refl, sym, ap, ◌∙◌, codes, Plain, dict, Entries, MayBeReadAs, chars, last_value, text_value, line_value, names_file, RequestView, Spells, ReadsAs, needed, request_keys, redactions_from, sort_from, request_from, request_in, is_keyed}
 use Rattle.snap_content.specs.Plain as p
-use Rattle.snap_content.specs.Plain.{Plain, dict, Entries}
 use Rattle.snap_content.specs.Lines.{document_of}
 use Rattle.snap_content.specs.Readable.{IsWithin}
-use Rattle.snap_emit.specs.Parsed.{MayBeReadAs}
 use Rattle.snap_emit.proofs.OneText.{texts_same}
-use Rattle.std.specs.Str.{chars}
-use Rattle.snap_store.specs.Fields.{last_value, text_value, line_value}
-use Rattle.snap_place.specs.Place.{names_file}
-use Rattle.snap_request.specs.Requests.{RequestView, Spells, ReadsAs, needed, request_keys, redactions_from, sort_from, request_from, request_in, is_keyed}
 
 pub record IsNeeded {A B : Type 0} (held : Option A) (made : A → Option B) (answer : B) : Type 0 where
   pub value : A

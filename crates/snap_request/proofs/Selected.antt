@@ -1,13 +1,9 @@
 -- The parts of a text that a reader was given.
-use Rattle.std.proofs.Common.{◌≡◌, ℕ, List, [], None, Some, ap, refl}
+use Rattle.snap_request.proofs.Prelude.{◌≡◌, ℕ, List, [], None, Some, ap, refl, selector_selects, selects_selector, selector_selected}
 use Rattle.snap_select.specs.Grammar.{IsSelector}
 use Rattle.snap_select.specs.Parts.{Parts}
 use Rattle.snap_select.specs.Reading.{Outcome, selects, refuses, outcome, before_part}
 use Rattle.snap_select.specs.Selected.{parts_in, selected}
-use Rattle.snap_select.proofs.Outcomes.{selector_selects, selects_selector}
-
-pub selected-is : (text : List ℕ) (parts : Parts) → IsSelector text parts → selected text ≡ Some parts
-selected-is text parts h = ap parts_in (selector_selects text parts h)
 
 pub selected-none : (text : List ℕ) → ((parts : Parts) → IsSelector text parts → ⊥) → selected text ≡ None
 selected-none text refused = by (outcome (before_part []) text) refl

@@ -1,17 +1,8 @@
 -- A run without faults over spelled requests ends well.
-use Rattle.std.specs.Prelude.{◌≡◌, ℕ, List, [], ◌∷◌, ◌++◌, Option, refl}
-use Rattle.std.proofs.Common.{inl, inr, subst, arith}
-use Rattle.snap_outside.specs.Causes.{Rose}
-use Rattle.snap_outside.specs.Files.{Files}
-use Rattle.snap_request.specs.Requests.{RequestView, Spells}
-use Rattle.snap_run.specs.Answers.{RunWords}
-use Rattle.snap_run.specs.Runs.{StopsAt}
-use Rattle.snap_run.specs.StatusOf.{status_at}
-use Rattle.snap_run.specs.Status.{RunsTo, AreSpelled, IsSteady, EndsWell}
-use Rattle.snap_run.specs.declared.documents.DocumentError.{DocumentError}
+use Rattle.snap_run.proofs.Prelude.{◌≡◌, ℕ, List, [], ◌∷◌, ◌++◌, Option, inl, inr, subst, arith, Rose, Files, RequestView, Spells, RunWords, StopsAt, status_at, RunsTo, AreSpelled, IsSteady, EndsWell, DocumentError, Status, AllPassed, SomeFailed, BadWords, BadRequest, Refused, ReadFault, OutOfMemory, InputTooLong}
+use Rattle.std.specs.Prelude.{refl}
 use Rattle.snap_run.specs.declared.documents.DocumentError.TheVariants as error
-use Rattle.snap_run.specs.declared.status.Status.{Status}
-use Rattle.snap_run.specs.declared.status.Status.TheVariants.{AllPassed, SomeFailed, BadWords, BadRequest, Refused, FileIo, ReadFault, WriteFault, OutOfMemory, InputTooLong}
+use Rattle.snap_run.specs.declared.status.Status.TheVariants.{FileIo, WriteFault}
 
 spelled_at : (done : List (List ℕ)) (d : List ℕ) (later : List (List ℕ)) → AreSpelled (done ++ d ∷ later) → (r : RequestView) × Spells d r
 spelled_at [] d later h = h.0

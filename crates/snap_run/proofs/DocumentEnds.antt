@@ -1,10 +1,5 @@
 -- What one document leaves.
-use Rattle.std.proofs.Common.{◌≡◌, ◌⊎◌, ◌&&◌, not, inl, inr, ℕ, List, [], ◌∷◌, ◌++◌, map, Option, Some, refl, sym, ap, ◌∙◌, subst, Result, Ok, Err, encode_utf8_all}
-use Rattle.std.proofs.lemmas.List.{append-nil}
-use Rattle.std.specs.FinMap.{empty, get}
-use Rattle.snap_outside.specs.Causes.{Rose}
-use Rattle.snap_outside.specs.Files.{Files}
-use Rattle.snap_outside.specs.Streams.{HoldsFront}
+use Rattle.snap_run.proofs.Prelude.{◌≡◌, ◌⊎◌, ◌&&◌, not, inl, inr, ℕ, List, [], ◌∷◌, ◌++◌, map, Option, Some, refl, sym, ap, ◌∙◌, subst, Result, Ok, Err, encode_utf8_all, append-nil, empty, get, Rose, Files, HoldsFront, asked_path, verdict_of, is_failure, RequestView, ReadsAs, RunWords, place_by, settings_by, printed_by, asked_by, assertion_by, line_text, line_of, KeptBy, IsOwn, FaultIsOwn, words_of, Ran, AssertionStops, StopsAt, IsInWork, MemoryFails, LineFails, IsDocumentAnswered, StoreCount, Update, DocumentError, Outcome, Runner, step_keeps}
 use Rattle.snap_content.specs.Tree.{Tree}
 use Rattle.snap_select.specs.Put.{Objects}
 use Rattle.snap_select.specs.declared.replacement.Replacement.{Replacement}
@@ -16,23 +11,12 @@ use Rattle.snap_settings.proofs.PlainRedactions.{plain_prints}
 use Rattle.snap_place.specs.Place.{PlaceView}
 use Rattle.snap_assert.specs.Judging.{May}
 use Rattle.snap_assert.specs.Session.{empty_session}
-use Rattle.snap_assert.specs.Steps.{asked_path, verdict_of, is_failure}
 use Rattle.snap_assert.specs.Assertions.{Assertion, assertion_of, asked_in}
-use Rattle.snap_request.specs.Requests.{RequestView, ReadsAs}
-use Rattle.snap_run.specs.Answers.{RunWords, place_by, settings_by, printed_by, asked_by, assertion_by, line_text, line_of}
-use Rattle.snap_assert.specs.Kept.{KeptBy, IsOwn, FaultIsOwn}
 use Rattle.snap_assert.specs.Outcomes.{IsAnswered, ErrorCause, left_by}
-use Rattle.snap_run.specs.Runner.{words_of}
-use Rattle.snap_run.specs.Runs.{Ran, AssertionStops, StopsAt, IsInWork, MemoryFails, LineFails, IsDocumentAnswered, StoreCount}
-use Rattle.snap_settings.specs.declared.config.Update.{Update}
-use Rattle.snap_run.specs.declared.documents.DocumentError.{DocumentError}
 use Rattle.snap_run.specs.declared.documents.DocumentError.TheVariants.{NoRequest, FileIo, WriteFault, OutOfMemory}
 use Rattle.snap_assert.specs.declared.error.AssertError.{AssertError}
 use Rattle.snap_assert.specs.declared.error.AssertError.TheVariants as refusal
-use Rattle.snap_assert.specs.declared.outcome.Outcome.{Outcome}
 use Rattle.snap_assert.specs.declared.outcome.Verdict.{Verdict}
-use Rattle.snap_run.specs.declared.runner.Runner.{Runner}
-use Rattle.snap_assert.proofs.Keeping.{step_keeps}
 
 -- a document that comes to no answer stops the run with nothing written
 pub stops_at : (words : RunWords) (error : DocumentError) (document : List ℕ) (f g : Option Files) (w v : Option (List ℕ)) → v ≡ w → AssertionStops words error document f g → StopsAt words error document f g w v

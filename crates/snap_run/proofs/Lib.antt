@@ -1,3 +1,4 @@
+mod Prelude
 mod Stepping
 mod Statuses
 mod Completeness

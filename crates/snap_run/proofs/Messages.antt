@@ -1,13 +1,7 @@
 -- What standard error is told.
-use Rattle.std.proofs.Common.{◌≡◌, ◌⊎◌, inl, inr, ◌≤◌, ◌<◌, ◌+◌, ◌-◌, ◌^◌, min, ℕ, List, [], ◌∷◌, ◌++◌, length, take, Option, Some, Result, Ok, Err, OnOk, OnErr, refl, sym, ◌∙◌, ap, subst, arith, encode_utf8_all}
-use Rattle.std.proofs.lemmas.List.{take_all}
-use Rattle.snap_outside.specs.Causes.{HasCause, Rose}
-use Rattle.snap_outside.specs.Streams.{HoldsFront}
+use Rattle.snap_run.proofs.Prelude.{◌≡◌, ◌⊎◌, inl, inr, ◌≤◌, ◌<◌, ◌+◌, ◌-◌, ◌^◌, min, ℕ, List, [], ◌∷◌, ◌++◌, length, take, Option, Some, Result, Ok, Err, OnOk, OnErr, refl, sym, ◌∙◌, ap, subst, arith, encode_utf8_all, take_all, HasCause, Rose, HoldsFront, IsSteady, Status, message, IsSaid}
 use Rattle.snap_run.specs.Describe.{code_of, description}
-use Rattle.snap_run.specs.Status.{IsSteady}
-use Rattle.snap_run.specs.declared.status.Status.{Status}
 use Rattle.snap_run.specs.declared.status.Status.TheVariants as status
-use Rattle.snap_run.specs.Program.{message, IsSaid}
 
 pub message_is : (end : Status) → 2 ≤ code_of end → message end ≡ encode_utf8_all (description end ++ 10 ∷ [])
 message_is status.AllPassed h = absurd (omega arith)

@@ -1,19 +1,7 @@
 -- What the program's run comes to.
-use Rattle.std.proofs.Common.{◌≡◌, ◌≤◌, ◌+◌, ℕ, Bool, true, false, List, Option, None, Some, refl, sym, ap, ◌∙◌, subst, inl, inr, length, arith}
-use Rattle.snap_outside.specs.Files.{Files}
-use Rattle.snap_run.specs.Answers.{RunWords, words_mean}
-use Rattle.snap_request.specs.Cut.{documents}
-use Rattle.snap_run.specs.Runner.{words_of}
-use Rattle.snap_run.specs.Runs.{Stops}
-use Rattle.snap_run.specs.Status.{RunCause, Ended, RunsTo, RunsBy, RunsFrom, LengthCause, SourceCause, SinkCause, StoreCause, AreSpelled, IsSteady, EndsWell}
-use Rattle.snap_run.specs.StatusOf.{status_at, status_of}
+use Rattle.snap_run.proofs.Prelude.{◌≡◌, ◌≤◌, ◌+◌, ℕ, Bool, true, false, List, Option, None, Some, refl, sym, ap, ◌∙◌, subst, inl, inr, length, arith, Files, RunWords, words_mean, documents, words_of, Stops, RunCause, Ended, RunsTo, RunsBy, RunsFrom, LengthCause, SourceCause, SinkCause, StoreCause, AreSpelled, IsSteady, EndsWell, status_at, status_of, DocumentError, Stop, Runner, Status, AllPassed, SomeFailed, BadWords, ReadFault, OutOfMemory, InputTooLong}
 use Rattle.snap_stream.specs.Streams.{TakesExactly}
-use Rattle.snap_run.specs.declared.documents.DocumentError.{DocumentError}
 use Rattle.snap_run.specs.declared.documents.DocumentError.TheVariants as error
-use Rattle.snap_run.specs.declared.documents.Stop.{Stop}
-use Rattle.snap_run.specs.declared.runner.Runner.{Runner}
-use Rattle.snap_run.specs.declared.status.Status.{Status}
-use Rattle.snap_run.specs.declared.status.Status.TheVariants.{AllPassed, SomeFailed, BadWords, ReadFault, OutOfMemory, InputTooLong}
 use Rattle.snap_run.proofs.Statuses.{before_all}
 use Rattle.snap_run.proofs.Completeness.{ends_well, not_rose}
 use Rattle.snap_stream.proofs.Pieces.{exactly_long}

@@ -1,23 +1,11 @@
 -- What a whole run keeps.
-use Rattle.std.proofs.Common.{◌≡◌, inl, inr, ℕ, false, List, [], ◌∷◌, ◌++◌, Option, None, Some, refl, sym, ◌∙◌, ap, subst}
+use Rattle.snap_run.proofs.Prelude.{◌≡◌, inl, inr, ℕ, false, List, [], ◌∷◌, ◌++◌, Option, None, Some, refl, sym, ◌∙◌, ap, subst, get, Files, Answer, RunWords, asked_by, requests_of, step_of, files_after, documents, Keeps, IsKeptOrGone, is_written, may_change, RequestView, Reads, Ran, Stops, StopsAt, IsInWork, MemoryFails, LineFails, RunsTo, RunsBy, RunsFrom, DocumentError, Stop, Status, gone_after, step_keeps}
 use Rattle.std.proofs.lemmas.List.Elements.{All-head, All-tail, All-cons, All-nil}
-use Rattle.std.specs.FinMap.{get}
 use Rattle.std.specs.List.{All}
 use Rattle.snap_content.proofs.Booleans.{some_same}
-use Rattle.snap_outside.specs.Files.{Files}
-use Rattle.snap_run.specs.Answers.{Answer, RunWords, asked_by, requests_of, step_of, files_after}
-use Rattle.snap_request.specs.Cut.{documents}
-use Rattle.snap_assert.specs.Kept.{Keeps, IsKeptOrGone, is_written, may_change}
-use Rattle.snap_request.specs.Requests.{RequestView, Reads}
 use Rattle.snap_run.specs.RunKept.{AreRead, IsSpared, KeptByRun}
-use Rattle.snap_run.specs.Runs.{Ran, Stops, StopsAt, IsInWork, MemoryFails, LineFails}
-use Rattle.snap_run.specs.Status.{RunsTo, RunsBy, RunsFrom}
-use Rattle.snap_run.specs.declared.documents.DocumentError.{DocumentError}
 use Rattle.snap_run.specs.declared.documents.DocumentError.TheVariants as error
-use Rattle.snap_run.specs.declared.documents.Stop.{Stop}
-use Rattle.snap_run.specs.declared.status.Status.{Status}
 use Rattle.snap_run.specs.declared.status.Status.TheVariants as status
-use Rattle.snap_assert.proofs.Keeping.{gone_after, step_keeps}
 
 -- one step, at one path
 kept_at_step : (words : RunWords) (a : Answer) (m : Files) → Keeps (is_written words.update (asked_by words.workspace a.request).path) (may_change words.update (asked_by words.workspace a.request).path) m (Some (step_of words a m))

@@ -1,12 +1,6 @@
 -- Statuses before any document is run, and runs in place.
-use Rattle.std.proofs.Common.{◌≡◌, ◌||◌, ◌&&◌, ℕ, Bool, true, false, not, List, [], ◌∷◌, Option, None, Some, refl, ap, ◌∙◌}
-use Rattle.snap_outside.specs.Files.{Files}
-use Rattle.snap_run.specs.Answers.{Answer, RunWords, some_fails}
-use Rattle.snap_assert.specs.Steps.{verdict_of, is_failure}
-use Rattle.snap_run.specs.Status.{RunsBy, RunsFrom}
-use Rattle.snap_settings.specs.declared.config.Update.{Update}
+use Rattle.snap_run.proofs.Prelude.{◌≡◌, ◌||◌, ◌&&◌, ℕ, Bool, true, false, not, List, [], ◌∷◌, Option, None, Some, refl, ap, ◌∙◌, Files, Answer, RunWords, some_fails, verdict_of, is_failure, RunsBy, RunsFrom, Update, Status}
 use Rattle.snap_settings.specs.declared.config.Update.TheVariants.{InPlace}
-use Rattle.snap_run.specs.declared.status.Status.{Status}
 
 -- some bytes are those that are left, where these are told
 input_of : (left : Option (List ℕ)) → (input : List ℕ) × ((xs : List ℕ) → left ≡ Some xs → input ≡ xs)

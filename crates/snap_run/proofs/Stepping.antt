@@ -1,13 +1,5 @@
 -- How a run over documents goes on from one to the next.
-use Rattle.std.proofs.Common.{◌≡◌, ◌||◌, Bool, true, false, ℕ, ◌+◌, List, [], ◌∷◌, ◌++◌, length, take, drop, Option, Some, refl, sym, ◌∙◌, ap, subst, arith, append_assoc, length-append}
-use Rattle.std.proofs.lemmas.List.{append-nil}
-use Rattle.snap_outside.specs.Files.{Files}
-use Rattle.snap_request.specs.Cut.{documents}
-use Rattle.snap_request.specs.Requests.{RequestView, Reads}
-use Rattle.snap_run.specs.Answers.{Answer, RunWords, step_of, line_of, requests_of, AreAllowed, files_after, lines_of, answer_fails, some_fails}
-use Rattle.snap_run.specs.Runs.{Ran, RanOne, Stops, StopsAt}
-use Rattle.snap_run.specs.Status.{Ended}
-use Rattle.snap_run.specs.declared.documents.DocumentError.{DocumentError}
+use Rattle.snap_run.proofs.Prelude.{◌≡◌, ◌||◌, Bool, true, false, ℕ, ◌+◌, List, [], ◌∷◌, ◌++◌, length, take, drop, Option, Some, refl, sym, ◌∙◌, ap, subst, arith, append_assoc, length-append, append-nil, Files, documents, RequestView, Reads, Answer, RunWords, step_of, line_of, requests_of, AreAllowed, files_after, lines_of, answer_fails, some_fails, Ran, RanOne, Stops, StopsAt, Ended, DocumentError}
 
 requests_of-append : (a b : List Answer) → requests_of (a ++ b) ≡ requests_of a ++ requests_of b
 requests_of-append [] b = refl

@@ -1,14 +1,7 @@
 -- What begins at a place begins with its sign.
-use Rattle.std.proofs.Common.{◌≡◌, ◌≢◌, ℕ, Bool, true, false, refl, subst, sym, slice_index, if◌then◌else◌, ◌==◌, ◌&&◌, ◌∙◌, arith}
-use Rattle.std.proofs.lemmas.Bool.{eqb-true}
-use Rattle.snap_token.specs.Place.{Place}
-use Rattle.snap_token.specs.Causes.{explains}
-use Rattle.snap_token.specs.Characters.{is_document_start, is_document_end}
-use Rattle.snap_token.specs.declared.info.ScanInfo.{ScanInfo}
+use Rattle.snap_scan.proofs.Prelude.{◌≡◌, ◌≢◌, ℕ, Bool, true, false, refl, subst, sym, slice_index, if◌then◌else◌, ◌==◌, ◌&&◌, ◌∙◌, arith, eqb-true, Place, explains, is_document_start, is_document_end, ScanInfo, TokenKind, Begins, is_alone, is_value, kind_of, kind_of_sign, both_second}
 use Rattle.snap_token.specs.declared.info.ScanInfo.TheVariants as i
-use Rattle.snap_scan.specs.declared.kind.TokenKind.{TokenKind}
 use Rattle.snap_scan.specs.declared.kind.TokenKind.TheVariants as k
-use Rattle.snap_scan.specs.Kinds.{Begins, is_alone, is_value, kind_of, kind_of_sign}
 
 pick : (b : Bool) (x y : TokenKind) (c : ℕ) → (b ≡ true → Begins x c) → (b ≡ false → Begins y c) → Begins (if b then x else y) c
 pick true x y c yes_b no_b = yes_b refl
@@ -52,10 +45,6 @@ first-of true true c d e all = refl
 first-of true false c d e all = absurd (cc)
 first-of false b c d e all = absurd (cc)
 
-second-of : (a b : Bool) → (a && b) ≡ true → b ≡ true
-second-of true b both = both
-second-of false b both = absurd (cc)
-
 not-zero : (c : ℕ) → (c == 0) ≡ false → c ≢ 0
 not-zero c some none = let P : ℕ → Type 0 = λ m. (m == 0) ≡ false in let false_is : (0 == 0) ≡ false = subst P none some in absurd (cc)
 
@@ -63,7 +52,7 @@ pub kind-begins : (flow : Bool) (adjacent : ℕ) (p : Place) → Begins (kind_of
 kind-begins flow adjacent p =
     let c = slice_index p.left 0 in
     pick (c == 0) _ _ c (eqb-true c 0) (λ some.
-    pick (p.col == 0 && c == 37) _ _ c (λ e. eqb-true c 37 (second-of (p.col == 0) (c == 37) e)) (λ _.
+    pick (p.col == 0 && c == 37) _ _ c (λ e. eqb-true c 37 (both_second (p.col == 0) (c == 37) e)) (λ _.
     pick (is_document_start p) _ _ c (λ e. eqb-true c 45 (first-of _ (c == 45) _ _ _ e)) (λ _.
     pick (is_document_end p) _ _ c (λ e. eqb-true c 46 (first-of _ (c == 46) _ _ _ e)) (λ _.
     sign-begins flow adjacent p c (λ none. not-zero c some none)))))

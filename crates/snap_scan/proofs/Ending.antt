@@ -1,10 +1,5 @@
 -- When the tokens are at their end.
-use Rattle.std.proofs.Common.{◌≡◌, ◌≤◌, ◌+◌, ◌∷◌, [], ℕ, Bool, true, false, List, Option, Some, None, Ok, length, drop, subst, sym, ap, arith, refl, ◌∙◌, ◌==◌, ◌&&◌, if◌then◌else◌}
-use Rattle.std.proofs.lemmas.Bool.{eqb-true}
-use Rattle.std.specs.Prelude.{MatchOption}
-use Rattle.snap_token.specs.declared.token.Token.{Token}
-use Rattle.snap_scan.specs.State.{State, spent, left_of, has_ended, given, IsReady}
-use Rattle.snap_scan.specs.Scan.{IsNoneAtEnd, Pays}
+use Rattle.snap_scan.proofs.Prelude.{◌≡◌, ◌≤◌, ◌+◌, ◌∷◌, [], ℕ, Bool, true, false, List, Option, Some, None, Ok, length, drop, subst, sym, ap, arith, refl, ◌∙◌, ◌==◌, ◌&&◌, if◌then◌else◌, eqb-true, MatchOption, Token, State, spent, left_of, has_ended, given, IsReady, IsNoneAtEnd, Pays}
 
 both : (a : Bool) (n : ℕ) → a ≡ true → n ≡ 0 → (a && n == 0) ≡ true
 both true n is none = let P : ℕ → Type 0 = λ m. (true && m == 0) ≡ true in subst P (sym none) refl

@@ -1,34 +1,14 @@
 -- Why a fetch refuses, and what one fetch as a whole keeps.
-use Rattle.std.proofs.Common.{◌≡◌, ◌≢◌, ◌≤◌, ◌+◌, ◌∷◌, [], ℕ, Bool, true, false, List, Option, Some, None, length, slice_index, subst, sym, ap, arith, refl, ◌∙◌, ◌&&◌, if◌then◌else◌}
-use Rattle.std.specs.Prelude.{All, codes, nat_lt, nat_le, not, ◌||◌}
-use Rattle.std.specs.List.{list_any}
-use Rattle.std.proofs.lemmas.Bool.{ltb-false}
-use Rattle.std.proofs.lemmas.List.Elements.{All-nil, All-head, All-tail}
-use Rattle.snap_token.specs.Mark.{Mark}
-use Rattle.snap_token.specs.Place.{Place, skipped, forced, mark_of}
-use Rattle.snap_token.specs.Plain.{Plain, plain_from}
-use Rattle.snap_token.specs.Quoted.{Quoted, single_from, double_from}
-use Rattle.snap_token.specs.Causes.{needed, is_among, explains, IsExplained}
+use Rattle.snap_scan.proofs.Prelude.{◌≡◌, ◌≢◌, ◌≤◌, ◌+◌, ◌∷◌, [], ℕ, Bool, true, false, List, Option, Some, None, length, slice_index, subst, sym, ap, arith, refl, ◌∙◌, ◌&&◌, if◌then◌else◌, All, codes, nat_lt, nat_le, not, ◌||◌, list_any, ltb-false, All-nil, All-head, All-tail, Mark, Place, skipped, forced, mark_of, Plain, plain_from, Quoted, single_from, double_from, needed, is_among, explains, IsExplained, TScalarStyle, ScanInfo, ScanError, Syntax, OutOfMemory, TokenKind, SimpleKey, is_required, is_overdue, any_overdue, is_past, fresh, Begins, kind_of, State, at, in_flow, start_state, stale, is_key_owed, to_next, Outcome, done, refused, read, Leaves, Names, MayFail, closed, stream_started, plain_read, quoted_read, innermost, value_behind, kind_step, at_token, token_step, step, Holds, IsFounded, IsShown, IsNoStart, IsNoEnd, IsPossible, IsSound, IsSoundFrom, untouched, open_still, over, block_signs, both_second, both_first}
 use Rattle.snap_token.specs.declared.token.TokenType.TheVariants as t
 use Rattle.snap_token.specs.declared.token.TEncoding.TheVariants.{Utf8}
-use Rattle.snap_token.specs.declared.token.TScalarStyle.{TScalarStyle}
 use Rattle.snap_token.specs.declared.token.TScalarStyle.TheVariants as style
-use Rattle.snap_token.specs.declared.info.ScanInfo.{ScanInfo}
 use Rattle.snap_token.specs.declared.info.ScanInfo.TheVariants as i
-use Rattle.snap_token.specs.declared.info.ScanError.{ScanError}
-use Rattle.snap_token.specs.declared.info.ScanError.TheVariants.{Syntax, OutOfMemory}
-use Rattle.snap_scan.specs.declared.kind.TokenKind.{TokenKind}
 use Rattle.snap_scan.specs.declared.kind.TokenKind.TheVariants as k
-use Rattle.snap_scan.specs.declared.keys.SimpleKey.{SimpleKey}
-use Rattle.snap_scan.specs.Keys.{is_required, is_overdue, any_overdue, is_past, fresh}
-use Rattle.snap_scan.specs.Kinds.{Begins, kind_of}
-use Rattle.snap_scan.specs.State.{State, at, in_flow, start_state, stale, is_key_owed, to_next}
-use Rattle.snap_scan.specs.Fetching.{Outcome, done, refused, read, Leaves, Names, MayFail, closed, stream_started, plain_read, quoted_read, innermost, value_behind, kind_step, at_token, token_step, step}
-use Rattle.snap_scan.specs.Sound.{Holds, IsFounded, IsShown, IsNoStart, IsNoEnd, IsPossible, IsSound, IsSoundFrom, untouched, open_still, over, block_signs}
 use Rattle.snap_scan.proofs.Beginnings.{kind-begins}
 use Rattle.snap_scan.proofs.Growing.{unrefused}
 use Rattle.snap_scan.proofs.Possible.{in-source, in-bracket, in-holds, stands, stands-behind}
-use Rattle.snap_scan.proofs.Soundness.{either, only, second-true, sound-forced, sound-unrolled, sound-stale, sound-to-next}
+use Rattle.snap_scan.proofs.Soundness.{either, only, sound-forced, sound-unrolled, sound-stale, sound-to-next}
 use Rattle.snap_scan.proofs.Sounding.{IsFresh, among, begun, left-done, left-open, sound-closed, sound-kind}
 
 -- a fault that a test found, or that lies further on
@@ -66,13 +46,9 @@ required-block : (source : List ℕ) (d : ℕ) (p : Place) (b : Bool) (key : Opt
 required-block source d p b None is required = absurd (cc)
 required-block source d p b (Some key) is required = is.block required
 
-first-true : (a b : Bool) → (a && b) ≡ true → a ≡ true
-first-true true b e = refl
-first-true false b e = absurd (cc)
-
 overdue-block : (source : List ℕ) (d : ℕ) (p : Place) (b : Bool) (mark : Mark) (key : Option SimpleKey) → IsPossible source d p b key → is_overdue mark key ≡ true → Holds source block_signs
 overdue-block source d p b mark None is overdue = absurd (cc)
-overdue-block source d p b mark (Some key) is overdue = is.block (first-true key.required _ overdue)
+overdue-block source d p b mark (Some key) is overdue = is.block (both_first key.required _ overdue)
 
 one-of-two : (T : Type 0) (a b : Bool) → (a ≡ true → T) → (b ≡ true → T) → (a || b) ≡ true → T
 one-of-two T true b left right e = left refl
@@ -98,7 +74,7 @@ founded-required : {ahead : Bool} → (source : List ℕ) (s : State) → IsSoun
 founded-required source s is required = founded-at false source 1 s i.S2 is (required-block source 1 s.place _ s.keys.key is.keys.key required)
 
 founded-owed : {ahead : Bool} → (source : List ℕ) (s : State) → IsSoundFrom false ahead source 1 s → is_key_owed s ≡ true → IsFounded source (Syntax (mark_of s.place) i.S2)
-founded-owed source s is owed = founded-required source s is (second-true s.allowed _ owed)
+founded-owed source s is owed = founded-required source s is (both_second s.allowed _ owed)
 
 -- too many brackets: as many are open as may be, and one more stands here
 founded-levels : {ahead : Bool} → (source : List ℕ) (s : State) → IsSoundFrom false ahead source 1 s → is_among (codes "[{") (slice_index s.place.left 0) ≡ true
@@ -116,8 +92,8 @@ founded-sign : {ahead : Bool} → (source : List ℕ) (s : State) (info : ScanIn
     → slice_index s.place.left 0 ≢ 0 → IsFounded source (Syntax (mark_of s.place) info)
 founded-sign source s info is explained some =
     let c = slice_index s.place.left 0 in
-    let few = le-of (needed info).count 1 (first-true (nat_le (needed info).count 1) (is_among (needed info).signs c) explained) in
-    let found = second-true (nat_le (needed info).count 1) (is_among (needed info).signs c) explained in
+    let few = le-of (needed info).count 1 (both_first (nat_le (needed info).count 1) (is_among (needed info).signs c) explained) in
+    let found = both_second (nat_le (needed info).count 1) (is_among (needed info).signs c) explained in
     founded-at false source 1 s info is (omega (arith, few, stands (needed info).signs source (length s.keys.outer) s.place is.place found some))
 
 founded-flow-start : {ahead : Bool} → (source : List ℕ) (s u : State) (m : Mark) (info : ScanInfo) → IsSoundFrom false ahead source 1 s → is_among (codes "[{") (slice_index s.place.left 0) ≡ true

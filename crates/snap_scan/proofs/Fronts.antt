@@ -1,28 +1,9 @@
 -- Fetching does not see the tokens that are held, and gives up keys only once.
-use Rattle.std.proofs.Common.{◌≡◌, ℕ, suc, ◌+◌, ◌-◌, ◌≤◌, List, [], ◌∷◌, ◌++◌, Bool, true, false, refl, ap, ◌∙◌, arith, Some, None, Option, map, nat_lt, length, min, get_or}
-use Rattle.std.proofs.lemmas.List.{map-append, length-map, take-map}
+use Rattle.snap_scan.proofs.Prelude.{◌≡◌, ℕ, suc, ◌+◌, ◌-◌, ◌≤◌, List, [], ◌∷◌, ◌++◌, Bool, true, false, refl, ap, ◌∙◌, arith, Some, None, Option, map, nat_lt, length, min, get_or, map-append, length-map, take-map, list_any, ◌&&◌, ◌==◌, not, if◌then◌else◌, Mark, Place, mark_of, skipped, skip_from, forced, Plain, plain_from, Quoted, single_from, double_from, is_break, ScanInfo, Token, TokenType, TScalarStyle, Outcome, done, refused, read, kind_step, token_step, stream_started, closed, document, sign, flow_start, flow_end, value_behind, read_key, plain_read, quoted_read, innermost, Keys, fresh, is_past, is_required, is_overdue, any_overdue, has_levels, deeper, shallower, kind_of, left_by, fetched, State, in_flow, to_next, past_comment, is_space, line_ended, advanced, allowing, unrolled, ends, kept, at, saved, is_innermost, inserted, put, rolled, is_deeper, pushed, keyless, is_key_owed, stale, SimpleKey, TokenKind}
 use Rattle.std.proofs.Math.ListN.{get_or-map}
-use Rattle.std.specs.List.{list_any}
-use Rattle.std.specs.Prelude.{◌&&◌, ◌==◌, not, if◌then◌else◌}
-use Rattle.snap_token.specs.Mark.{Mark}
-use Rattle.snap_token.specs.Place.{Place, mark_of, skipped, skip_from, forced}
-use Rattle.snap_token.specs.Plain.{Plain, plain_from}
-use Rattle.snap_token.specs.Quoted.{Quoted, single_from, double_from}
-use Rattle.snap_token.specs.Characters.{is_break}
-use Rattle.snap_token.specs.declared.info.ScanInfo.{ScanInfo}
 use Rattle.snap_token.specs.declared.info.ScanInfo.TheVariants as i
-use Rattle.snap_token.specs.declared.token.Token.{Token}
-use Rattle.snap_token.specs.declared.token.TokenType.{TokenType}
 use Rattle.snap_token.specs.declared.token.TokenType.TheVariants as t
-use Rattle.snap_token.specs.declared.token.TScalarStyle.{TScalarStyle}
 use Rattle.snap_token.specs.declared.token.TScalarStyle.TheVariants as style
-use Rattle.snap_scan.specs.Fetching.{Outcome, done, refused, read, kind_step, token_step, stream_started, closed, document, sign, flow_start, flow_end, value_behind, read_key, plain_read, quoted_read, innermost}
-use Rattle.snap_scan.specs.Keys.{Keys, fresh, is_past, is_required, is_overdue, any_overdue, has_levels, deeper, shallower}
-use Rattle.snap_scan.specs.Kinds.{kind_of}
-use Rattle.snap_scan.specs.Owed.{left_by, fetched}
-use Rattle.snap_scan.specs.State.{State, in_flow, to_next, past_comment, is_space, line_ended, advanced, allowing, unrolled, ends, kept, at, saved, is_innermost, inserted, put, rolled, is_deeper, pushed, keyless, is_key_owed, stale}
-use Rattle.snap_scan.specs.declared.keys.SimpleKey.{SimpleKey}
-use Rattle.snap_scan.specs.declared.kind.TokenKind.{TokenKind}
 use Rattle.snap_scan.specs.declared.kind.TokenKind.TheVariants as k
 
 -- other tokens and keys, in the same flow levels

@@ -1,21 +1,7 @@
 -- A fetch puts a token behind the held ones.
-use Rattle.std.proofs.Common.{◌≡◌, ◌≤◌, ◌++◌, ◌∷◌, [], Bool, true, false, List, Option, Some, None, Result, Ok, Err, length, length-append, subst, sym, ap, arith, if◌then◌else◌}
-use Rattle.std.specs.Prelude.{OnOk, nat_lt, not, ◌&&◌}
-use Rattle.snap_token.specs.declared.info.ScanError.{ScanError}
-use Rattle.snap_token.specs.Mark.{Mark}
-use Rattle.snap_token.specs.Place.{mark_of}
-use Rattle.snap_token.specs.Plain.{Plain, plain_from}
-use Rattle.snap_token.specs.Quoted.{Quoted, single_from, double_from}
-use Rattle.snap_token.specs.declared.token.Token.{Token}
-use Rattle.snap_token.specs.declared.token.TScalarStyle.{TScalarStyle}
+use Rattle.snap_scan.proofs.Prelude.{◌≡◌, ◌≤◌, ◌++◌, ◌∷◌, [], Bool, true, false, List, Option, Some, None, Result, Ok, Err, length, length-append, subst, sym, ap, arith, if◌then◌else◌, OnOk, nat_lt, not, ◌&&◌, ScanError, Mark, mark_of, Plain, plain_from, Quoted, single_from, double_from, Token, TScalarStyle, ScanInfo, SimpleKey, TokenKind, is_required, any_overdue, State, at, in_flow, is_key_owed, to_next, Outcome, done, refused, read, Leaves, Does, plain_read, quoted_read, read_key, value_behind, innermost, kind_step, token_step, at_token, stream_started, step}
 use Rattle.snap_token.specs.declared.token.TScalarStyle.TheVariants as style
-use Rattle.snap_token.specs.declared.info.ScanInfo.{ScanInfo}
-use Rattle.snap_scan.specs.declared.keys.SimpleKey.{SimpleKey}
-use Rattle.snap_scan.specs.declared.kind.TokenKind.{TokenKind}
 use Rattle.snap_scan.specs.declared.kind.TokenKind.TheVariants as k
-use Rattle.snap_scan.specs.Keys.{is_required, any_overdue}
-use Rattle.snap_scan.specs.State.{State, at, in_flow, is_key_owed, to_next}
-use Rattle.snap_scan.specs.Fetching.{Outcome, done, refused, read, Leaves, Does, plain_read, quoted_read, read_key, value_behind, innermost, kind_step, token_step, at_token, stream_started, step}
 
 -- what is left once a refusal is out of the question
 pub unrefused : (b : Bool) (m : Mark) (i : ScanInfo) (o : Outcome) (new : State) → Leaves (if b then refused m i else o) new → Leaves o new

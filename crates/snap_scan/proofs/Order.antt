@@ -1,16 +1,7 @@
 -- The order of StreamStart and StreamEnd among the tokens that are given.
-use Rattle.std.proofs.Common.{◌≡◌, ◌≤◌, ◌∷◌, [], ℕ, Bool, true, false, List, Option, Some, None, Ok, length, subst, sym, ap, arith, refl, ◌∙◌, ◌==◌, ◌&&◌, if◌then◌else◌}
-use Rattle.std.specs.Prelude.{All, MatchOption, not, ◌||◌}
-use Rattle.std.proofs.lemmas.List.Elements.{All-head}
-use Rattle.snap_token.specs.declared.token.Token.{Token}
-use Rattle.snap_token.specs.declared.info.ScanError.{ScanError}
-use Rattle.snap_scan.specs.State.{State, has_ended, given}
-use Rattle.snap_scan.specs.Fetching.{Outcome, done, Leaves, step}
-use Rattle.snap_scan.specs.Sound.{IsShown, IsNoEnd, IsFounded, IsSound, IsSoundFrom, untouched, open_still, over, EndsStream, begins_stream, is_start, is_end, is_start_ahead, GivesSound}
-use Rattle.snap_scan.specs.Scan.{IsWholeWhile, GivesNext}
+use Rattle.snap_scan.proofs.Prelude.{◌≡◌, ◌≤◌, ◌∷◌, [], ℕ, Bool, true, false, List, Option, Some, None, Ok, length, subst, sym, ap, arith, refl, ◌∙◌, ◌==◌, ◌&&◌, if◌then◌else◌, All, MatchOption, not, ◌||◌, All-head, Token, ScanError, State, has_ended, given, Outcome, done, Leaves, step, IsShown, IsNoEnd, IsFounded, IsSound, IsSoundFrom, untouched, open_still, over, EndsStream, begins_stream, is_start, is_end, is_start_ahead, GivesSound, IsWholeWhile, GivesNext}
 use Rattle.snap_scan.proofs.Ending.{holding, not-both}
 use Rattle.snap_scan.proofs.Growing.{step-holds}
-use Rattle.snap_scan.proofs.Possible.{in-source}
 use Rattle.snap_scan.proofs.Soundness.{sound-given}
 
 ahead-of : (started : Bool) (held : List Token) (ahead : Bool) → started ≡ true → begins_stream held ≡ ahead → (not started || begins_stream held) ≡ ahead
@@ -94,9 +85,6 @@ whole-open e source s none is = let P : Option ScanError → Type 0 = λ v. IsWh
 pub whole-failed : (e : Option ScanError) (source : List ℕ) (s : State) (error : ScanError) → e ≡ Some error → IsFounded source error → IsWholeWhile e source s
 whole-failed e source s error failed founded = let P : Option ScanError → Type 0 = λ v. IsWholeWhile v source s in subst P (sym failed) founded
 
-pub founded-kept : (e : Option ScanError) (source : List ℕ) (s : State) (error : ScanError) → e ≡ Some error → IsWholeWhile e source s → IsFounded source error
-founded-kept e source s error failed whole = let P : Option ScanError → Type 0 = λ v. IsWholeWhile v source s in subst P failed whole
-
 -- what is promised of a token that is given
 pub gives-next : (source : List ℕ) (o : Option Token) (old new : State) → GivesSound (is_start_ahead old) source (Ok o) new → GivesNext source (Ok o) old new
 gives-next source None old new gives = tt
@@ -105,14 +93,3 @@ gives-next source (Some token) old new gives = (gives.0, (gives.1, ahead-is sour
 pub sound-after : (ahead : Bool) (source : List ℕ) (o : Option Token) (new : State) → GivesSound ahead source (Ok o) new → IsSound (is_start_ahead new) source new
 sound-after ahead source None new gives = sound-ahead source new gives
 sound-after ahead source (Some token) new gives = sound-ahead source new gives.3
-
--- a scanner that hasn't failed stands in its source or at its end
-pub sound-inside : (ahead : Bool) (source : List ℕ) (s : State) → IsSound ahead source s → s.place.index ≤ length source
-sound-inside ahead source s (untouched first start) =
-    let P : State → Type 0 = λ v. v.place.index ≤ length source in
-    subst P (sym start) (omega (arith))
-sound-inside ahead source s (open_still is) = omega (arith, in-source source (length s.keys.outer) s.place is.place)
-sound-inside ahead source s (over is) = omega (arith, in-source source (length s.keys.outer) s.place is.place)
-
-pub whole-inside : (e : Option ScanError) (source : List ℕ) (s : State) → e ≡ None → IsWholeWhile e source s → s.place.index ≤ length source
-whole-inside e source s none is = sound-inside (is_start_ahead s) source s (whole-sound e source s none is)

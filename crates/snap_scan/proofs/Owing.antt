@@ -1,29 +1,8 @@
 -- What is owed stays owed from one call to the next.
-use Rattle.std.proofs.Common.{◌≡◌, ℕ, suc, ◌-◌, ◌⊎◌, List, [], ◌∷◌, Bool, true, false, refl, sym, ap, ◌∙◌, arith, Some, None, Option, map, subst, drop, inl, inr, Ok}
+use Rattle.snap_scan.proofs.Prelude.{◌≡◌, ℕ, suc, ◌-◌, ◌⊎◌, List, [], ◌∷◌, Bool, true, false, refl, sym, ap, ◌∙◌, arith, Some, None, Option, map, subst, drop, inl, inr, Ok, list_any, ◌||◌, ◌&&◌, ◌==◌, MatchOption, if◌then◌else◌, Mark, Place, mark_of, ScanError, Syntax, OutOfMemory, Token, TokenType, Outcome, done, told, refused, read, unreadable, step, token_step, stream_started, Leaves, MayFail, kind_step, kind_of, Keys, fresh, is_past, is_overdue, any_overdue, still_fresh, names_first, any_names_first, lowered, all_lowered, left_by, fetched, Steps, none_more, one_more, type_of, Owes, IsFirstSure, IsFirst, GivesFirst, Scan, IsSound, untouched, open_still, over, State, to_next, past_comment, advanced, line_ended, is_space, stale, given, in_flow, unrolled, is_break, SimpleKey, or_parts}
 use Rattle.std.proofs.lemmas.Bool.Decides.{nat_tests}
-use Rattle.std.specs.List.{list_any}
-use Rattle.std.specs.Prelude.{not, ◌||◌, ◌&&◌, ◌==◌, MatchOption, if◌then◌else◌}
-use Rattle.snap_token.specs.Mark.{Mark}
-use Rattle.snap_token.specs.Place.{Place, mark_of}
-use Rattle.snap_token.specs.declared.info.ScanError.{ScanError}
-use Rattle.snap_token.specs.declared.info.ScanError.TheVariants.{Syntax, OutOfMemory}
 use Rattle.snap_token.specs.declared.info.ScanInfo.TheVariants as info
-use Rattle.snap_token.specs.declared.token.Token.{Token}
-use Rattle.snap_token.specs.declared.token.TokenType.{TokenType}
-use Rattle.snap_scan.specs.Fetching.{Outcome, done, told, refused, read, unreadable, step, token_step, stream_started, Leaves, MayFail, kind_step}
-use Rattle.snap_scan.specs.Kinds.{kind_of}
-use Rattle.snap_scan.specs.Keys.{Keys, fresh, is_past, is_overdue, any_overdue, still_fresh, names_first, any_names_first, lowered, all_lowered}
-use Rattle.snap_scan.specs.Owed.{left_by, fetched, Steps, none_more, one_more, type_of, Owes, IsFirstSure, IsFirst, GivesFirst}
-use Rattle.snap_scan.specs.Scan.{Scan}
-use Rattle.snap_scan.specs.Sound.{IsSound, untouched, open_still, over}
-use Rattle.snap_scan.specs.State.{State, to_next, past_comment, advanced, line_ended, is_space, stale, given, in_flow, unrolled}
-use Rattle.snap_token.specs.Characters.{is_break}
-use Rattle.snap_scan.specs.declared.keys.SimpleKey.{SimpleKey}
 use Rattle.snap_scan.proofs.Fronts.{IsOnward, to_next-onward, to_next-rekeyed, raised, in_front, fronts, step-front, any-overdue-front}
-
-either-of : (a b : Bool) → a || b ≡ false → (a ≡ false) × (b ≡ false)
-either-of false b h = (refl, h)
-either-of true b h = (cc, cc)
 
 overdue-by : (required old new : Bool) → (old ≡ true → new ≡ true) → required && new ≡ false → required && old ≡ false
 overdue-by false old new on h = refl
@@ -38,12 +17,12 @@ overdue-onward p q (Some key) on h = overdue-by key.required (is_past (mark_of p
 overdue-list : (p q : Place) (ks : List (Option SimpleKey)) → IsOnward p q → list_any (is_overdue (mark_of q)) ks ≡ false → list_any (is_overdue (mark_of p)) ks ≡ false
 overdue-list p q [] on h = refl
 overdue-list p q (k ∷ ks) on h =
-    let two = either-of (is_overdue (mark_of q) k) (list_any (is_overdue (mark_of q)) ks) h in
+    let two = or_parts (is_overdue (mark_of q) k) (list_any (is_overdue (mark_of q)) ks) h in
     rw (overdue-onward p q k on two.0, overdue-list p q ks on two.1) refl
 
 any-overdue-onward : (p q : Place) (ks : Keys) → IsOnward p q → any_overdue (mark_of q) ks ≡ false → any_overdue (mark_of p) ks ≡ false
 any-overdue-onward p q ks on h =
-    let two = either-of (is_overdue (mark_of q) ks.key) (list_any (is_overdue (mark_of q)) ks.outer) h in
+    let two = or_parts (is_overdue (mark_of q) ks.key) (list_any (is_overdue (mark_of q)) ks.outer) h in
     rw (overdue-onward p q ks.key on two.0, overdue-list p q ks.outer on two.1) refl
 
 -- giving up keys at a place where none is overdue makes none overdue later, nor hides one
@@ -76,12 +55,12 @@ overdue-fresh m n (Some key) h = overdue-if n key (is_past m key) h
 overdue-list-fresh : (m n : Mark) (ks : List (Option SimpleKey)) → list_any (is_overdue m) ks ≡ false → list_any (is_overdue n) (map (fresh m) ks) ≡ list_any (is_overdue n) ks
 overdue-list-fresh m n [] h = refl
 overdue-list-fresh m n (k ∷ ks) h =
-    let two = either-of (is_overdue m k) (list_any (is_overdue m) ks) h in
+    let two = or_parts (is_overdue m k) (list_any (is_overdue m) ks) h in
     rw (overdue-fresh m n k two.0, overdue-list-fresh m n ks two.1) refl
 
 any-overdue-fresh : (m n : Mark) (ks : Keys) → any_overdue m ks ≡ false → any_overdue n (still_fresh m ks) ≡ any_overdue n ks
 any-overdue-fresh m n ks h =
-    let two = either-of (is_overdue m ks.key) (list_any (is_overdue m) ks.outer) h in
+    let two = or_parts (is_overdue m ks.key) (list_any (is_overdue m) ks.outer) h in
     rw (overdue-fresh m n ks.key two.0, overdue-list-fresh m n ks.outer two.1) refl
 
 keys-if : (ks : Keys) (b : Bool) (x y : State) → x.keys ≡ ks → y.keys ≡ ks → (if b then x else y).keys ≡ ks
@@ -102,7 +81,7 @@ mutual
       keys-if s.keys (is_break c) _ _ (to_next-keys cs (line_ended (advanced s))) (keys-if s.keys (c == 0) _ _ refl (past_comment-keys cs (advanced s)))
 
 -- the fetch of the token at a state whose keys are fresh
-abbrev fetch_at : State → Outcome
+abbrev pub fetch_at : State → Outcome
 fetch_at s = kind_step (kind_of (in_flow (unrolled (Some s.place.col) s)) s.adjacent (unrolled (Some s.place.col) s).place) (unrolled (Some s.place.col) s)
 
 chosen : (b c : Bool) (x y z : Outcome) → b ≡ false → c ≡ true → (if b then x else (if c then y else z)) ≡ y
@@ -158,18 +137,6 @@ owes-next s t ts ended is o =
     let same : f.0 ≡ t = cc in
     let P : State → Type 0 = λ v. Steps v o.end in
     record { end = o.end; steps = subst P same f.2; ended = o.ended; timely = o.timely; given = o.given }
-
-sure-by : (e n : Bool) → e || not n ≡ true → (e ≡ true) ⊎ (n ≡ false)
-sure-by true n h = inl refl
-sure-by false false h = inr refl
-sure-by false true h = absurd (cc)
-
--- what is ready is sure
-pub sure-of : (s : State) (e n : Bool) → e ≡ s.ended → n ≡ any_names_first s.keys → e || not n ≡ true → IsFirstSure s
-sure-of s e n ended names h =
-    let P : Bool → Type 0 = λ v. (v ≡ true) ⊎ (any_names_first s.keys ≡ false) in
-    let Q : Bool → Type 0 = λ v. (e ≡ true) ⊎ (v ≡ false) in
-    subst P ended (subst Q names (sure-by e n h))
 
 -- no key is overdue where something is owed
 pub owes-timely : {ahead : Bool} → (source : List ℕ) (s : State) (ts : List TokenType) → IsSound ahead source s → Owes s ts → any_overdue (mark_of s.place) s.keys ≡ false
@@ -296,7 +263,7 @@ raised-lowered (Some key) h =
 map-raised-lowered : (ks : List (Option SimpleKey)) → list_any names_first ks ≡ false → map raised (map lowered ks) ≡ ks
 map-raised-lowered [] h = refl
 map-raised-lowered (k ∷ ks) h =
-    let two = either-of (names_first k) (list_any names_first ks) h in
+    let two = or_parts (names_first k) (list_any names_first ks) h in
     rw (raised-lowered k two.0, map-raised-lowered ks two.1) refl
 
 same-state : (s : State) (h : List Token) (k : Option SimpleKey) (o : List (Option SimpleKey)) → h ≡ s.held → k ≡ s.keys.key → o ≡ s.keys.outer
@@ -305,7 +272,7 @@ same-state s h k o p q r = rw (p, q, r) refl
 
 front-given : (x : Token) (h : List Token) (s : State) → s.held ≡ x ∷ h → any_names_first s.keys ≡ false → in_front x (given s) ≡ s
 front-given x h s is sure =
-    let two = either-of (names_first s.keys.key) (list_any names_first s.keys.outer) sure in
+    let two = or_parts (names_first s.keys.key) (list_any names_first s.keys.outer) sure in
     let held : x ∷ drop 1 s.held ≡ s.held = rw is refl in
     same-state s (x ∷ drop 1 s.held) (raised (lowered s.keys.key)) (map raised (map lowered s.keys.outer)) held (raised-lowered s.keys.key two.0) (map-raised-lowered s.keys.outer two.1)
 

@@ -1,13 +1,6 @@
 -- Places in the source, and the possible keys behind them.
-use Rattle.std.proofs.Common.{◌≡◌, ◌≢◌, ◌≤◌, ◌+◌, ◌++◌, ◌∷◌, [], ℕ, Bool, true, false, List, Option, Some, None, length, slice_index, length-append, append_assoc, subst, sym, ap, arith, refl, ◌∙◌, ◌==◌, if◌then◌else◌}
-use Rattle.std.specs.Prelude.{cond, count_by, codes}
+use Rattle.snap_scan.proofs.Prelude.{◌≡◌, ◌≢◌, ◌≤◌, ◌+◌, ◌++◌, ◌∷◌, [], ℕ, Bool, true, false, List, Option, Some, None, length, slice_index, length-append, append_assoc, subst, sym, ap, arith, refl, ◌∙◌, ◌==◌, if◌then◌else◌, cond, count_by, codes, All-weaker, Place, Later, here, next, skip_from, skipped, forced, behind, is_among, Keys, IsIn, IsKeyBehind, IsKeySound, IsPossible, ArePossible, SimpleKey}
 use Rattle.std.proofs.lemmas.List.Sums.{sum_by-append}
-use Rattle.std.proofs.lemmas.List.Elements.{All-weaker}
-use Rattle.snap_token.specs.Place.{Place, Later, here, next, skip_from, skipped, forced, behind}
-use Rattle.snap_token.specs.Causes.{is_among}
-use Rattle.snap_scan.specs.Keys.{Keys}
-use Rattle.snap_scan.specs.Sound.{IsIn, IsKeyBehind, IsKeySound, IsPossible, ArePossible}
-use Rattle.snap_scan.specs.declared.keys.SimpleKey.{SimpleKey}
 
 pub count-append : (signs xs ys : List ℕ) → count_by (is_among signs) (xs ++ ys) ≡ count_by (is_among signs) xs + count_by (is_among signs) ys
 count-append signs xs ys = sum_by-append _ xs ys

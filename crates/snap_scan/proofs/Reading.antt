@@ -1,23 +1,9 @@
 -- What the reading of a token makes of a state.
-use Rattle.std.proofs.Common.{◌≡◌, ◌≤◌, ◌+◌, ℕ, Bool, true, false, List, [], ◌∷◌, Option, Some, None, Result, Ok, Err, length, subst, sym, ap, arith, refl, ◌∙◌, if◌then◌else◌}
-use Rattle.std.specs.Prelude.{MatchOption}
-use Rattle.snap_token.specs.Place.{Place, Later, here, next, skip_from, mark_of}
-use Rattle.snap_token.specs.Mark.{Mark}
-use Rattle.snap_token.specs.Plain.{Plain, plain_from, ReadsPlain}
-use Rattle.snap_token.specs.Quoted.{Quoted, ReadsQuoted}
+use Rattle.snap_scan.proofs.Prelude.{◌≡◌, ◌≤◌, ◌+◌, ℕ, Bool, true, false, List, [], ◌∷◌, Option, Some, None, Result, Ok, Err, length, subst, sym, ap, arith, refl, ◌∙◌, if◌then◌else◌, MatchOption, Place, Later, here, next, skip_from, mark_of, Mark, Plain, plain_from, ReadsPlain, Quoted, ReadsQuoted, TokenType, TScalarStyle, ScanError, Syntax, OutOfMemory, S2, TokenKind, is_required, State, Gives, at, pushed, allowing, keyless, saved, unrolled, is_key_owed, in_flow, Outcome, refused, read, IsTokenOf, IsRead, Does, closed, directive, read_key, plain, plain_read, quoted_read, innermost}
 use Rattle.snap_token.specs.declared.plain.PlainScalar.{PlainScalar}
-use Rattle.snap_token.specs.declared.token.TokenType.{TokenType}
 use Rattle.snap_token.specs.declared.token.TokenType.TheVariants as k
-use Rattle.snap_token.specs.declared.token.TScalarStyle.{TScalarStyle}
 use Rattle.snap_token.specs.declared.token.TScalarStyle.TheVariants as style
-use Rattle.snap_token.specs.declared.info.ScanError.{ScanError}
-use Rattle.snap_token.specs.declared.info.ScanError.TheVariants.{Syntax, OutOfMemory}
-use Rattle.snap_token.specs.declared.info.ScanInfo.TheVariants.{S2}
-use Rattle.snap_scan.specs.declared.kind.TokenKind.{TokenKind}
 use Rattle.snap_scan.specs.declared.kind.TokenKind.TheVariants.{Directive}
-use Rattle.snap_scan.specs.Keys.{is_required}
-use Rattle.snap_scan.specs.State.{State, Gives, at, pushed, allowing, keyless, saved, unrolled, is_key_owed, in_flow}
-use Rattle.snap_scan.specs.Fetching.{Outcome, refused, read, IsTokenOf, IsRead, Does, closed, directive, read_key, plain, plain_read, quoted_read, innermost}
 
 skip-index : (cs : List ℕ) (p : Place) → p.index ≤ (skip_from cs p).index
 skip-index [] p = omega arith

@@ -1,27 +1,8 @@
 -- Each fetch keeps a scanner sound.
-use Rattle.std.proofs.Common.{◌≡◌, ◌≢◌, ◌≤◌, ◌+◌, ◌-◌, ◌++◌, ◌∷◌, [], ℕ, Bool, true, false, List, Option, Some, None, length, slice_index, slice_index_or, length-append, subst, sym, ap, arith, refl, ◌∙◌, ◌&&◌, inl, inr, if◌then◌else◌}
-use Rattle.std.specs.Prelude.{All, count_by, codes, nat_lt, not, ◌||◌}
-use Rattle.std.proofs.lemmas.Bool.{ltb-false}
-use Rattle.std.proofs.lemmas.List.{length-take}
-use Rattle.std.proofs.lemmas.List.Elements.{All-push, All-head, All-tail, All-take, All-get_or}
-use Rattle.snap_token.specs.Mark.{Mark}
-use Rattle.snap_token.specs.Place.{Place, Later, skipped, forced, mark_of}
-use Rattle.snap_token.specs.Plain.{Plain}
-use Rattle.snap_token.specs.Quoted.{Quoted, single_from, double_from}
-use Rattle.snap_token.specs.Causes.{is_among}
-use Rattle.snap_token.specs.declared.token.Token.{Token}
-use Rattle.snap_token.specs.declared.token.TokenType.{TokenType}
+use Rattle.snap_scan.proofs.Prelude.{◌≡◌, ◌≢◌, ◌≤◌, ◌+◌, ◌-◌, ◌++◌, ◌∷◌, [], ℕ, Bool, true, false, List, Option, Some, None, length, slice_index, slice_index_or, length-append, subst, sym, ap, arith, refl, ◌∙◌, ◌&&◌, inl, inr, if◌then◌else◌, All, count_by, codes, nat_lt, not, ◌||◌, ltb-false, length-take, All-push, All-head, All-tail, All-take, All-get_or, Mark, Place, Later, skipped, forced, mark_of, Plain, Quoted, single_from, double_from, is_among, Token, TokenType, TScalarStyle, TokenKind, SimpleKey, is_required, is_past, has_levels, deeper, shallower, Begins, State, at, in_flow, pushed, inserted, put, advanced, allowing, unrolled, rolled, is_deeper, keyless, saved, is_key_owed, done, IsTokenOf, IsRead, Leaves, closed, sign, document, plain_read, quoted_read, read_key, value_behind, kind_step, Holds, shown, IsShown, IsIn, IsKeyBehind, HasQuestion, HasColon, KindStands, IsPossible, IsSound, IsSoundFrom, open_still, over, IsNoStart, IsNoEnd, EndsStream, is_start, is_end, block_signs}
 use Rattle.snap_token.specs.declared.token.TokenType.TheVariants as t
-use Rattle.snap_token.specs.declared.token.TScalarStyle.{TScalarStyle}
 use Rattle.snap_token.specs.declared.token.TScalarStyle.TheVariants as style
-use Rattle.snap_scan.specs.declared.kind.TokenKind.{TokenKind}
 use Rattle.snap_scan.specs.declared.kind.TokenKind.TheVariants as k
-use Rattle.snap_scan.specs.declared.keys.SimpleKey.{SimpleKey}
-use Rattle.snap_scan.specs.Keys.{is_required, is_past, has_levels, deeper, shallower}
-use Rattle.snap_scan.specs.Kinds.{Begins}
-use Rattle.snap_scan.specs.State.{State, at, in_flow, pushed, inserted, put, advanced, allowing, unrolled, rolled, is_deeper, keyless, saved, is_key_owed}
-use Rattle.snap_scan.specs.Fetching.{done, IsTokenOf, IsRead, Leaves, closed, sign, document, plain_read, quoted_read, read_key, value_behind, kind_step}
-use Rattle.snap_scan.specs.Sound.{Holds, shown, IsShown, IsIn, IsKeyBehind, HasQuestion, HasColon, KindStands, IsPossible, IsSound, IsSoundFrom, open_still, over, IsNoStart, IsNoEnd, EndsStream, is_start, is_end, block_signs}
 use Rattle.snap_scan.proofs.Growing.{unrefused, unrefused-else}
 use Rattle.snap_scan.proofs.Possible.{in-source, in-later, in-bracket, in-fewer, stands}
 use Rattle.snap_scan.proofs.Soundness.{only, begins-append, rest-append, sound-pushed, sound-inserted, sound-advanced, sound-passed, sound-further, sound-forced, sound-keyless, sound-rolled, sound-unrolled, sound-saved}

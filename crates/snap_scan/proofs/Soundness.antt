@@ -1,18 +1,6 @@
 -- What the parts of a fetch keep.
-use Rattle.std.proofs.Common.{◌≡◌, ◌≢◌, ◌≤◌, ◌<◌, ◌+◌, ◌++◌, ◌∷◌, [], ℕ, zero, suc, Bool, true, false, List, Option, Some, None, length, take, drop, slice_index, min, sym, ap, arith, refl, ◌∙◌, ◌==◌, ◌&&◌, if◌then◌else◌}
-use Rattle.std.specs.Prelude.{All}
-use Rattle.std.specs.List.{insert}
-use Rattle.std.proofs.lemmas.List.{length-map, append-nil}
-use Rattle.std.proofs.lemmas.List.Elements.{All-append, All-cons, All-nil, All-head, All-take, All-drop, All-map, All-weaker}
-use Rattle.snap_token.specs.Mark.{Mark}
-use Rattle.snap_token.specs.Place.{Place, Later, here, next, skipped, skip_from, forced, mark_of}
-use Rattle.snap_token.specs.Characters.{is_break}
-use Rattle.snap_token.specs.declared.token.Token.{Token}
+use Rattle.snap_scan.proofs.Prelude.{◌≡◌, ◌≢◌, ◌≤◌, ◌<◌, ◌+◌, ◌++◌, ◌∷◌, [], ℕ, zero, suc, Bool, true, false, List, Option, Some, None, length, take, drop, slice_index, min, sym, ap, arith, refl, ◌∙◌, ◌==◌, ◌&&◌, if◌then◌else◌, All, insert, length-map, append-nil, All-append, All-cons, All-nil, All-head, All-take, All-drop, All-map, All-weaker, Mark, Place, Later, here, next, skipped, skip_from, forced, mark_of, is_break, Token, is_past, fresh, lowered, State, at, in_flow, pushed, inserted, put, advanced, line_ended, is_space, to_next, past_comment, ends, kept, is_right_of, unrolled, rolled, is_deeper, keyless, saved, is_innermost, stale, given, Holds, IsShown, IsKeySound, IsPossible, IsSoundFrom, IsNoStart, IsNoEnd, IsEndLast, begins_stream, is_start, block_signs, SimpleKey, both_second}
 use Rattle.snap_token.specs.declared.token.TokenType.TheVariants as t
-use Rattle.snap_scan.specs.Keys.{is_past, fresh, lowered}
-use Rattle.snap_scan.specs.State.{State, at, in_flow, pushed, inserted, put, advanced, line_ended, is_space, to_next, past_comment, ends, kept, is_right_of, unrolled, rolled, is_deeper, keyless, saved, is_innermost, stale, given}
-use Rattle.snap_scan.specs.Sound.{Holds, IsShown, IsKeySound, IsPossible, IsSoundFrom, IsNoStart, IsNoEnd, IsEndLast, begins_stream, is_start, block_signs}
-use Rattle.snap_scan.specs.declared.keys.SimpleKey.{SimpleKey}
 use Rattle.snap_scan.proofs.Possible.{in-source, in-later, in-fewer, in-forced, keys-later, keys-further, keys-nearer, keys-forced}
 
 pub either : (P : State → Type 0) (b : Bool) (x y : State) → P x → P y → P (if b then x else y)
@@ -233,10 +221,6 @@ some-innermost : (col : ℕ) (os : List ℕ) → is_innermost col os ≡ true �
 some-innermost col [] e = absurd (cc)
 some-innermost col (o ∷ os) e = omega arith
 
-pub second-true : (a b : Bool) → (a && b) ≡ true → b ≡ true
-second-true true b e = e
-second-true false b e = absurd (cc)
-
 key-saved : (b : Bool) (source : List ℕ) (p : Place) (starts : Bool) (new : SimpleKey) (old : Option SimpleKey) → IsKeySound source 0 p starts new → IsPossible source 0 p starts old
     → IsPossible source 0 p starts (if b then Some new else old)
 key-saved true source p starts new old fits was = fits
@@ -249,7 +233,7 @@ sound-saved source d s is =
     let key : SimpleKey = record { place = length s.held; required = in_flow s && is_innermost s.place.col s.columns; mark = mark_of s.place } in
     let fits : IsKeySound source 0 s.place _ key = record {
       behind = record { before = is.place.before; between = []; text = is.place.text ∙ ap (λ (v : List ℕ). v ++ s.place.left) (sym (append-nil is.place.before)); index = is.place.index; some = omega arith; lines = omega arith };
-      block = λ e. is.blocks (some-innermost s.place.col s.columns (second-true (in_flow s) _ e));
+      block = λ e. is.blocks (some-innermost s.place.col s.columns (both_second (in_flow s) _ e));
       place = λ e. some-held s.held (is.first ∙ e);
     } in
     record {

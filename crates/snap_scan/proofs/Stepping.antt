@@ -1,13 +1,5 @@
 -- One fetch, put together from its parts.
-use Rattle.std.proofs.Common.{◌≡◌, ℕ, Bool, true, false, Some, Result, subst, sym, ap, refl, ◌∙◌, if◌then◌else◌}
-use Rattle.snap_token.specs.Place.{mark_of}
-use Rattle.snap_token.specs.declared.info.ScanError.{ScanError}
-use Rattle.snap_token.specs.declared.info.ScanInfo.TheVariants.{S1}
-use Rattle.snap_scan.specs.declared.kind.TokenKind.{TokenKind}
-use Rattle.snap_scan.specs.Keys.{any_overdue}
-use Rattle.snap_scan.specs.Kinds.{kind_of}
-use Rattle.snap_scan.specs.State.{State, in_flow, unrolled, stale, to_next}
-use Rattle.snap_scan.specs.Fetching.{Outcome, done, refused, Does, kind_step, at_token, token_step, stream_started, step}
+use Rattle.snap_scan.proofs.Prelude.{◌≡◌, ℕ, Bool, true, false, Some, Result, subst, sym, ap, refl, ◌∙◌, if◌then◌else◌, mark_of, ScanError, S1, TokenKind, any_overdue, kind_of, State, in_flow, unrolled, stale, to_next, Outcome, done, refused, Does, kind_step, at_token, token_step, stream_started, step}
 use Rattle.snap_scan.proofs.Reading.{chosen}
 
 adjacent-kept : (b : Bool) (s t : State) → t.adjacent ≡ s.adjacent → (if b then s else t).adjacent ≡ s.adjacent

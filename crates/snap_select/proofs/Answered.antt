@@ -1,8 +1,6 @@
 -- What holds of a result's value, and what is allowed of equal values.
-use Rattle.std.proofs.Common.{◌≡◌, List, Result, Ok, Err, IfOk, subst}
+use Rattle.snap_select.proofs.Prelude.{◌≡◌, List, Result, Ok, Err, IfOk, subst, Step, Allowed}
 use Rattle.snap_content.specs.Tree.{Tree}
-use Rattle.snap_select.specs.Matching.{Step}
-use Rattle.snap_select.specs.Put.{Allowed}
 
 pub if_ok : {X Y : Type 0} (r : Result X Y) (P : Result X Y → Type 0) (Q : X → Type 0) → ((x : X) → P (Ok x) → Q x) → P r → IfOk r Q
 if_ok (Ok x) P Q f p = f x p

@@ -1,12 +1,5 @@
 -- Bounds as numbers of the machine.
-use mir.Syntax.{w64}
-use mir.Val.{to_z, of_z}
-use Rattle.std.proofs.Common.{◌≡◌, ℤ, ℕ, List, ◌∷◌, Some, sym, ap, ◌∙◌}
-use Rattle.snap_select.specs.Grammar.{is_blank, FitsBound}
-use Rattle.snap_select.specs.Parts.{Parts}
-use Rattle.snap_select.specs.Pieces.{past, number_value, IsNumberThen}
-use Rattle.snap_select.specs.Reading.{bracket, colon, inside, outcome}
-use Rattle.snap_select.specs.declared.segment.Segment.{Segment}
+use Rattle.snap_select.proofs.Prelude.{w64, to_z, of_z, ◌≡◌, ℤ, ℕ, List, ◌∷◌, Some, sym, ap, ◌∙◌, is_blank, FitsBound, Parts, past, number_value, IsNumberThen, bracket, colon, inside, outcome, Segment}
 use Rattle.snap_select.proofs.PieceFacts.{kept_bound}
 use Rattle.snap_select.proofs.Readers.{colon_near, same_near}
 

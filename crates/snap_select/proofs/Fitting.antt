@@ -1,20 +1,8 @@
 -- Numbers that fit and single deep wildcards, along a text.
-use Rattle.std.proofs.Common.{◌≡◌, ℕ, zero, suc, ℤ, pos, negsuc, neg_ℤ, ◌+◌, ◌*◌, ◌^◌, ◌<◌, ◌≤◌, Bool, true, false, List, [], ◌∷◌, ◌++◌, Option, Some, None, cond, refl, sym, ◌∙◌, subst, arith}
-use Rattle.std.proofs.lemmas.Bool.{lt-leb, leb-false, ltb-true, and_parts}
-use Rattle.std.proofs.lemmas.Option.{same_Some}
-use Rattle.std.specs.Char.{is_digit, digit_value}
-use Rattle.std.specs.Prelude.{◌==◌, ◌&&◌, ◌||◌, not, ⊤}
-use Rattle.std.specs.Str.Parse.{digits_value, digits_value_after}
-use Rattle.unicode_ident.specs.Ident.{is_xid_continue}
-use Rattle.snap_select.specs.Deep.{is_deep, has_deep}
-use Rattle.snap_select.specs.Grammar.{is_blank, begins_name, signed_value, FitsBound, MayFit, Fits, AllFit, deep_count, ArePlain}
-use Rattle.snap_select.specs.Parts.{Parts}
-use Rattle.snap_select.specs.Reading.{Token, dot, in_name, star, bracket, in_quotes, backslash, minus, number, behind_number, colon, to_minus, to_number, closing, Move, on, ends, ended_before, nowhere, behind, move, whole, Place, before_part, first_dot, ready, inside, behind_part, separate, follow, moved, step, with_last, ended, is_far, is_over, flaw_in, flaw}
-use Rattle.snap_select.specs.declared.fault.SelectFault.{SelectFault}
-use Rattle.snap_select.specs.declared.fault.SelectFault.TheVariants.{DeepTwice, TooLarge}
-use Rattle.snap_select.specs.declared.segment.Segment.{Segment}
-use Rattle.snap_select.specs.declared.segment.Segment.TheVariants.{DeepWildcard, Wildcard, Key, Index, Range}
+use Rattle.snap_select.proofs.Prelude.{◌≡◌, ℕ, zero, suc, ℤ, pos, negsuc, neg_ℤ, ◌+◌, ◌*◌, ◌^◌, ◌<◌, ◌≤◌, Bool, true, false, List, [], ◌∷◌, ◌++◌, Option, Some, None, cond, refl, sym, ◌∙◌, subst, arith, lt-leb, leb-false, ltb-true, and_parts, and_left, same_Some, is_digit, digit_value, ◌==◌, ◌&&◌, ◌||◌, not, ⊤, digits_value, digits_value_after, is_xid_continue, is_deep, has_deep, is_blank, begins_name, signed_value, FitsBound, MayFit, Fits, AllFit, deep_count, ArePlain, Parts, Token, dot, in_name, star, bracket, in_quotes, backslash, minus, number, behind_number, colon, to_minus, to_number, closing, Move, on, ends, ended_before, nowhere, behind, move, whole, Place, before_part, first_dot, ready, inside, behind_part, separate, follow, moved, step, with_last, ended, is_far, is_over, flaw_in, flaw, SelectFault, DeepTwice, TooLarge, Segment, DeepWildcard, Wildcard, Key, Index, Range}
 use Rattle.snap_select.proofs.Walks.{Leads, at_blank}
+use Rattle.snap_select.proofs.Tokens.{pick}
+use Rattle.snap_select.proofs.Places.{choose}
 
 -- bounds that fit, by the number behind the minus
 pub near_fits : (bound : ℤ) → is_far bound ≡ false → FitsBound bound
@@ -134,10 +122,6 @@ MoveFits N ss (ends segment) = MayStand ss segment
 MoveFits N ss (ended_before segment) = MayStand ss segment
 MoveFits N ss nowhere = N
 
-pick : (b : Bool) (x y : Move) (P : Move → Type 0) → (b ≡ true → P x) → (b ≡ false → P y) → P (cond b x y)
-pick true x y P f g = f refl
-pick false x y P f g = g refl
-
 -- tests of two kinds
 flaw_digit : (d o f : Bool) → cond d (cond o (Some TooLarge) None) (cond f (Some TooLarge) None) ≡ None → d ≡ true → o ≡ false
 flaw_digit true false f h e = refl
@@ -164,10 +148,6 @@ digit_flawless false o f h k = flawless TooLarge f (k refl)
 second_false : (a b : Bool) → a && b ≡ false → a ≡ true → b ≡ false
 second_false true b h e = h
 second_false false b h e = absurd (cc)
-
-first_false : (a b : Bool) → a ≡ false → a && b ≡ false
-first_false true b h = absurd (cc)
-first_false false b h = refl
 
 -- the digits are those of an index
 index_fits : (negative : Bool) (digits : List ℕ) (c : ℕ) → is_over negative digits ≡ false → (c == 93) && not negative ≡ true → digits_value 10 digits < 2 ^ 64
@@ -269,7 +249,7 @@ behind_was negative digits ss c =
     let P : Move → Type 0 = λ m. FitBefore ss ((is_over negative digits ≡ false) × ((c == 58) && is_far bound ≡ false)) m in
     pick (c == 58) (on (colon (Some bound))) (cond ((c == 93) && not negative) (ends (Index (digits_value 10 digits))) nowhere) P
     (λ e h. (near_over negative digits (fits_near bound h), rw (fits_near bound h) (and_no (c == 58))))
-    (λ g. pick ((c == 93) && not negative) (ends (Index (digits_value 10 digits))) nowhere P (λ e h. (index_small negative digits c h.0 e, first_false (c == 58) (is_far bound) g)) (λ k h. absurd h))
+    (λ g. pick ((c == 93) && not negative) (ends (Index (digits_value 10 digits))) nowhere P (λ e h. (index_small negative digits c h.0 e, and_left (c == 58) (is_far bound) g)) (λ k h. absurd h))
   where
     and_no : (b : Bool) → b && false ≡ false
     and_no true = refl
@@ -286,7 +266,7 @@ token_was ss star c =
     let P : Move → Type 0 = λ m. FitBefore ss (WasFit ss star c) m in
     pick (c == 42) (ends DeepWildcard) (ended_before Wildcard) P
     (λ e h. (tt, flawless DeepTwice ((c == 42) && has_deep ss) (deep_back (c == 42) (has_deep ss) (λ k. h.1))))
-    (λ e h. (tt, flawless DeepTwice ((c == 42) && has_deep ss) (first_false (c == 42) (has_deep ss) e)))
+    (λ e h. (tt, flawless DeepTwice ((c == 42) && has_deep ss) (and_left (c == 42) (has_deep ss) e)))
 token_was ss bracket c = λ h. (tt, refl)
 token_was ss (in_quotes key) c = λ h. (tt, refl)
 token_was ss (backslash key) c = λ h. (tt, refl)
@@ -298,13 +278,13 @@ token_was ss (number negative digits) c =
     pick (is_digit c 10) (on (number negative (digits ++ c ∷ []))) (cond (is_blank c) (on (behind_number negative digits 1)) (behind negative digits c)) P
     (λ e h. (over_less negative digits (c ∷ []) h, digit_flawless (is_digit c 10) o g (λ k. h) (λ k. absurd (let f = sym e ∙ k in cc))))
     (λ d. pick (is_blank c) (on (behind_number negative digits 1)) (behind negative digits c) P
-    (λ e h. (h, digit_flawless (is_digit c 10) o g (λ k. absurd (let f = sym d ∙ k in cc)) (λ k. first_false (c == 58) (is_far (signed_value negative digits)) (blank_apart c e))))
+    (λ e h. (h, digit_flawless (is_digit c 10) o g (λ k. absurd (let f = sym d ∙ k in cc)) (λ k. and_left (c == 58) (is_far (signed_value negative digits)) (blank_apart c e))))
     (λ e h. let w = behind_was negative digits ss c h in (w.0, digit_flawless (is_digit c 10) o g (λ k. absurd (let f = sym d ∙ k in cc)) (λ k. w.1))))
 token_was ss (behind_number negative digits gap) c =
     let P : Move → Type 0 = λ m. FitBefore ss (WasFit ss (behind_number negative digits gap) c) m in
     let g = (c == 58) && is_far (signed_value negative digits) in
     pick (is_blank c) (on (behind_number negative digits (suc gap))) (behind negative digits c) P
-    (λ e h. (h, flawless TooLarge g (first_false (c == 58) (is_far (signed_value negative digits)) (blank_apart c e))))
+    (λ e h. (h, flawless TooLarge g (and_left (c == 58) (is_far (signed_value negative digits)) (blank_apart c e))))
     (λ e h. let w = behind_was negative digits ss c h in (w.0, flawless TooLarge g w.1))
 token_was ss (colon from) c =
     let P : Move → Type 0 = λ m. FitBefore ss (WasFit ss (colon from) c) m in
@@ -325,9 +305,9 @@ token_was ss (to_number from negative digits) c =
     pick (is_digit c 10) (on (to_number from negative (digits ++ c ∷ []))) (cond (is_blank c) (on (closing (Range from (Some bound)))) (cond (c == 93) (ends (Range from (Some bound))) nowhere)) P
     (λ e h. ((h.0, far_less negative digits (c ∷ []) h.1), flawless TooLarge (is_digit c 10 && is_far more) (deep_back (is_digit c 10) (is_far more) (λ k. h.1))))
     (λ d. pick (is_blank c) (on (closing (Range from (Some bound)))) (cond (c == 93) (ends (Range from (Some bound))) nowhere) P
-    (λ e h. ((h.0.0, fits_near bound h.0.1), flawless TooLarge (is_digit c 10 && is_far more) (first_false (is_digit c 10) (is_far more) d)))
+    (λ e h. ((h.0.0, fits_near bound h.0.1), flawless TooLarge (is_digit c 10 && is_far more) (and_left (is_digit c 10) (is_far more) d)))
     (λ f. pick (c == 93) (ends (Range from (Some bound))) nowhere P
-    (λ e h. ((h.0.0, fits_near bound h.0.1), flawless TooLarge (is_digit c 10 && is_far more) (first_false (is_digit c 10) (is_far more) d))) (λ g h. absurd h)))
+    (λ e h. ((h.0.0, fits_near bound h.0.1), flawless TooLarge (is_digit c 10 && is_far more) (and_left (is_digit c 10) (is_far more) d))) (λ g h. absurd h)))
 token_was ss (closing segment) c =
     let P : Move → Type 0 = λ m. FitBefore ss (WasFit ss (closing segment) c) m in
     pick (is_blank c) (on (closing segment)) (cond (c == 93) (ends segment) nowhere) P
@@ -347,10 +327,6 @@ PlaceFits (behind_part ps) = ArePlain ps
 abbrev pub MaybeFits : Type 0 → Option Place → Type 0
 MaybeFits N None = N
 MaybeFits N (Some s) = PlaceFits s
-
-choose : (b : Bool) (x y : Option Place) (P : Option Place → Type 0) → (b ≡ true → P x) → (b ≡ false → P y) → P (cond b x y)
-choose true x y P f g = f refl
-choose false x y P f g = g refl
 
 -- parts and segments, and one more
 pub plain_more : (ps : Parts) (p : List Segment) → ArePlain ps → IsPlain p → ArePlain (ps ++ p ∷ [])

@@ -1,21 +1,6 @@
 -- A refusal is the fault of the text at the smallest column.
-use Rattle.std.proofs.Common.{◌≡◌, ℕ, suc, ℤ, ◌+◌, ◌<◌, ◌≤◌, Bool, true, false, ◌⊎◌, inl, inr, List, [], ◌∷◌, ◌++◌, length, Option, Some, None, cond, refl, sym, ap, ◌∙◌, subst, append_assoc, append-nil, arith, length-append}
-use Rattle.std.proofs.lemmas.Bool.{eqb-true, and_parts}
-use Rattle.std.proofs.lemmas.Option.{same_Some}
-use Rattle.std.specs.Char.{is_digit, digit_value}
-use Rattle.std.specs.Prelude.{◌==◌, ◌&&◌, not, ⊤}
-use Rattle.std.specs.Str.Parse.{IsNumeral, digits_value}
-use Rattle.unicode_ident.specs.Ident.{is_xid_start, is_xid_continue}
-use Rattle.unicode_ident.proofs.Computing.{unicode_ident}
-use Rattle.snap_select.specs.Deep.{has_deep}
-use Rattle.snap_select.specs.Faults.{IsStuck, BadTokenAt, Opens, IsTooLarge, neither, first, second, TooLargeAt, DeepTwiceAt, FaultAt, IsFault}
-use Rattle.snap_select.specs.Grammar.{is_blank, AreBlanks, begins_name, signed, signed_value, IsSelector}
-use Rattle.snap_select.specs.Parts.{Parts}
-use Rattle.snap_select.specs.Reading.{Token, dot, in_name, star, bracket, in_quotes, backslash, minus, number, behind_number, colon, to_minus, to_number, closing, Move, on, ends, ended_before, nowhere, behind, move, Place, before_part, first_dot, ready, inside, behind_part, separate, follow, moved, step, ended, is_far, is_over, flaw_in, flaw, since_in, since, outcome, refuses}
-use Rattle.snap_select.specs.declared.fault.SelectFault.{SelectFault}
-use Rattle.snap_select.specs.declared.fault.SelectFault.TheVariants.{BadToken, DeepTwice, TooLarge}
-use Rattle.snap_select.specs.declared.segment.Segment.{Segment}
-use Rattle.snap_select.specs.declared.segment.Segment.TheVariants.{Key, Index, Range, Wildcard, DeepWildcard}
+use Rattle.snap_select.proofs.Prelude.{◌≡◌, ℕ, suc, ℤ, ◌+◌, ◌<◌, ◌≤◌, Bool, true, false, ◌⊎◌, inl, inr, List, [], ◌∷◌, ◌++◌, length, Option, Some, None, cond, refl, sym, ap, ◌∙◌, subst, append_assoc, append-nil, arith, length-append, eqb-true, and_parts, same_Some, is_digit, digit_value, ◌==◌, ◌&&◌, not, ⊤, IsNumeral, digits_value, is_xid_start, is_xid_continue, unicode_ident, has_deep, IsStuck, BadTokenAt, Opens, IsTooLarge, first, second, TooLargeAt, DeepTwiceAt, FaultAt, IsFault, is_blank, AreBlanks, begins_name, signed, signed_value, IsSelector, Parts, Token, dot, in_name, star, bracket, in_quotes, backslash, minus, number, behind_number, colon, to_minus, to_number, closing, Move, on, ends, ended_before, nowhere, behind, move, Place, before_part, first_dot, ready, inside, behind_part, separate, follow, moved, step, ended, is_far, is_over, flaw_in, flaw, since_in, since, outcome, refuses, SelectFault, BadToken, DeepTwice, TooLarge, Segment, Key, Index, Range, Wildcard, DeepWildcard}
+use Rattle.snap_select.specs.Faults.{neither}
 use Rattle.snap_select.proofs.Fitting.{Fitting, fitting_leads, one_near, near_over}
 use Rattle.snap_select.proofs.Oversize.{far_unfit, unfit_far, over_unfit, over_far, unfit_over, first_digit}
 use Rattle.snap_select.proofs.Outcomes.{Stuck, StuckAt, FlawAt, Why, by_end, by_stuck, by_flaw, why, selector_selects}

@@ -1,3 +1,4 @@
+mod Prelude
 pub mod PieceFacts
 pub mod QuotedText
 pub mod Lasts

@@ -1,14 +1,7 @@
 -- Trees whose list is in order.
-use Rattle.std.proofs.Common.{◌≡◌, ℕ, List, [], ◌∷◌, map, refl, sym, ap, ◌∙◌}
-use Rattle.std.specs.Cmp.{IsTotalOrder}
-use Rattle.std.proofs.lemmas.Cmp.{lists_total, then_total, on_total, nat_cmp_total}
+use Rattle.snap_select.proofs.Prelude.{◌≡◌, ℕ, List, [], ◌∷◌, map, refl, sym, ap, ◌∙◌, IsTotalOrder, lists_total, then_total, on_total, nat_cmp_total, tree_cmp, tree_total, tree, item_list, pair_tree, pair_list, field_tree, field_list, Fields, Items, Pairs, Content, Seq, Map, Struct, StructVariant, ordered, items_in, pairs_in, fields_in, pair_cmp, field_cmp, in_order}
 use Rattle.snap_content.specs.Tree as t
-use Rattle.snap_content.specs.Orders.{tree_cmp}
-use Rattle.snap_content.specs.TotalOrder.{tree_total}
-use Rattle.snap_content.specs.View.{tree, item_list, pair_tree, pair_list, field_tree, field_list, Fields, Items, Pairs}
-use Rattle.snap_content.specs.declared.content.Content.{Content, Seq, Map, Struct, StructVariant}
 use Rattle.snap_content.proofs.Views.{tree-Seq, tree-Map, tree-Struct, tree-StructVariant}
-use Rattle.snap_select.specs.InOrder.{ordered, items_in, pairs_in, fields_in, pair_cmp, field_cmp, in_order}
 
 pub pair_total : IsTotalOrder pair_cmp
 pair_total = then_total (on_total (λ p. p.0) tree_total) (on_total (λ p. p.1) tree_total)

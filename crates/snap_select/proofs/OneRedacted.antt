@@ -1,13 +1,7 @@
 -- Where the tree that is put follows from the value alone, one tree is redacted, and it is named; and what one relation allows, a weaker one allows.
-use Rattle.std.proofs.Common.{◌≡◌, ℕ, suc, Bool, true, false, MatchBool, List, [], ◌∷◌, ◌++◌, cond, refl, ap, ◌∙◌}
-use Rattle.std.specs.Prelude.{codes}
+use Rattle.snap_select.proofs.Prelude.{◌≡◌, ℕ, suc, Bool, true, false, MatchBool, List, [], ◌∷◌, ◌++◌, cond, refl, ap, ◌∙◌, codes, Step, path_match, to_item, into_field, under_key, Parts, count_of, Allowed, redacted, redacted_items, redacted_pairs, redacted_fields, Inside, ItemsRedacted, PairsRedacted, FieldsRedacted, RedactedAt, IsRedacted, only}
 use Rattle.snap_content.specs.Tree as t
-use Rattle.snap_select.specs.Matching.{Step, path_match, to_item, into_field, under_key}
-use Rattle.snap_select.specs.Parts.{Parts}
-use Rattle.snap_select.specs.Positions.{count_of}
-use Rattle.snap_select.specs.Put.{Allowed}
-use Rattle.snap_select.specs.Redacted.{inside, redacted, redacted_items, redacted_pairs, redacted_fields}
-use Rattle.snap_select.specs.Redacting.{Inside, ItemsRedacted, PairsRedacted, FieldsRedacted, RedactedAt, IsRedacted, only}
+use Rattle.snap_select.specs.Redacted.{inside}
 
 cases : (b : Bool) (out now other : t.Tree) (Else : Type 0) → (Else → out ≡ other) → MatchBool b (out ≡ now) Else → out ≡ cond b now other
 cases true out now other Else f p = p

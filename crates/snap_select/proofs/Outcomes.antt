@@ -1,12 +1,6 @@
 -- What an outcome says, and what decides it.
-use Rattle.std.proofs.Common.{◌≡◌, ℕ, suc, ◌+◌, List, [], ◌∷◌, ◌++◌, length, Option, Some, None, refl, sym, ap, subst}
-use Rattle.std.proofs.lemmas.Option.{same_Some}
-use Rattle.snap_select.specs.Grammar.{IsSelector}
-use Rattle.snap_select.specs.Parts.{Parts}
-use Rattle.snap_select.specs.Reading.{Place, before_part, step, ended, flaw, since, Outcome, selects, refuses, at_end, going, stepped, outcome}
+use Rattle.snap_select.proofs.Prelude.{◌≡◌, ℕ, suc, ◌+◌, List, [], ◌∷◌, ◌++◌, length, Option, Some, None, refl, sym, ap, subst, same_Some, IsSelector, Parts, Place, before_part, step, ended, flaw, since, Outcome, selects, refuses, at_end, going, stepped, outcome, SelectFault, BadToken}
 use Rattle.snap_select.specs.Selected.{parts_in, selected}
-use Rattle.snap_select.specs.declared.fault.SelectFault.{SelectFault}
-use Rattle.snap_select.specs.declared.fault.SelectFault.TheVariants.{BadToken}
 use Rattle.snap_select.proofs.Fitting.{Fitting, fitting_leads, fitting_fits, leads_fitting, PlaceFits, fit_at_end, fit_before_end}
 use Rattle.snap_select.proofs.Places.{end_kept}
 use Rattle.snap_select.proofs.Starts.{leads_means, spelled_on}

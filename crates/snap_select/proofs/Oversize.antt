@@ -1,11 +1,5 @@
 -- Numbers that don't fit, and the digit that shows it.
-use Rattle.std.proofs.Common.{◌≡◌, ℕ, ℤ, ◌^◌, ◌<◌, Bool, true, false, List, [], ◌∷◌, ◌++◌, refl, sym, ap, ◌∙◌, append_assoc, append-nil}
-use Rattle.std.proofs.lemmas.Bool.{lt-leb, leb-false}
-use Rattle.std.specs.Char.{digit_value}
-use Rattle.std.specs.Str.Parse.{AllDigits, digits_value}
-use Rattle.snap_select.specs.Faults.{FitsIndex}
-use Rattle.snap_select.specs.Grammar.{signed_value, FitsBound}
-use Rattle.snap_select.specs.Reading.{is_far, is_over}
+use Rattle.snap_select.proofs.Prelude.{◌≡◌, ℕ, ℤ, ◌^◌, ◌<◌, Bool, true, false, List, [], ◌∷◌, ◌++◌, refl, sym, ap, ◌∙◌, append_assoc, append-nil, lt-leb, leb-false, digit_value, AllDigits, digits_value, FitsIndex, signed_value, FitsBound, is_far, is_over}
 use Rattle.snap_select.proofs.Fitting.{near_fits, fits_near, near_over}
 
 -- bounds and indices that don't fit

@@ -1,20 +1,9 @@
 -- Fronts of texts, and the numbers of digits.
-use mir.Syntax.{w64}
-use mir.Val.{SFits as FitsSigned, to_z, of_z}
-use Rattle.std.proofs.Common.{◌≡◌, ◌≢◌, ℕ, zero, suc, ℤ, pos, negsuc, append_assoc, ◌^◌, ◌<◌, ◌≤◌, Bool, true, false, List, [], ◌∷◌, ◌++◌, cond, refl, sym, ap, ◌∙◌, subst, arith, Result, Ok, Err, MatchOption, lit<, inl, inr}
-use Rattle.std.proofs.lemmas.Bool.{and_from, eqb-true, ne_eqb, ltb-true, cases_lt}
+use Rattle.snap_select.proofs.Prelude.{w64, to_z, of_z, ◌≡◌, ◌≢◌, ℕ, zero, suc, ℤ, pos, negsuc, append_assoc, ◌^◌, ◌<◌, ◌≤◌, Bool, true, false, List, [], ◌∷◌, ◌++◌, cond, refl, sym, ap, ◌∙◌, subst, arith, Result, Ok, Err, MatchOption, lit<, inl, inr, and_from, eqb-true, ne_eqb, ltb-true, cases_lt, digit_value, list_all, IsTrue, ◌==◌, chars, IsUtf8, IsAscii, IsNumeral, AllDigits, digits_value, ParsesUnsigned, ParsesSigned, without_leading_plus, without_leading_sign, signed_digits_value, is_xid_continue, bytes_are, begins_name, FitsBound, past, front, is_decimal, Fails, IsNameThen, unsigned, IsNumber, number_value, IsNumberThen}
+use mir.Val.{SFits as FitsSigned}
 use Rattle.std.proofs.lemmas.Bool.Decides.{nat_tests}
 use Rattle.std.proofs.lemmas.Int.{to_z-of_z}
-use Rattle.std.specs.Char.{digit_value}
-use Rattle.std.specs.List.{list_all}
-use Rattle.std.specs.Prelude.{IsTrue, ◌==◌}
 use Rattle.std.specs.Result.{result_ok, OkIff}
-use Rattle.std.specs.Str.{chars, IsUtf8, IsAscii}
-use Rattle.std.specs.Str.Parse.{IsNumeral, AllDigits, digits_value, ParsesUnsigned, ParsesSigned, without_leading_plus, without_leading_sign, signed_digits_value}
-use Rattle.unicode_ident.specs.Ident.{is_xid_continue}
-use Rattle.snap_content.proofs.Ends.{bytes_are}
-use Rattle.snap_select.specs.Grammar.{begins_name, FitsBound}
-use Rattle.snap_select.specs.Pieces.{past, front, is_decimal, Fails, IsNameThen, unsigned, IsNumber, number_value, IsNumberThen}
 
 cut_step : (b : Bool) (c : ℕ) (cs f r : List ℕ) → cs ≡ f ++ r → c ∷ cs ≡ cond b (c ∷ f) [] ++ cond b r (c ∷ cs)
 cut_step true c cs f r h = ap (λ x. c ∷ x) h
@@ -110,7 +99,7 @@ number_cut text more rest c h k =
     minus_cut text ∙ ap (λ x. minus_front text ++ x) (h ∙ ap (λ x. c ∷ x) (cut_at is_decimal more ∙ ap (λ x. front is_decimal more ++ x) (sym k)))
     ∙ sym (append_assoc (minus_front text) (c ∷ front is_decimal more) rest)
 
-digit_no_minus : (c : ℕ) → digit_value c < 10 → (c == 45) ≡ false
+pub digit_no_minus : (c : ℕ) → digit_value c < 10 → (c == 45) ≡ false
 digit_no_minus c h = ne_eqb c 45 (λ e. let P : ℕ → Type 0 = λ x. digit_value x < 10 in absurd (omega (arith, subst P e h)))
 
 unsigned_front : (text digits : List ℕ) → IsNumeral 10 digits → unsigned (minus_front text ++ digits) ≡ digits

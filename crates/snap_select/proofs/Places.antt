@@ -1,12 +1,5 @@
 -- What has been read at each place: every step keeps it, and where the text may end it is the grammar.
-use Rattle.std.proofs.Common.{◌≡◌, ◌≢◌, ℕ, Bool, true, false, inl, inr, List, [], ◌∷◌, ◌++◌, Option, Some, None, cond, refl, sym, ap, ◌∙◌, subst, append_assoc, append-nil}
-use Rattle.std.proofs.lemmas.Bool.{eqb-true}
-use Rattle.std.specs.Prelude.{◌==◌}
-use Rattle.snap_select.specs.Grammar.{is_blank, AreBlanks, begins_name, dotted, bracketed, Spells, SpellsEach, MayFollowDot, Stands, SpellsPart, BeforeComma, EachBeforeComma, IsSpelled}
-use Rattle.snap_select.specs.Parts.{Parts}
-use Rattle.snap_select.specs.Reading.{Token, dot, in_name, star, bracket, in_quotes, backslash, minus, number, behind_number, colon, to_minus, to_number, closing, Move, on, ends, ended_before, nowhere, move, whole, Place, before_part, first_dot, ready, inside, behind_part, separate, follow, moved, step, with_last, ended}
-use Rattle.snap_select.specs.declared.segment.Segment.{Segment}
-use Rattle.snap_select.specs.declared.segment.Segment.TheVariants.{DeepWildcard, Wildcard, Key, Index, Range}
+use Rattle.snap_select.proofs.Prelude.{◌≡◌, ◌≢◌, ℕ, Bool, true, false, inl, inr, List, [], ◌∷◌, ◌++◌, Option, Some, None, cond, refl, sym, ap, ◌∙◌, subst, append_assoc, append-nil, eqb-true, ◌==◌, is_blank, AreBlanks, begins_name, dotted, bracketed, Spells, SpellsEach, MayFollowDot, Stands, SpellsPart, BeforeComma, EachBeforeComma, IsSpelled, Parts, Token, dot, in_name, star, bracket, in_quotes, backslash, minus, number, behind_number, colon, to_minus, to_number, closing, Move, on, ends, ended_before, nowhere, move, whole, Place, before_part, first_dot, ready, inside, behind_part, separate, follow, moved, step, with_last, ended, Segment, DeepWildcard, Wildcard, Key, Index, Range}
 use Rattle.snap_select.proofs.Tokens.{TokenMeans, MoveMeans, token_on, all_more}
 
 -- earlier parts, blanks, segments of this part, and then a piece; behind a lone dot only a bracket goes on
@@ -51,7 +44,7 @@ abbrev pub MaybeMeans : List ℕ → Option Place → Type 0
 MaybeMeans t None = Unit {0}
 MaybeMeans t (Some s) = Means s t
 
-choose : (b : Bool) (x y : Option Place) (P : Option Place → Type 0) → (b ≡ true → P x) → (b ≡ false → P y) → P (cond b x y)
+pub choose : (b : Bool) (x y : Option Place) (P : Option Place → Type 0) → (b ≡ true → P x) → (b ≡ false → P y) → P (cond b x y)
 choose true x y P f g = f refl
 choose false x y P f g = g refl
 

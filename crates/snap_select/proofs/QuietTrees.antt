@@ -1,13 +1,6 @@
 -- A tree of which nothing is hit is redacted to itself.
-use Rattle.std.proofs.Common.{◌≡◌, ℕ, suc, Bool, true, false, MatchBool, List, [], ◌∷◌, ◌++◌, Some, slice_get, refl, ap, ◌∙◌, subst, append-nil}
-use Rattle.std.specs.Prelude.{codes}
+use Rattle.snap_select.proofs.Prelude.{◌≡◌, ℕ, suc, Bool, true, false, MatchBool, List, [], ◌∷◌, ◌++◌, Some, slice_get, refl, ap, ◌∙◌, subst, append-nil, codes, Step, path_match, to_item, into_field, under_key, Parts, Child, wrapped, children, item_children, pair_children, field_children, count_of, Allowed, Inside, ItemsRedacted, PairsRedacted, FieldsRedacted, RedactedAt, IsRedacted, IsHit}
 use Rattle.snap_content.specs.Tree as t
-use Rattle.snap_select.specs.Matching.{Step, path_match, to_item, into_field, under_key}
-use Rattle.snap_select.specs.Parts.{Parts}
-use Rattle.snap_select.specs.Positions.{Child, wrapped, children, item_children, pair_children, field_children, count_of}
-use Rattle.snap_select.specs.Put.{Allowed}
-use Rattle.snap_select.specs.Redacting.{Inside, ItemsRedacted, PairsRedacted, FieldsRedacted, RedactedAt, IsRedacted}
-use Rattle.snap_select.specs.Redacts.{IsHit}
 use Rattle.snap_select.proofs.RedactedParts.{root_hit, hit_above}
 
 abbrev IsQuiet : Parts → List Step → t.Tree → Type 0

@@ -1,11 +1,5 @@
 -- What stands in quotes, without a backslash.
-use Rattle.std.proofs.Common.{◌≡◌, ℕ, ◌<◌, Bool, true, false, List, [], ◌∷◌, ◌++◌, length, cond, refl, sym, ap, ◌∙◌, append_assoc, append-nil, arith, length-append}
-use Rattle.std.specs.Prelude.{◌==◌, ◌||◌, not}
-use Rattle.snap_select.specs.Pieces.{past, front, is_plain}
-use Rattle.snap_select.specs.Parts.{Parts}
-use Rattle.snap_select.specs.Reading.{outcome, inside, in_quotes, closing}
-use Rattle.snap_select.specs.declared.segment.Segment.{Segment}
-use Rattle.snap_select.specs.declared.segment.Segment.TheVariants.{Key}
+use Rattle.snap_select.proofs.Prelude.{◌≡◌, ℕ, ◌<◌, Bool, true, false, List, [], ◌∷◌, ◌++◌, length, cond, refl, sym, ap, ◌∙◌, append_assoc, append-nil, arith, length-append, ◌==◌, ◌||◌, not, past, front, is_plain, Parts, outcome, inside, in_quotes, closing, Segment, Key}
 use Rattle.snap_select.proofs.PieceFacts.{cut_at}
 
 neither : (a b : Bool) → not (a || b) ≡ true → (a ≡ false) × (b ≡ false)

@@ -1,25 +1,10 @@
 -- Below a path that no match lies below a tree stays as it is.
-use Rattle.std.proofs.Common.{◌≡◌, ℕ, suc, ◌+◌, ◌≤◌, Bool, true, false, MatchBool, ◌&&◌, ◌||◌, nat_lt, List, [], ◌∷◌, ◌++◌, length, take, Option, None, Some, refl, sym, ap, ◌∙◌, append_assoc, append-nil, length-append, arith}
-use Rattle.std.specs.Option.{option_map_or}
-use Rattle.std.specs.Prelude.{position, drop, min, codes}
-use Rattle.std.proofs.lemmas.Bool.{ne_eqb, ltb-false}
+use Rattle.snap_select.proofs.Prelude.{◌≡◌, ℕ, suc, ◌+◌, ◌≤◌, Bool, true, false, MatchBool, ◌&&◌, ◌||◌, nat_lt, List, [], ◌∷◌, ◌++◌, length, take, Option, None, Some, refl, sym, ap, ◌∙◌, append_assoc, append-nil, length-append, arith, option_map_or, position, drop, min, codes, ne_eqb, ltb-false, and_right, is_deep, Step, to_item, into_field, under_key, fits_step, fit_each, matches_whole, last_of, matches_ends, segments_match, path_match, Parts, count_of, Allowed, segments_reach, reaches, Inside, ItemsRedacted, PairsRedacted, FieldsRedacted, RedactedAt, Segment}
 use Rattle.snap_content.specs.Tree as t
-use Rattle.snap_select.specs.Deep.{is_deep}
-use Rattle.snap_select.specs.Matching.{Step, to_item, into_field, under_key, fits_step, fit_each, matches_whole, last_of, matches_ends, segments_match, path_match}
-use Rattle.snap_select.specs.Parts.{Parts}
-use Rattle.snap_select.specs.Positions.{count_of}
-use Rattle.snap_select.specs.Put.{Allowed}
-use Rattle.snap_select.specs.Reaching.{segments_reach, reaches}
-use Rattle.snap_select.specs.Redacting.{Inside, ItemsRedacted, PairsRedacted, FieldsRedacted, RedactedAt}
-use Rattle.snap_select.specs.declared.segment.Segment.{Segment}
 
 no_more : (a b c : Bool) → (b ≡ false → c ≡ false) → (a && b) ≡ false → (a && c) ≡ false
 no_more true b c f e = f e
 no_more false b c f e = refl
-
-never : (a b : Bool) → b ≡ false → (a && b) ≡ false
-never true b e = e
-never false b e = refl
 
 -- what doesn't fit a path fits none that goes on from it
 fit_longer : (ss : List Segment) (path more : List Step) → fit_each ss path ≡ false → fit_each ss (path ++ more) ≡ false
@@ -29,7 +14,7 @@ fit_longer (s ∷ ss) (x ∷ xs) more e = no_more (fits_step s x) (fit_each ss x
 
 whole_cases : (b : Bool) (ss : List Segment) (path : List Step) (step : Step) (steps : List Step) → nat_lt (length path) (length ss) ≡ b → (b && fit_each ss path) ≡ false
     → matches_whole ss (path ++ step ∷ steps) ≡ false
-whole_cases true ss path step steps lt e = never _ _ (fit_longer ss path (step ∷ steps) e)
+whole_cases true ss path step steps lt e = and_right _ _ (fit_longer ss path (step ∷ steps) e)
 whole_cases false ss path step steps lt e =
     let short : length ss ≤ length path = ltb-false (length path) (length ss) lt in
     let longer : length (path ++ step ∷ steps) ≡ length path + suc (length steps) = length-append path (step ∷ steps) in
@@ -48,7 +33,7 @@ segments_unreached ss path step steps = by (position is_deep ss)
     by None e = whole_cases (nat_lt (length path) (length ss)) ss path step steps refl e
     by (Some at) e =
         ap (λ b. b && later at)
-        (never (nat_lt (length (take at ss)) (length (path ++ step ∷ steps))) (fit_each (take at ss) (path ++ step ∷ steps)) (fit_longer (take at ss) path (step ∷ steps) e))
+        (and_right (nat_lt (length (take at ss)) (length (path ++ step ∷ steps))) (fit_each (take at ss) (path ++ step ∷ steps)) (fit_longer (take at ss) path (step ∷ steps) e))
 
 parts_unreached : (ps : Parts) (path : List Step) (step : Step) (steps : List Step) → reaches ps path ≡ false → path_match ps (path ++ step ∷ steps) ≡ false
 parts_unreached [] path step steps e = refl

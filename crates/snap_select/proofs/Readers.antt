@@ -1,30 +1,13 @@
 -- What each reader reads, as outcomes.
-use Rattle.std.proofs.Common.{◌≡◌, ℕ, suc, ℤ, ◌+◌, ◌^◌, ◌<◌, ◌≤◌, Bool, true, false, List, [], ◌∷◌, ◌++◌, length, Option, Some, None, cond, refl, sym, ap, ◌∙◌, subst, append_assoc, append-nil, arith, length-append, MatchOption, Bor, is_some}
-use Rattle.std.proofs.lemmas.Bool.{eqb-true, ne_eqb, and_parts, le-leb, lt-leb}
-use Rattle.std.specs.List.{list_all}
-use Rattle.std.specs.Prelude.{IsTrue, ◌==◌, ◌&&◌, ◌||◌, not}
-use Rattle.std.specs.Str.{chars}
-use Rattle.std.specs.Str.Parse.{IsNumeral, AllDigits, digits_value}
+use Rattle.snap_select.proofs.Prelude.{◌≡◌, ℕ, suc, ℤ, ◌+◌, ◌^◌, ◌<◌, ◌≤◌, Bool, true, false, List, [], ◌∷◌, ◌++◌, length, Option, Some, None, cond, refl, sym, ap, ◌∙◌, subst, append_assoc, append-nil, arith, length-append, MatchOption, Bor, is_some, eqb-true, ne_eqb, and_parts, le-leb, lt-leb, list_all, IsTrue, ◌==◌, ◌&&◌, ◌||◌, not, chars, IsNumeral, AllDigits, digits_value, is_xid_start, is_xid_continue, unicode_ident, is_deep, has_deep, is_blank, AreBlanks, begins_name, IsName, signed, signed_value, FitsBound, Parts, past, front, is_decimal, Fails, IsNameThen, goes_on_dot, begins_segment, unsigned, IsNumber, number_value, IsNumberThen, Token, dot, in_name, star, bracket, in_quotes, minus, number, behind_number, colon, to_minus, to_number, closing, Place, before_part, first_dot, ready, inside, behind_part, step, flaw, since, is_far, is_over, Outcome, selects, refuses, outcome, IsStop, GoesOn, StopsAt, Closes, ClosesNot, IsNumberBehind, once_deep, ReadsWildcard, ReadsDotted, ReadsSegment, ReadsPart, StopsPart, SelectFault, BadToken, DeepTwice, TooLarge, Segment, Stop, DeepWildcard, Wildcard, Key, Index, Range}
 use Rattle.snap_content.specs.Front.{begins}
-use Rattle.unicode_ident.specs.Ident.{is_xid_start, is_xid_continue}
-use Rattle.unicode_ident.proofs.Computing.{unicode_ident}
-use Rattle.snap_select.specs.Deep.{is_deep, has_deep}
-use Rattle.snap_select.specs.Grammar.{is_blank, AreBlanks, begins_name, IsName, signed, signed_value, FitsBound}
-use Rattle.snap_select.specs.Parts.{Parts}
-use Rattle.snap_select.specs.Pieces.{past, front, is_decimal, Fails, IsNameThen, goes_on_dot, begins_segment, unsigned, IsNumber, number_value, IsNumberThen}
-use Rattle.snap_select.specs.Reading.{Token, dot, in_name, star, bracket, in_quotes, minus, number, behind_number, colon, to_minus, to_number, closing, Place, before_part, first_dot, ready, inside, behind_part, step, flaw, since, is_far, is_over, Outcome, selects, refuses, outcome}
-use Rattle.snap_select.specs.Stops.{IsStop, GoesOn, StopsAt, Closes, ClosesNot, IsNumberBehind, once_deep, ReadsWildcard, ReadsDotted, ReadsSegment, ReadsPart, StopsPart}
-use Rattle.snap_select.specs.declared.fault.SelectFault.{SelectFault}
-use Rattle.snap_select.specs.declared.fault.SelectFault.TheVariants.{BadToken, DeepTwice, TooLarge}
-use Rattle.snap_select.specs.declared.segment.Segment.{Segment}
-use Rattle.snap_select.specs.declared.stop.Stop.{Stop}
-use Rattle.snap_select.specs.declared.segment.Segment.TheVariants.{DeepWildcard, Wildcard, Key, Index, Range}
 use Rattle.snap_select.proofs.Fitting.{Fitting, over_less, far_less, one_near, near_over, fits_near}
 use Rattle.snap_select.proofs.Outcomes.{Stuck}
 use Rattle.snap_select.proofs.Oversize.{unfit_far, first_digit}
-use Rattle.snap_select.proofs.PieceFacts.{cut_at, past_fails, front_passes}
+use Rattle.snap_select.proofs.PieceFacts.{cut_at, past_fails, front_passes, digit_no_minus}
 use Rattle.snap_select.proofs.Tokens.{signed_more}
-use Rattle.snap_select.proofs.Walks.{at_blank, at_number, digit_is, no_blank, no_quote, no_minus}
+use Rattle.snap_select.proofs.Walks.{at_blank, at_number, digit_is, no_blank, no_quote}
+use Rattle.snap_content.proofs.Booleans.{and_nothing}
 
 -- along a text, and where it stops
 one_step : (s : Place) (c : ℕ) (cs : List ℕ) (z : Place) → step s c ≡ Some z → flaw s c ≡ None → outcome s (c ∷ cs) ≡ outcome z cs
@@ -107,7 +90,7 @@ pub bracket_fitting : (ps : Parts) (ss : List Segment) (negative : Bool) (d : �
 bracket_fitting ps ss true d ds h k =
     (inside ps ss minus, refl, refl, (inside ps ss (number true (d ∷ [])), rw (digit_is d h.1.0) refl, refl, number_fitting ps ss true (d ∷ []) ds h.1.1 k))
 bracket_fitting ps ss false d ds h k =
-    let a = no_blank d h.1.0 in let b = no_quote d h.1.0 in let m = no_minus d h.1.0 in let e = digit_is d h.1.0 in
+    let a = no_blank d h.1.0 in let b = no_quote d h.1.0 in let m = digit_no_minus d h.1.0 in let e = digit_is d h.1.0 in
     (inside ps ss (number false (d ∷ [])), rw (a, b, m, e) refl, refl, number_fitting ps ss false (d ∷ []) ds h.1.1 k)
 
 pub colon_fitting : (ps : Parts) (ss : List Segment) (from : Option ℤ) (negative : Bool) (d : ℕ) (ds : List ℕ) → IsNumeral 10 (d ∷ ds) → is_far (signed_value negative (d ∷ ds)) ≡ false
@@ -115,7 +98,7 @@ pub colon_fitting : (ps : Parts) (ss : List Segment) (from : Option ℤ) (negati
 colon_fitting ps ss from true d ds h k =
     (inside ps ss (to_minus from), refl, refl, (inside ps ss (to_number from true (d ∷ [])), rw (digit_is d h.1.0) refl, refl, to_number_fitting ps ss from true (d ∷ []) ds h.1.1 k))
 colon_fitting ps ss from false d ds h k =
-    let a = no_blank d h.1.0 in let m = no_minus d h.1.0 in let e = digit_is d h.1.0 in
+    let a = no_blank d h.1.0 in let m = digit_no_minus d h.1.0 in let e = digit_is d h.1.0 in
     (inside ps ss (to_number from false (d ∷ [])), rw (a, m, e) refl, refl, to_number_fitting ps ss from false (d ∷ []) ds h.1.1 k)
 
 -- numbers that don't fit
@@ -322,17 +305,12 @@ to_near from text t num rest e h u ps ss =
     ∙ to_as_closing ps ss from n.negative (n.d ∷ n.ds) rest h.ends
     ∙ ap (λ x. outcome (inside ps ss (closing (Range from (Some x)))) rest) (sym n.value)
 
--- an index, or a number below zero that no colon follows
-and_no : (b : Bool) → b && false ≡ false
-and_no true = refl
-and_no false = refl
-
 minus_stuck : (ps : Parts) (ss : List Segment) (digits gap rest : List ℕ) → Fails is_blank rest → Fails is_decimal (gap ++ rest) → ((cs : List ℕ) → rest ≡ 58 ∷ cs → ⊥) → Stuck (at_number ps ss true digits gap) rest
 unfolding at_number
 minus_stuck ps ss digits [] [] h f k = refl
 minus_stuck ps ss digits (g ∷ gs) [] h f k = refl
-minus_stuck ps ss digits [] (c ∷ cs) h f k = let a = apart c 58 cs k in let b = and_no (c == 93) in (rw (f, h, a, b) refl, rw (f, a) refl)
-minus_stuck ps ss digits (g ∷ gs) (c ∷ cs) h f k = let a = apart c 58 cs k in let b = and_no (c == 93) in (rw (h, a, b) refl, rw a refl)
+minus_stuck ps ss digits [] (c ∷ cs) h f k = let a = apart c 58 cs k in let b = and_nothing (c == 93) in (rw (f, h, a, b) refl, rw (f, a) refl)
+minus_stuck ps ss digits (g ∷ gs) (c ∷ cs) h f k = let a = apart c 58 cs k in let b = and_nothing (c == 93) in (rw (h, a, b) refl, rw a refl)
 
 and_yes : (b : Bool) → b && true ≡ b
 and_yes true = refl
@@ -445,13 +423,6 @@ name_read text name key rest h e ps ss =
     ap (λ x. outcome (inside ps ss dot) x) h.is ∙ along (inside ps ss dot) name (inside ps ss (in_name name)) rest (named_fitting ps ss name h.named)
     ∙ name_ends ps ss name rest h.ends ∙ ap (λ x. outcome (ready ps (ss ++ Key x ∷ [])) rest) (sym e)
 
-name_long : (name : List ℕ) → IsName name → 0 < length name
-name_long [] h = absurd h
-name_long (c ∷ cs) h = omega arith
-
-pub name_shorter : (text name rest : List ℕ) → IsNameThen text name rest → length rest < length text
-name_shorter text name rest h = omega (arith, ap length h.is, length-append name rest, name_long name h.named)
-
 pub no_name : (text : List ℕ) → Fails begins_name text → ((cs : List ℕ) → text ≡ 42 ∷ cs → ⊥) → (ps : Parts) (ss : List Segment) → outcome (inside ps ss dot) text ≡ refuses BadToken (length text)
 no_name [] h k ps ss = refl
 no_name (c ∷ cs) h k ps ss = let a = apart c 42 cs k in rw (h, a) refl
@@ -478,10 +449,6 @@ wildcard_read text rest segment more e h ps ss =
 -- a segment that is no deep wildcard
 pub plain_reads : (ps : Parts) (ss : List Segment) (segment : Segment) (left : ℕ) (rest : List ℕ) → is_deep segment ≡ false → outcome (ready ps (ss ++ segment ∷ [])) rest ≡ once_deep ps ss segment left rest
 plain_reads ps ss segment left rest h = rw h refl
-
-pub dotted_read : (text rest : List ℕ) (segment : Segment) (more : List ℕ) → text ≡ 46 ∷ rest → ReadsDotted rest segment more → ReadsSegment text segment more
-dotted_read text rest segment more e h ps ss =
-    ap (λ x. outcome (ready ps ss) x) e ∙ h ps ss ∙ ap (λ x. once_deep ps ss segment x more) (omega (arith, ap length e))
 
 -- behind blanks
 pub past_stays : (p : ℕ → Bool) (text : List ℕ) → Fails p text → past p text ≡ text
@@ -536,20 +503,6 @@ separated ps ss c cs h = let q = neither (c == 46) (c == 91) h in rw (q.0, q.1) 
     neither true b h = absurd (cc)
     neither false b h = (refl, h)
 
-pub ready_ends : (ps : Parts) (ss : List Segment) (text : List ℕ) → begins_segment text ≡ false → outcome (ready ps ss) text ≡ outcome (behind_part (ps ++ ss ∷ [])) text
-ready_ends ps ss [] h = refl
-ready_ends ps ss (c ∷ cs) h = separated ps ss c cs h
-
--- one segment more
-deep_choice : (d f : Bool) (o : Outcome) (left : ℕ) → d && f ≡ false → cond (d && f) (refuses DeepTwice left) o ≡ o
-deep_choice d f o left h = rw h refl
-
-pub segment_more : (text : List ℕ) (s : Segment) (rest : List ℕ) → ReadsSegment text s rest → (ps : Parts) (ss : List Segment) → is_deep s && has_deep ss ≡ false → outcome (ready ps ss) text ≡ outcome (ready ps (ss ++ s ∷ [])) rest
-segment_more text s rest h ps ss e = h ps ss ∙ deep_choice (is_deep s) (has_deep ss) (outcome (ready ps (ss ++ s ∷ [])) rest) (length text) e
-
-pub deep_refused : (text : List ℕ) (s : Segment) (rest : List ℕ) → ReadsSegment text s rest → (ps : Parts) (ss : List Segment) → is_deep s && has_deep ss ≡ true → outcome (ready ps ss) text ≡ refuses DeepTwice (length text)
-deep_refused text s rest h ps ss e = h ps ss ∙ rw e refl
-
 -- where a part begins
 star_here : (ps : Parts) (cs : List ℕ) → outcome (first_dot ps) (42 ∷ cs) ≡ outcome (inside ps [] dot) (42 ∷ cs)
 unfolding unicode_ident is_xid_start
@@ -581,14 +534,6 @@ led_part ps (c ∷ cs) h k = bracket_same c (eqb-true c 91 k)
     bracket_same : (c : ℕ) → c ≡ 91 → outcome (first_dot ps) (c ∷ cs) ≡ outcome (ready ps []) (c ∷ cs)
     bracket_same c e = ap (λ x. outcome (first_dot ps) (x ∷ cs)) e ∙ bracket_here ps cs ∙ ap (λ x. outcome (ready ps []) (x ∷ cs)) (sym e)
 
-pub lone_part : (ps : Parts) (text : List ℕ) → goes_on_dot text ≡ false → begins 91 text ≡ false → outcome (first_dot ps) text ≡ outcome (behind_part (ps ++ [] ∷ [])) text
-lone_part ps [] h k = refl
-lone_part ps (c ∷ cs) h k = let q = neither (begins_name c) (c == 42) h in rw (q.0, q.1, k) refl
-  where
-    neither : (a b : Bool) → a || b ≡ false → (a ≡ false) × (b ≡ false)
-    neither true b h = absurd (cc)
-    neither false b h = (refl, h)
-
 -- a part that begins with a segment
 pub unled_part : (ps : Parts) (text : List ℕ) → begins_segment text ≡ true → ((cs : List ℕ) → text ≡ 46 ∷ cs → goes_on_dot cs ≡ true) → outcome (before_part ps) text ≡ outcome (ready ps []) text
 unled_part ps [] h k = absurd (cc)
@@ -600,14 +545,6 @@ unled_part ps (c ∷ cs) h k = by_dot (c == 46) refl h
     by_dot : (b : Bool) → (c == 46) ≡ b → b || (c == 91) ≡ true → outcome (before_part ps) (c ∷ cs) ≡ outcome (ready ps []) (c ∷ cs)
     by_dot true e h = let is = ap (λ x. x ∷ cs) (eqb-true c 46 e) in dotted_part ps (c ∷ cs) cs is (k cs is)
     by_dot false e h = opened c (eqb-true c 91 h)
-
-pub no_part : (ps : Parts) (text : List ℕ) → Fails is_blank text → begins_segment text ≡ false → outcome (before_part ps) text ≡ refuses BadToken (length text)
-no_part ps [] h k = refl
-no_part ps (c ∷ cs) h k = let q = neither (c == 46) (c == 91) k in rw (h, q.0, q.1) refl
-  where
-    neither : (a b : Bool) → a || b ≡ false → (a ≡ false) × (b ≡ false)
-    neither true b h = absurd (cc)
-    neither false b h = (refl, h)
 
 -- behind a part
 pub comma_on : (ps : Parts) (text t later : List ℕ) → t ≡ past is_blank text → t ≡ 44 ∷ later → outcome (behind_part ps) text ≡ outcome (before_part ps) later

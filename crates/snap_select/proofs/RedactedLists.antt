@@ -1,17 +1,6 @@
 -- Turns of the loops that redact lists in place, and one level of a tree.
-use Rattle.std.proofs.Common.{◌≡◌, ℕ, suc, ◌+◌, ◌<◌, ◌≤◌, List, [], ◌∷◌, ◌++◌, get_or, set, take, drop, length, map, refl, sym, ap, ◌∙◌, subst, arith, add-one, drop-cons}
-use Rattle.std.proofs.lemmas.List.{drop-set-lt, take_more_set, take_all, drop_all}
-use Rattle.std.specs.Prelude.{codes}
+use Rattle.snap_select.proofs.Prelude.{◌≡◌, ℕ, suc, ◌+◌, ◌<◌, ◌≤◌, List, [], ◌∷◌, ◌++◌, get_or, set, take, drop, length, map, refl, sym, ap, ◌∙◌, subst, arith, add-one, drop-cons, drop-set-lt, take_more_set, take_all, drop_all, codes, tree, item_trees, pair_trees, field_trees, Content, joined, joined-push, joined-end, joined_pairs, joined_pairs-push, joined_pairs-end, joined_fields, joined_fields-push, joined_fields-end, Step, step_of, to_item, into_field, under_key, Parts, count_of, Allowed, ItemsRedacted, PairsRedacted, FieldsRedacted, RedactedAt, IsRedacted, PathItem}
 use Rattle.snap_content.specs.Tree as t
-use Rattle.snap_content.specs.View.{tree, item_trees, pair_trees, field_trees}
-use Rattle.snap_content.specs.declared.content.Content.{Content}
-use Rattle.snap_content.proofs.Joined.{joined, joined-push, joined-end, joined_pairs, joined_pairs-push, joined_pairs-end, joined_fields, joined_fields-push, joined_fields-end}
-use Rattle.snap_select.specs.Matching.{Step, step_of, to_item, into_field, under_key}
-use Rattle.snap_select.specs.Parts.{Parts}
-use Rattle.snap_select.specs.Positions.{count_of}
-use Rattle.snap_select.specs.Put.{Allowed}
-use Rattle.snap_select.specs.Redacting.{ItemsRedacted, PairsRedacted, FieldsRedacted, RedactedAt, IsRedacted}
-use Rattle.snap_select.specs.declared.path_item.PathItem.{PathItem}
 
 pub count_is : (cs : List Content) → length cs ≡ count_of (item_trees cs)
 count_is [] = refl

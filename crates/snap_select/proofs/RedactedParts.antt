@@ -1,15 +1,6 @@
 -- A tree that is redacted part by part is one that a redaction makes.
-use Rattle.std.proofs.Common.{◌≡◌, ℕ, zero, suc, Bool, true, false, MatchBool, List, [], ◌∷◌, ◌++◌, Option, Some, slice_get, option_and_then, refl, sym, ap, ◌∙◌, subst, append-nil}
-use Rattle.std.proofs.lemmas.Bool.{both_ways}
-use Rattle.std.proofs.lemmas.Option.{same_Some, option_and_then_some}
-use Rattle.std.specs.Prelude.{codes}
+use Rattle.snap_select.proofs.Prelude.{◌≡◌, ℕ, zero, suc, Bool, true, false, MatchBool, List, [], ◌∷◌, ◌++◌, Option, Some, slice_get, option_and_then, refl, sym, ap, ◌∙◌, subst, append-nil, both_ways, same_Some, option_and_then_some, codes, Step, path_match, to_item, into_field, under_key, Parts, Child, wrapped, children, item_children, pair_children, field_children, part_at, path_at, count_of, Allowed, Inside, ItemsRedacted, PairsRedacted, FieldsRedacted, RedactedAt, IsRedacted, IsHit, IsUntouched, node, units, pair_units, field_units, IsKept, RedactsAt, Redacts}
 use Rattle.snap_content.specs.Tree as t
-use Rattle.snap_select.specs.Matching.{Step, path_match, to_item, into_field, under_key}
-use Rattle.snap_select.specs.Parts.{Parts}
-use Rattle.snap_select.specs.Positions.{Child, wrapped, children, item_children, pair_children, field_children, part_at, path_at, count_of}
-use Rattle.snap_select.specs.Put.{Allowed}
-use Rattle.snap_select.specs.Redacting.{Inside, ItemsRedacted, PairsRedacted, FieldsRedacted, RedactedAt, IsRedacted}
-use Rattle.snap_select.specs.Redacts.{IsHit, IsUntouched, node, units, pair_units, field_units, IsKept, RedactsAt, Redacts}
 
 -- a front of a position, and the position below a child
 not_front : (front rest : List ℕ) (k : ℕ) → [] ≡ front ++ k ∷ rest → ⊥

@@ -1,17 +1,8 @@
 -- Paths that are written step by step.
-use Rattle.std.proofs.Common.{◌≡◌, ℕ, ◌+◌, ◌<◌, List, [], ◌∷◌, ◌++◌, length, take, get_or, refl, sym, ap, ◌∙◌, append_assoc, append-nil}
+use Rattle.snap_select.proofs.Prelude.{◌≡◌, ℕ, ◌+◌, ◌<◌, List, [], ◌∷◌, ◌++◌, length, take, get_or, refl, sym, ap, ◌∙◌, append_assoc, append-nil, map-append, take_more, encodes-chars, HasWritten, map, chars, IsUtf8, tree, Step, step_of, key_text, step_text, path_text, PathItem}
 use Rattle.std.proofs.Output.{has_written_append, has_written_of_eq}
-use Rattle.std.proofs.lemmas.List.{map-append, take_more}
-use Rattle.std.proofs.lemmas.Str.{encodes-chars}
 use Rattle.std.specs.declared.fmt.Formatter.{Formatter}
-use Rattle.std.specs.Fmt.{HasWritten}
-use Rattle.std.specs.Prelude.{map}
-use Rattle.std.specs.Str.{chars, IsUtf8}
-use Rattle.snap_content.specs.View.{tree}
 use Rattle.snap_content.specs.declared.content.Content.{Content as ContentTree}
-use Rattle.snap_select.specs.Matching.{Step, step_of}
-use Rattle.snap_select.specs.PathText.{key_text, step_text, path_text}
-use Rattle.snap_select.specs.declared.path_item.PathItem.{PathItem}
 use Rattle.snap_select.specs.declared.path_item.PathItem.TheVariants.{Content, Field}
 use lib.Utf8.{encodes}
 

@@ -1,11 +1,8 @@
 -- What sorting makes of a tree is the sorted tree.
-use Rattle.std.proofs.Common.{◌≡◌, List, ◌∷◌, ap, ◌∙◌, subst}
-use Rattle.std.specs.Cmp.{IsTotalOrder}
-use Rattle.std.proofs.lemmas.Cmp.{on_total}
+use Rattle.snap_select.proofs.Prelude.{◌≡◌, List, ◌∷◌, ap, ◌∙◌, subst, IsTotalOrder, on_total, ordered}
 use Rattle.snap_content.specs.Tree as t
 use Rattle.snap_content.specs.KeyLaws.{key_total}
 use Rattle.snap_content.specs.Sorted.{Entry, InKeyOrder, ItemsRearranged, PairsRearranged, FieldsRearranged, Sorted}
-use Rattle.snap_select.specs.InOrder.{ordered}
 use Rattle.snap_select.specs.SortedTree.{entry_cmp, sorted_tree, sorted_items, sorted_pairs, sorted_fields}
 use Rattle.snap_select.proofs.StableSorts.{one_order}
 

@@ -1,18 +1,11 @@
 -- A stable sort has one outcome: the list in order.
-use Rattle.std.proofs.Common.{◌≡◌, zero, suc, ◌+◌, ◌<◌, Bool, true, false, cond, not, ◌&&◌, List, [], ◌∷◌, map, filter, get_or, length, refl, sym, ap, ◌∙◌, subst, arith, add-one, inl, inr}
-use Rattle.std.specs.Prelude.{◌⊎◌, ⊤}
-use Rattle.std.proofs.lemmas.Bool.{both_ways}
-use Rattle.std.proofs.lemmas.List.{length-map, get_or-map}
+use Rattle.snap_select.proofs.Prelude.{◌≡◌, zero, suc, ◌+◌, ◌<◌, Bool, true, false, cond, not, ◌&&◌, List, [], ◌∷◌, map, filter, get_or, length, refl, sym, ap, ◌∙◌, subst, arith, add-one, inl, inr, ◌⊎◌, ⊤, both_ways, length-map, get_or-map, ranks_by, sorted_far, tied_itself, IsStrictWeakOrder, IsTotalOrder, All, put_in, ordered}
 use Rattle.std.proofs.lemmas.List.Elements.{All-cons, All-head, All-tail, filter_agree}
-use Rattle.std.proofs.lemmas.List.Sorted.{ranks_by, sorted_far}
-use Rattle.std.proofs.lemmas.Cmp.{tied_itself}
-use Rattle.std.specs.Cmp.{IsStrictWeakOrder, IsTotalOrder}
-use Rattle.std.specs.List.{All}
 use Rattle.std.specs.List.Sorted.{IsSortedBy, IsStableBy, ties}
 use Rattle.std.specs.declared.cmp.Ordering.{Ordering}
 use Rattle.std.specs.declared.cmp.Ordering.TheVariants.{Less, Equal, Greater}
 use Rattle.std.specs.Ordering.{is_lt, ordering_reverse}
-use Rattle.snap_select.specs.InOrder.{put_in, ordered}
+use Rattle.snap_content.proofs.KeyOrdered.{neither}
 
 abbrev pub is_before : {Y : Type 0} → (Y → Y → Ordering) → Y → Y → Bool
 is_before cmp x y = is_lt (cmp x y)
@@ -24,13 +17,6 @@ less_is_not_greater Less Less e h = absurd (cc)
 less_is_not_greater Less Equal e h = absurd (cc)
 less_is_not_greater Equal s e h = refl
 less_is_not_greater Greater s e h = refl
-
-neither : (r s : Ordering) → r ≡ ordering_reverse s → (not (is_lt r) && not (is_lt s)) ≡ true → r ≡ Equal
-neither Less s e h = absurd (cc)
-neither Equal s e h = refl
-neither Greater Less e h = absurd (cc)
-neither Greater Equal e h = absurd (cc)
-neither Greater Greater e h = absurd (cc)
 
 module _ {Y : Type 0} (cmp : Y → Y → Ordering) (total : IsTotalOrder cmp) where
   weak : IsStrictWeakOrder (is_before cmp)

@@ -1,19 +1,7 @@
 -- From the start: the texts that lead somewhere are the beginnings of selectors.
-use Rattle.std.proofs.Common.{◌≡◌, ◌≢◌, ℕ, true, inl, inr, List, [], ◌∷◌, ◌++◌, Some, None, refl, sym, ap, ◌∙◌, subst, append_assoc, append-nil}
-use Rattle.std.proofs.lemmas.Bool.{and_parts}
-use Rattle.std.proofs.lemmas.Option.{same_Some}
-use Rattle.std.specs.List.{list_all}
-use Rattle.unicode_ident.specs.Ident.{is_xid_start, is_xid_continue}
-use Rattle.unicode_ident.proofs.Computing.{unicode_ident}
-use Rattle.snap_select.specs.Deep.{has_deep}
-use Rattle.snap_select.specs.Faults.{Begins, Opens}
-use Rattle.snap_select.specs.Grammar.{is_blank, AreBlanks, begins_name, IsName, dotted, bracketed, signed_value, Spells, SpellsEach, MayFollowDot, Stands, SpellsPart, BeforeComma, EachBeforeComma, IsSpelled}
-use Rattle.snap_select.specs.Parts.{Parts}
-use Rattle.snap_select.specs.Reading.{Token, dot, in_name, star, bracket, in_quotes, backslash, minus, number, behind_number, colon, to_minus, to_number, closing, Place, before_part, first_dot, ready, inside, behind_part, step, ended}
-use Rattle.snap_select.specs.declared.segment.Segment.{Segment}
-use Rattle.snap_select.specs.declared.segment.Segment.TheVariants.{DeepWildcard, Wildcard, Key, Index, Range}
+use Rattle.snap_select.proofs.Prelude.{◌≡◌, ◌≢◌, ℕ, true, inl, inr, List, [], ◌∷◌, ◌++◌, Some, None, refl, sym, ap, ◌∙◌, subst, append_assoc, append-nil, and_parts, same_Some, list_all, is_xid_start, is_xid_continue, unicode_ident, has_deep, Begins, Opens, is_blank, AreBlanks, begins_name, IsName, dotted, bracketed, signed_value, Spells, SpellsEach, MayFollowDot, Stands, SpellsPart, BeforeComma, EachBeforeComma, IsSpelled, Parts, Token, dot, in_name, star, bracket, in_quotes, backslash, minus, number, behind_number, colon, to_minus, to_number, closing, Place, before_part, first_dot, ready, inside, behind_part, step, ended, Segment, DeepWildcard, Wildcard, Key, Index, Range}
 use Rattle.snap_select.proofs.Places.{Means, kept, end_kept}
-use Rattle.snap_select.proofs.Walks.{Leads, leads_on, leads_half, leads_as, along_blanks, at_blank, AtEnd, LeadsToEnd, at_ready, each_on}
+use Rattle.snap_select.proofs.Walks.{Leads, leads_on, leads_half, leads_as, along_blanks, at_blank, AtEnd, at_ready, each_on}
 
 -- each step along a text keeps what the places mean
 leads_kept : (s : Place) (t a : List ℕ) (z : Place) → Means s t → Leads s a z → Means z (t ++ a)
@@ -99,9 +87,6 @@ pub record ToPart (s : Place) (text : List ℕ) (ps : Parts) : Type 0 where
   pub to : Place
   pub leads : Leads s text to
   pub at : PartEnds to ps
-
-from_end : (s : Place) (text : List ℕ) (ps : Parts) (ss : List Segment) → LeadsToEnd s text ps ss → ToPart s text (ps ++ ss ∷ [])
-from_end s text ps ss h = record { to = h.to; leads = h.leads; at = whole_ends h.to ps ss h.at }
 
 -- segments without a dot in front
 plain_stands : (ps : Parts) (ss : List Segment) (body : List ℕ) → SpellsEach ss body → body ≢ [] → ToPart (before_part ps) body (ps ++ ss ∷ [])

@@ -1,15 +1,5 @@
 -- What has been read of a segment, and what one more character makes of it.
-use Rattle.std.proofs.Common.{◌≡◌, ℕ, suc, ℤ, ◌<◌, Bool, true, false, inl, inr, List, [], ◌∷◌, ◌++◌, length, Option, Some, None, cond, refl, sym, ap, ◌∙◌, subst, append_assoc, append-nil, arith, length-append}
-use Rattle.std.proofs.lemmas.Bool.{eqb-true, eqb-false, and_from, and_parts, ltb-true}
-use Rattle.std.specs.Char.{is_digit, digit_value}
-use Rattle.std.specs.List.{list_all}
-use Rattle.std.specs.Prelude.{⊤, IsTrue, ◌==◌, ◌&&◌, not}
-use Rattle.std.specs.Str.Parse.{IsNumeral, AllDigits, digits_value}
-use Rattle.unicode_ident.specs.Ident.{is_xid_continue}
-use Rattle.snap_select.specs.Grammar.{is_blank, AreBlanks, begins_name, IsName, Quoted, Quotes, dotted, bracketed, signed, signed_value, SpellsBound, MayBound, unbounded, bounded, Spells}
-use Rattle.snap_select.specs.Reading.{Token, dot, in_name, star, bracket, in_quotes, backslash, minus, number, behind_number, colon, to_minus, to_number, closing, Move, on, ends, ended_before, nowhere, behind, move}
-use Rattle.snap_select.specs.declared.segment.Segment.{Segment}
-use Rattle.snap_select.specs.declared.segment.Segment.TheVariants.{DeepWildcard, Wildcard, Key, Index, Range}
+use Rattle.snap_select.proofs.Prelude.{◌≡◌, ℕ, suc, ℤ, ◌<◌, Bool, true, false, inl, inr, List, [], ◌∷◌, ◌++◌, length, Option, Some, None, cond, refl, sym, ap, ◌∙◌, subst, append_assoc, append-nil, arith, length-append, eqb-true, eqb-false, and_from, and_parts, ltb-true, is_digit, digit_value, list_all, ⊤, IsTrue, ◌==◌, ◌&&◌, not, IsNumeral, AllDigits, digits_value, is_xid_continue, is_blank, AreBlanks, begins_name, IsName, Quoted, Quotes, dotted, bracketed, signed, signed_value, SpellsBound, MayBound, unbounded, bounded, Spells, Token, dot, in_name, star, bracket, in_quotes, backslash, minus, number, behind_number, colon, to_minus, to_number, closing, Move, on, ends, ended_before, nowhere, behind, move, Segment, DeepWildcard, Wildcard, Key, Index, Range}
 
 -- an opened range, up to the blanks behind its colon
 pub record OpenRange (from : Option ℤ) (text : List ℕ) : Type 0 where
@@ -63,7 +53,7 @@ twice_nothing p q = sym (ap (λ x. x ++ q) (append-nil (p ++ []) ∙ append-nil 
 inner : (p b g m s : List ℕ) → (((p ++ b) ++ g) ++ m) ++ s ≡ p ++ (((b ++ g) ++ m) ++ s)
 inner p b g m s = simp append_assoc
 
-pick : (b : Bool) (x y : Move) (P : Move → Type 0) → (b ≡ true → P x) → (b ≡ false → P y) → P (cond b x y)
+pub pick : (b : Bool) (x y : Move) (P : Move → Type 0) → (b ≡ true → P x) → (b ≡ false → P y) → P (cond b x y)
 pick true x y P f g = f refl
 pick false x y P f g = g refl
 

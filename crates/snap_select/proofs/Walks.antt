@@ -1,18 +1,6 @@
 -- From place to place along a text: every spelled text leads to its parts.
-use Rattle.std.proofs.Common.{◌≡◌, ◌≢◌, ℕ, ℤ, suc, ◌+◌, ◌<◌, Bool, true, false, ◌⊎◌, inl, inr, List, [], ◌∷◌, ◌++◌, length, Option, Some, None, refl, sym, ap, ◌∙◌, subst, append_assoc, append-nil, arith}
-use Rattle.std.proofs.lemmas.Bool.{eqb-true, ne_eqb, lt-ltb, and_parts}
-use Rattle.std.proofs.lemmas.Option.{same_Some}
-use Rattle.std.specs.Char.{is_digit, digit_value}
-use Rattle.std.specs.List.{list_all}
-use Rattle.std.specs.Prelude.{IsTrue, ◌==◌, ◌||◌}
-use Rattle.std.specs.Str.Parse.{IsNumeral, AllDigits, digits_value}
-use Rattle.unicode_ident.specs.Ident.{is_xid_start, is_xid_continue}
-use Rattle.unicode_ident.proofs.Computing.{unicode_ident}
-use Rattle.snap_select.specs.Grammar.{is_blank, AreBlanks, IsName, Quoted, Quotes, InQuotes, dotted, bracketed, Bracketed, signed, signed_value, MayBound, unbounded, bounded, SpellsBounds, Spells, SpellsEach}
-use Rattle.snap_select.specs.Parts.{Parts}
-use Rattle.snap_select.specs.Reading.{dot, in_name, star, bracket, in_quotes, backslash, minus, number, behind_number, colon, to_minus, to_number, closing, Place, before_part, ready, inside, behind_part, step, ended}
-use Rattle.snap_select.specs.declared.segment.Segment.{Segment}
-use Rattle.snap_select.specs.declared.segment.Segment.TheVariants.{DeepWildcard, Wildcard, Key, Index, Range}
+use Rattle.snap_select.proofs.Prelude.{◌≡◌, ◌≢◌, ℕ, ℤ, suc, ◌+◌, ◌<◌, Bool, true, false, ◌⊎◌, inl, inr, List, [], ◌∷◌, ◌++◌, length, Option, Some, None, refl, sym, ap, ◌∙◌, subst, append_assoc, append-nil, arith, eqb-true, ne_eqb, lt-ltb, and_parts, same_Some, is_digit, digit_value, list_all, IsTrue, ◌==◌, ◌||◌, IsNumeral, AllDigits, digits_value, is_xid_start, is_xid_continue, unicode_ident, is_blank, AreBlanks, IsName, Quoted, Quotes, InQuotes, dotted, bracketed, Bracketed, signed, signed_value, MayBound, unbounded, bounded, SpellsBounds, Spells, SpellsEach, Parts, dot, in_name, star, bracket, in_quotes, backslash, minus, number, behind_number, colon, to_minus, to_number, closing, Place, before_part, ready, inside, behind_part, step, ended, Segment, DeepWildcard, Wildcard, Key, Index, Range}
+use Rattle.snap_select.proofs.PieceFacts.{digit_no_minus}
 
 abbrev pub Leads : Place → List ℕ → Place → Type 0
 Leads s [] z = s ≡ z
@@ -35,10 +23,6 @@ leads_once s (c ∷ cs) y z h k =
 
 pub leads_as : (s : Place) (a b : List ℕ) (z : Place) → a ≡ b → Leads s a z → Leads s b z
 leads_as s a b z e h = let P : List ℕ → Type 0 = λ x. Leads s x z in subst P e h
-
--- one character
-pub leads_one : (s : Place) (c : ℕ) (z : Place) → step s c ≡ Some z → Leads s (c ∷ []) z
-leads_one s c z e = (z, e, refl)
 
 -- what a blank is
 blank_is : (c : ℕ) → is_blank c ≡ true → (c ≡ 32) ⊎ (c ≡ 9)
@@ -77,9 +61,6 @@ no_blank c h = let a = digit_apart c 32 h (λ k. omega arith) in let b = digit_a
 pub no_quote : (c : ℕ) → digit_value c < 10 → (c == 34) ≡ false
 no_quote c h = digit_apart c 34 h (λ k. omega arith)
 
-pub no_minus : (c : ℕ) → digit_value c < 10 → (c == 45) ≡ false
-no_minus c h = digit_apart c 45 h (λ k. omega arith)
-
 number_on : (ps : Parts) (ss : List Segment) (negative : Bool) (digits cs : List ℕ) → AllDigits 10 cs → Leads (inside ps ss (number negative digits)) cs (inside ps ss (number negative (digits ++ cs)))
 number_on ps ss negative digits [] h = ap (λ x. inside ps ss (number negative x)) (sym (append-nil digits))
 number_on ps ss negative digits (c ∷ cs) h =
@@ -95,10 +76,10 @@ to_number_on ps ss from negative digits (c ∷ cs) h =
 
 -- the first digit, behind a bracket and behind a colon, and behind a minus
 first_number : (ps : Parts) (ss : List Segment) (c : ℕ) → digit_value c < 10 → step (inside ps ss bracket) c ≡ Some (inside ps ss (number false (c ∷ [])))
-first_number ps ss c h = let a = no_blank c h in let b = no_quote c h in let d = no_minus c h in let e = digit_is c h in rw (a, b, d, e) refl
+first_number ps ss c h = let a = no_blank c h in let b = no_quote c h in let d = digit_no_minus c h in let e = digit_is c h in rw (a, b, d, e) refl
 
 first_to : (ps : Parts) (ss : List Segment) (from : Option ℤ) (c : ℕ) → digit_value c < 10 → step (inside ps ss (colon from)) c ≡ Some (inside ps ss (to_number from false (c ∷ [])))
-first_to ps ss from c h = let a = no_blank c h in let d = no_minus c h in let e = digit_is c h in rw (a, d, e) refl
+first_to ps ss from c h = let a = no_blank c h in let d = digit_no_minus c h in let e = digit_is c h in rw (a, d, e) refl
 
 pub number_leads : (ps : Parts) (ss : List Segment) (negative : Bool) (digits : List ℕ) → IsNumeral 10 digits → Leads (inside ps ss bracket) (signed negative digits) (inside ps ss (number negative digits))
 number_leads ps ss negative [] h = absurd (omega (arith, h.0))

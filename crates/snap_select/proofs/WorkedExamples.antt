@@ -1,11 +1,6 @@
 -- Each worked text, read character by character.
-use Rattle.std.proofs.Common.{[], ◌∷◌, refl}
-use Rattle.std.specs.Prelude.{codes, Some, None, pos, negsuc}
-use Rattle.unicode_ident.specs.Ident.{is_xid_start, is_xid_continue}
-use Rattle.unicode_ident.proofs.Computing.{unicode_ident}
+use Rattle.snap_select.proofs.Prelude.{[], ◌∷◌, refl, codes, Some, None, pos, negsuc, is_xid_start, is_xid_continue, unicode_ident, BadToken, DeepTwice, TooLarge, DeepWildcard, Wildcard, Key, Index, Range}
 use Rattle.snap_select.specs.Examples.{AreSelected, AreRefused}
-use Rattle.snap_select.specs.declared.fault.SelectFault.TheVariants.{BadToken, DeepTwice, TooLarge}
-use Rattle.snap_select.specs.declared.segment.Segment.TheVariants.{DeepWildcard, Wildcard, Key, Index, Range}
 use Rattle.snap_select.proofs.LeastFaults.{fault_of}
 use Rattle.snap_select.proofs.Outcomes.{selects_selector}
 

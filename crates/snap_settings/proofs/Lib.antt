@@ -1,2 +1,3 @@
+mod Prelude
 mod RedactionLists
 pub mod PlainRedactions

@@ -1,19 +1,10 @@
 -- What documents can say stands in place of a value is one tree.
-use Rattle.std.proofs.Common.{◌≡◌, List, [], ◌∷◌, map, refl, ap, ◌∙◌, subst}
-use Rattle.snap_content.specs.Tree.{Tree}
+use Rattle.snap_settings.proofs.Prelude.{◌≡◌, List, [], ◌∷◌, map, refl, ap, ◌∙◌, subst, Tree, Objects, Puts, only, parts_of, Redaction, Selector, RedactionView, RedactedBy, replacements_of, redaction_for, redacted_by, settings_of, redactions_in, sorted_where, PrintsAs}
 use Rattle.snap_select.specs.Matching.{Step}
-use Rattle.snap_select.specs.Put.{Objects, Puts}
-use Rattle.snap_select.specs.Redacting.{only}
 use Rattle.snap_select.specs.Replacements.{put_of, redaction_by}
-use Rattle.snap_select.specs.Selectors.{parts_of}
-use Rattle.snap_select.specs.declared.redaction.Redaction.{Redaction}
 use Rattle.snap_select.specs.declared.replacement.Replacement.{Replacement}
 use Rattle.snap_select.specs.declared.replacement.Replacement.TheVariants.{Static, Sorted}
-use Rattle.snap_select.specs.declared.selector.Selector.{Selector}
 use Rattle.snap_select.proofs.OneRedacted.{one_redacted, weaker_redacted}
-use Rattle.snap_settings.specs.Redactions.{RedactionView, RedactedBy}
-use Rattle.snap_settings.specs.Replaced.{replacements_of, redaction_for, redacted_by}
-use Rattle.snap_settings.specs.Settings.{settings_of, redactions_in, sorted_where, PrintsAs}
 use Rattle.snap_settings.specs.declared.settings.Settings.{Settings}
 
 plain_puts : {X : Type 0} {P : X → Type 0} {Y : Type 0} {Q : Y → Type 0} {g : _} (objects : Objects X P) (redaction : Redaction X Y P Q g) (r : Replacement)

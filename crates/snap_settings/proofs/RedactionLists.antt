@@ -1,17 +1,10 @@
 -- Redactions, one after another.
-use Rattle.std.proofs.Common.{◌≡◌, ℕ, ◌+◌, ◌<◌, List, [], ◌∷◌, ◌++◌, length, map, take, get_or, refl, sym, ap, ◌∙◌, subst, append_assoc, append-nil, arith, inl, inr}
+use Rattle.snap_settings.proofs.Prelude.{◌≡◌, ℕ, ◌+◌, ◌<◌, List, [], ◌∷◌, ◌++◌, length, map, take, get_or, refl, sym, ap, ◌∙◌, subst, append_assoc, append-nil, arith, inl, inr, Tree, Objects, Puts, IsRedacted, parts_of, Redaction, Selector, RedactionView, redaction_at, redaction_of, RedactedBy, AreRedactions, AreRefused}
 use Rattle.std.proofs.lemmas.List.{take_more}
-use Rattle.snap_content.specs.Tree.{Tree}
 use Rattle.snap_select.specs.Grammar.{IsSelector}
 use Rattle.snap_select.specs.Parts.{Parts}
-use Rattle.snap_select.specs.Put.{Objects, Puts}
-use Rattle.snap_select.specs.Redacting.{IsRedacted}
 use Rattle.snap_select.specs.Refusal.{IsRefused}
-use Rattle.snap_select.specs.Selectors.{parts_of}
 use Rattle.snap_select.specs.declared.fault.SelectError.{SelectError}
-use Rattle.snap_select.specs.declared.redaction.Redaction.{Redaction}
-use Rattle.snap_select.specs.declared.selector.Selector.{Selector}
-use Rattle.snap_settings.specs.Redactions.{RedactionView, redaction_at, redaction_of, RedactedBy, AreRedactions, AreRefused}
 
 push_redacted : {X : Type 0} {P : X → Type 0} {Y : Type 0} {Q : Y → Type 0} {g : _} (objects : Objects X P) (rs : List (RedactionView (Redaction X Y P Q g)))
     (r : RedactionView (Redaction X Y P Q g)) (c next out : Tree) → RedactedBy objects rs c next → IsRedacted r.parts (Puts objects r.redaction) next out → RedactedBy objects (rs ++ r ∷ []) c out
@@ -61,15 +54,6 @@ is_refused whole rest more p made error g is h = g.no error (subst (λ l. AreRef
 pub all_made : {R : Type 0} (whole rest : List (List ℕ × R)) (made : List (RedactionView R)) → GoesOn whole rest made → rest ≡ [] → AreRedactions whole made
 all_made whole rest made g none =
     subst (λ m. AreRedactions whole m) (append-nil made) (g.ok [] (subst (λ l. AreRedactions l []) (sym none) tt))
-
--- a list is changed item by item: what is made so far stands before what is to come
-pub next_made : {A B : Type 0} (f : A → B) (whole rest more : List A) (p : A) (made made' : List B) → map f whole ≡ made ++ map f rest → rest ≡ p ∷ more
-    → made' ≡ made ++ f p ∷ [] → map f whole ≡ made' ++ map f more
-next_made f whole rest more p made made' so_far is next =
-    so_far ∙ ap (λ l. made ++ map f l) is ∙ sym (append_assoc made (f p ∷ []) (map f more)) ∙ ap (λ m. m ++ map f more) (sym next)
-
-pub each_made : {A B : Type 0} (f : A → B) (whole rest : List A) (made : List B) → map f whole ≡ made ++ map f rest → rest ≡ [] → made ≡ map f whole
-each_made f whole rest made so_far none = sym (so_far ∙ ap (λ l. made ++ map f l) none ∙ append-nil made)
 
 pub nothing_left : {X : Type 0} (l : List X) → length l ≡ 0 → l ≡ []
 nothing_left [] h = refl

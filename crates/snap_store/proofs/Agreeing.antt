@@ -1,7 +1,6 @@
 -- Agreement is reflexive and symmetric.
-use Rattle.std.proofs.Common.{refl, sym}
+use Rattle.snap_store.proofs.Prelude.{refl, sym, SnapshotContents}
 use Rattle.snap_store.specs.Agreement.{Agree}
-use Rattle.snap_store.specs.declared.contents.SnapshotContents.{SnapshotContents}
 use Rattle.snap_store.specs.declared.contents.SnapshotContents.TheVariants.{Text, Binary}
 
 pub Agree-refl : (a : SnapshotContents) → Agree a a

@@ -1,16 +1,6 @@
 -- The pairs of a header, one by one, and their plain form.
-use Rattle.std.proofs.Common.{◌≡◌, ℕ, List, [], ◌∷◌, ◌++◌, Option, None, Some, refl, ap, sym, ◌∙◌, rules}
-use Rattle.std.specs.Prelude.{pos, codes}
-use Rattle.snap_content.specs.Plain.{plain, text, int, dict, Entries, entry, no_entries, pair_entries}
+use Rattle.snap_store.proofs.Prelude.{◌≡◌, ℕ, List, [], ◌∷◌, ◌++◌, Option, None, Some, refl, ap, sym, ◌∙◌, rules, pos, codes, plain, text, int, dict, Entries, entry, no_entries, pair_entries, tree, pair_list, pair_trees, Pairs, Content, String, U32, Map, the_lemmas, tree-Map, in_front, Meta, text_field, line_field, info_field, kind_fields, header_tree, text_pair, line_pair, info_pair, kind_pairs, meta_tree, SnapshotKind, Text, Binary}
 use Rattle.snap_content.specs.Tree as t
-use Rattle.snap_content.specs.View.{tree, pair_list, pair_trees, Pairs}
-use Rattle.snap_content.specs.declared.content.Content.{Content, String, U32, Map, the_lemmas}
-use Rattle.snap_content.proofs.Views.{tree-Map}
-use Rattle.snap_store.specs.Header.{in_front}
-use Rattle.snap_store.specs.Meta.{Meta, text_field, line_field, info_field, kind_fields, header_tree}
-use Rattle.snap_store.specs.MetaTree.{text_pair, line_pair, info_pair, kind_pairs, meta_tree}
-use Rattle.snap_store.specs.declared.metadata.SnapshotKind.{SnapshotKind}
-use Rattle.snap_store.specs.declared.metadata.SnapshotKind.TheVariants.{Text, Binary}
 
 pub tree-String : (s : List ℕ) → tree (String s) ≡ t.string s
 tree-String s = search (rules, the_lemmas)

@@ -1,10 +1,5 @@
 -- What the lines of a file without a header tell.
-use Rattle.std.proofs.Common.{◌≡◌, ◌==◌, ℕ, List, [], ◌∷◌, Bool, true, false, cond, map, drop, Option, None, Some, Bor, refl, sym, ap, ◌∙◌, codes, true-eqb}
-use Rattle.std.specs.Prelude.{MatchOption, option_map}
-use Rattle.std.specs.Str.{chars}
-use Rattle.snap_str.specs.Lines.{ended_lines}
-use Rattle.snap_store.specs.FileSplit.{line_of, before_blank, behind_name, legacy_lines, legacy_field}
-use Rattle.snap_store.specs.Meta.{Meta, empty_meta, legacy_meta}
+use Rattle.snap_store.proofs.Prelude.{◌≡◌, ◌==◌, ℕ, List, [], ◌∷◌, Bool, true, false, cond, map, drop, Option, None, Some, Bor, refl, sym, ap, ◌∙◌, codes, true-eqb, MatchOption, option_map, chars, ended_lines, line_of, before_blank, behind_name, legacy_lines, legacy_field, Meta, empty_meta, legacy_meta}
 
 -- behind the whole name a colon must stand
 pub colon_behind : (result : Option (Bor (List ℕ))) (letters rest : List ℕ) → letters ≡ []

@@ -1,3 +1,4 @@
+mod Prelude
 mod Pieces
 mod LineEnds
 pub mod Bodies
@@ -11,4 +12,4 @@ mod Lookups
 pub mod TreesMade
 pub mod MetaTrees
 mod Outcomes
-mod Written
+pub mod Written

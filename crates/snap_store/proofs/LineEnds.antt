@@ -1,7 +1,5 @@
 -- A piece and its line's end.
-use Rattle.std.proofs.Common.{◌≡◌, ◌==◌, ℕ, List, [], ◌∷◌, ◌++◌, Bool, true, false, ◌&&◌, cond, refl, sym, ap, ◌∙◌, true-eqb}
-use Rattle.std.proofs.lemmas.Bool.{and_parts}
-use Rattle.snap_store.specs.FileSplit.{is_end, line_of}
+use Rattle.snap_store.proofs.Prelude.{◌≡◌, ◌==◌, ℕ, List, [], ◌∷◌, ◌++◌, Bool, true, false, ◌&&◌, cond, refl, sym, ap, ◌∙◌, true-eqb, and_parts, is_end, line_of}
 
 -- a line's end ends in LF
 end_feeds : (text : List ℕ) → is_end text ≡ true → (cs : List ℕ) × (text ≡ cs ++ 10 ∷ [])

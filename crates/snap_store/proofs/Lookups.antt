@@ -1,13 +1,8 @@
 -- Looking for the last pair that passes a test.
-use Rattle.std.proofs.Common.{◌≡◌, ℕ, ◌+◌, ◌<◌, ◌≤◌, Bool, true, false, not, ◌&&◌, cond, List, [], ◌∷◌, ◌++◌, length, take, get_or, Option, None, Some, refl, ap, sym, ◌∙◌, add-one}
+use Rattle.snap_store.proofs.Prelude.{◌≡◌, ℕ, ◌+◌, ◌<◌, ◌≤◌, Bool, true, false, not, ◌&&◌, cond, List, [], ◌∷◌, ◌++◌, length, take, get_or, Option, None, Some, refl, ap, sym, ◌∙◌, add-one, option_or, option_map, if◌then◌else◌, tree, pair_trees, Content, is_key, is_nil, last_by}
 use Rattle.std.proofs.Math.Seq.{take-suc}
 use Rattle.std.proofs.lemmas.List.{take_all}
-use Rattle.std.specs.Option.{option_or}
-use Rattle.std.specs.Prelude.{option_map, if◌then◌else◌}
 use Rattle.snap_content.specs.Tree as t
-use Rattle.snap_content.specs.View.{tree, pair_trees}
-use Rattle.snap_content.specs.declared.content.Content.{Content}
-use Rattle.snap_store.specs.TreeFields.{is_key, is_nil, last_by}
 
 -- the value of the last pair that passes a test
 abbrev pub kept_or : Option Content → Bool → Content → Option Content

@@ -1,23 +1,11 @@
 -- What reading a file comes to, exit by exit.
-use Rattle.std.proofs.Common.{◌≡◌, ℕ, Bool, true, false, List, Option, Result, Ok, Err, refl, ap, sym, ◌∙◌, subst, IsErrAnd}
-use Rattle.snap_content.specs.Lines.{document_of}
-use Rattle.snap_content.specs.Plain.{Plain, dict, Entries, content_of}
-use Rattle.snap_content.specs.Readable.{IsWithin}
-use Rattle.snap_content.specs.View.{tree}
-use Rattle.snap_content.specs.declared.content.Content.{Content}
-use Rattle.snap_content.specs.declared.error.Error.{Error}
+use Rattle.snap_store.proofs.Prelude.{◌≡◌, ℕ, Bool, true, false, List, Option, Result, Ok, Err, refl, ap, sym, ◌∙◌, subst, IsErrAnd, document_of, Plain, dict, Entries, content_of, IsWithin, tree, Content, Error, headed_body, body_of, FieldsEnd, HasFields, Meta, meta_of, meta_in, contents_in, legacy_in, number_text_in, SnapshotContents, SnapshotKind}
 use Rattle.snap_content.specs.declared.error.Error.TheVariants.{FailedParsingYaml, UnexpectedDataType, MissingField, FileIo, FloatText, JsonKey, NotText, NoFile, OutOfMemory}
 use Rattle.snap_emit.specs.Parsed.{IsReadFrom}
 use Rattle.snap_store.specs.Causes.{ErrorCause}
-use Rattle.snap_store.specs.FileSplit.{headed_body, body_of}
-use Rattle.snap_store.specs.Header.{FieldsEnd, HasFields}
-use Rattle.snap_store.specs.Meta.{Meta}
 use Rattle.snap_store.specs.Reading.{IsTextFile, ReadsHeader, HasUnprintedHeader, HoldsBody, IsRefused, FileEnd, IsReadAs, Tells}
 use Rattle.snap_store.specs.Split.{IsSplit}
-use Rattle.snap_store.specs.Views.{meta_of, meta_in, contents_in, legacy_in, number_text_in}
-use Rattle.snap_store.specs.declared.contents.SnapshotContents.{SnapshotContents}
 use Rattle.snap_store.specs.declared.metadata.MetaData.{MetaData}
-use Rattle.snap_store.specs.declared.metadata.SnapshotKind.{SnapshotKind}
 use Rattle.snap_store.specs.declared.snapshot.Snapshot.{Snapshot}
 use Rattle.snap_store.specs.declared.split.Headed.{Headed}
 use Rattle.snap_store.proofs.Bodies.{body-headed}

@@ -1,10 +1,5 @@
 -- The pieces of a text, one after another.
-use Rattle.std.proofs.Common.{◌≡◌, ℕ, List, [], ◌∷◌, ◌++◌, cond, map, refl, sym, ap, ◌∙◌, append_assoc, append-nil}
-use Rattle.std.specs.List.{list_any, flat_map}
-use Rattle.snap_text.specs.Lines.{is_line_end, IsUnbroken}
-use Rattle.snap_str.specs.Lines.{onto, ended_lines}
-use Rattle.snap_store.specs.FileSplit.{line_of, joined_lines, lines_text}
-use Rattle.snap_content.proofs.Booleans.{or_left, or_right}
+use Rattle.snap_store.proofs.Prelude.{◌≡◌, ℕ, List, [], ◌∷◌, ◌++◌, cond, map, refl, sym, ap, ◌∙◌, append_assoc, append-nil, list_any, flat_map, is_line_end, IsUnbroken, onto, ended_lines, line_of, joined_lines, lines_text, or_left, or_right}
 
 inside : (c : ℕ) (cs : List ℕ) → IsUnbroken (c ∷ cs) → (rest : List ℕ) → ended_lines (c ∷ rest) ≡ onto c (ended_lines rest)
 inside c cs h rest = ap (λ b. cond b ((c ∷ []) ∷ ended_lines rest) (onto c (ended_lines rest))) (or_left (is_line_end c) (list_any is_line_end cs) h)

@@ -1,7 +1,5 @@
 -- The file at a path, where the files are told and where they aren't.
-use Rattle.std.proofs.Common.{◌≡◌, ℕ, List, Option, None, Some, ap}
-use Rattle.std.specs.FinMap.{get}
-use Rattle.snap_outside.specs.Files.{Files}
+use Rattle.snap_store.proofs.Prelude.{◌≡◌, ℕ, List, Option, None, Some, ap, get, Files}
 
 same_map : (f m : Files) → Some f ≡ Some m → f ≡ m
 same_map f m e = cc

@@ -1,16 +1,9 @@
 -- The fields of pairs that a reader made.
-use Rattle.std.proofs.Common.{◌≡◌, ℕ, ◌^◌, ℤ, pos, negsuc, Bool, true, false, not, ◌&&◌, cond, nat_lt, List, Option, None, Some, refl, ap, sym, ◌∙◌}
-use Rattle.std.specs.Option.{option_or}
-use Rattle.std.specs.Prelude.{option_map, option_and_then, codes, if◌then◌else◌}
+use Rattle.snap_store.proofs.Prelude.{◌≡◌, ℕ, ◌^◌, ℤ, pos, negsuc, Bool, true, false, not, ◌&&◌, cond, nat_lt, List, Option, None, Some, refl, ap, sym, ◌∙◌, option_or, option_map, option_and_then, codes, if◌then◌else◌, is_text, is_named, later_or, last_value, is_filled, last_filled, text_value, line_value, is_binary, binary_kind, kind_in, fields, Meta, tree_text, tree_line, line_number, is_nil, is_key, last_in, last_filled_in, text_at, line_at, kind_told, fields_told, SnapshotKind, Text}
 use Rattle.snap_content.specs.Plain as p
 use Rattle.snap_content.specs.Tree as t
 use Rattle.snap_content.specs.Access.{resolved, whole_number_in}
-use Rattle.snap_store.specs.Fields.{is_text, is_named, later_or, last_value, is_filled, last_filled, text_value, line_value, is_binary, binary_kind, kind_in, fields}
 use Rattle.snap_store.specs.Fields.{is_nil as is_null}
-use Rattle.snap_store.specs.Meta.{Meta}
-use Rattle.snap_store.specs.TreeFields.{tree_text, tree_line, line_number, is_nil, is_key, last_in, last_filled_in, text_at, line_at, kind_told, fields_told}
-use Rattle.snap_store.specs.declared.metadata.SnapshotKind.{SnapshotKind}
-use Rattle.snap_store.specs.declared.metadata.SnapshotKind.TheVariants.{Text}
 
 -- each number that a reader makes is the number that it was made of
 

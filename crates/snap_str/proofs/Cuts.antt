@@ -1,14 +1,6 @@
 -- Where std cuts a text, by its bytes and by its characters.
-use Rattle.std.proofs.Common.{◌≡◌, ◌≢◌, ◌==◌, ℕ, ◌<◌, ◌≤◌, ◌+◌, ◌-◌, List, [], ◌∷◌, ◌++◌, Option, None, Some, Bor, length, take, drop, refl, sym, ap, ◌∙◌, subst, arith, inl, inr, length-append, MatchOption, IfSome}
-use Rattle.std.proofs.lemmas.List.{take-append-drop}
-use Rattle.std.proofs.lemmas.Bool.{or_from}
-use Rattle.std.proofs.lemmas.Str.{chars_from_encodes, encodes-chars, encodes-append, chars-append, chars_past_char, IsUtf8-take, IsUtf8-drop, IsUtf8-append, IsUtf8-encode, IsCharBoundary-from_drop}
+use Rattle.snap_str.proofs.Prelude.{◌≡◌, ◌≢◌, ◌==◌, ℕ, ◌<◌, ◌≤◌, ◌+◌, ◌-◌, List, [], ◌∷◌, ◌++◌, Option, None, Some, Bor, length, take, drop, refl, sym, ap, ◌∙◌, subst, arith, inl, length-append, MatchOption, IfSome, take-append-drop, or_from, chars_from_encodes, encodes-chars, encodes-append, chars-append, chars_past_char, IsUtf8-take, IsUtf8-drop, IsUtf8-append, IsUtf8-encode, IsCharBoundary-from_drop, list_any, chars, IsUtf8, NoCharPasses, NonePass, HasCharAt, FindsChar, RFindsChar, FindsTextPrefix, FindsTextSuffix, SplitsAroundMatch, StripsPrefix, StripsSuffix, Lacks, IsCutAtFirst, IsCutAtLast, IsLastPart, encode, encodes}
 use Rattle.std.specs.Char.{IsScalar}
-use Rattle.std.specs.List.{list_any}
-use Rattle.std.specs.Str.{chars, IsUtf8, NoCharPasses, NonePass}
-use Rattle.std.specs.Str.Pattern.{HasCharAt, FindsChar, RFindsChar, FindsTextPrefix, FindsTextSuffix, SplitsAroundMatch, StripsPrefix, StripsSuffix}
-use Rattle.snap_str.specs.Cut.{Lacks, IsCutAtFirst, IsCutAtLast, IsLastPart}
-use lib.Utf8.{encode, encodes}
 
 none_pass : (mark : ℕ) (cs : List ℕ) → NonePass (λ d. d == mark) cs → Lacks mark cs
 none_pass mark [] h = refl
@@ -93,9 +85,6 @@ last_shorter mark s (Some p) u scalar h = (last mark s p.0.now p.1.now u scalar 
 
 pub whole_part : (mark : ℕ) (text : List ℕ) → Lacks mark text → IsLastPart mark text text
 whole_part mark text none = (none, inl refl)
-
-pub part_behind : (mark : ℕ) (text before part : List ℕ) → IsCutAtLast mark text before part → IsLastPart mark text part
-part_behind mark text before part h = (h.last, inr (before, h.is))
 
 -- a text without what it begins with
 pub prefix_clause : (s prefix : List ℕ) (r : Option (Bor (List ℕ))) → IsUtf8 s → IsUtf8 prefix

@@ -1,3 +1,4 @@
+mod Prelude
 mod Cuts
 mod Trims
 pub mod LineTexts

@@ -1,15 +1,7 @@
 -- The first line of a text.
-use Rattle.std.proofs.Common.{◌≡◌, ◌≢◌, ◌==◌, ℕ, ◌+◌, ◌<◌, ◌≤◌, List, [], ◌∷◌, ◌++◌, Bool, true, false, ◌&&◌, Some, cond, length, take, drop, refl, sym, ap, ◌∙◌, arith, append_assoc}
-use Rattle.std.proofs.lemmas.Bool.{or_parts, ne_eqb}
-use Rattle.std.proofs.lemmas.List.{take-append-drop, append_cancel_right}
-use Rattle.std.proofs.lemmas.Str.{chars-nil, chars-append, IsUtf8-take, encodes-chars}
-use Rattle.std.specs.List.{list_any}
-use Rattle.std.specs.Str.{chars, IsUtf8, IsCharBoundary}
-use Rattle.std.specs.Str.Pattern.{FindsChar}
-use Rattle.snap_str.specs.Cut.{Lacks, IsCutAtFirst}
+use Rattle.snap_str.proofs.Prelude.{◌≡◌, ◌≢◌, ◌==◌, ℕ, ◌+◌, ◌<◌, ◌≤◌, List, [], ◌∷◌, ◌++◌, Bool, true, false, ◌&&◌, Some, cond, length, take, drop, refl, sym, ap, ◌∙◌, arith, append_assoc, or_parts, ne_eqb, take-append-drop, append_cancel_right, chars-nil, chars-append, IsUtf8-take, encodes-chars, list_any, chars, IsUtf8, IsCharBoundary, FindsChar, Lacks, IsCutAtFirst, encodes}
 use Rattle.snap_str.proofs.Cuts.{parted, lacks}
 use Rattle.snap_str.specs.Lines.{onto, lines, ended_lines, without_return}
-use lib.Utf8.{encodes}
 
 abbrev is_end : ℕ → Bool
 is_end c = c == 10

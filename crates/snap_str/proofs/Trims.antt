@@ -1,7 +1,5 @@
 -- What std leaves of a text without white space at an end.
-use Rattle.std.proofs.Common.{◌≡◌, ℕ, List, sym}
-use Rattle.std.proofs.lemmas.Str.{chars_from_encodes}
-use Rattle.std.specs.Str.{chars, IsUtf8, trim_start, trim_end, skip_leading_whitespace, drop_trailing_whitespace}
+use Rattle.snap_str.proofs.Prelude.{◌≡◌, ℕ, List, sym, chars_from_encodes, chars, IsUtf8, trim_start, trim_end, skip_leading_whitespace, drop_trailing_whitespace}
 
 pub chars-trim_start : (text result : List ℕ) → IsUtf8 result → result ≡ trim_start text → chars result ≡ skip_leading_whitespace (chars text)
 unfolding trim_start

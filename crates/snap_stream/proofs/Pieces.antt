@@ -8,9 +8,6 @@ use Rattle.snap_stream.specs.Streams.{TakesPiece, TakesAtMost, TakesExactly}
 pub record IsRead (bytes : List ℕ) (first now : Option (List ℕ)) : Type 0 where
   pub each : (xs : List ℕ) → first ≡ Some xs → GivesFront xs bytes now
 
-pub none_read : (first : Option (List ℕ)) → IsRead [] first first
-none_read first = record { each = λ xs e. record { rest = xs; told = e; whole = refl } }
-
 pub more_read : (count : ℕ) (bytes next : List ℕ) (first now later : Option (List ℕ)) → TakesPiece count bytes next now later → IsRead bytes first now → IsRead next first later
 more_read count bytes next first now later t r = record {
   each = λ xs e.
@@ -66,21 +63,6 @@ part_room room size buffer whole some fits = omega (arith, some, length-take-le 
 pub whole_room : (room size : ℕ) (buffer front : List ℕ) → length buffer ≡ size → room ≤ size → length front ≡ length (take room buffer) → length (front ++ drop room buffer) ≡ size
 whole_room room size buffer front whole fits same =
     omega (arith, whole, fits, same, length-append front (drop room buffer), length-drop room buffer, length-take-le room buffer (omega (arith, fits, whole)))
-
--- at most so much was taken
-pub none_taken : (most : ℕ) (left left' : Option (List ℕ)) → left' ≡ left → TakesAtMost most left left'
-none_taken most left left' same = λ xs e. record { front = []; given = record { rest = xs; told = same ∙ e; whole = refl }; within = omega arith }
-
-pub piece_taken : (count : ℕ) (buffer before : List ℕ) (left left' : Option (List ℕ)) → count ≤ length buffer → length buffer ≡ length before
-    → ((xs : List ℕ) → left ≡ Some xs → GivesFront xs (take count buffer) left') → TakesAtMost (length before) left left'
-piece_taken count buffer before left left' fits same given = λ xs e. record {
-  front = take count buffer;
-  given = given xs e;
-  within = omega (arith, length-take-le count buffer fits, fits, same);
-}
-
-pub all_taken : (most : ℕ) (bytes : List ℕ) (first now : Option (List ℕ)) → IsRead bytes first now → length bytes ≤ most → TakesAtMost most first now
-all_taken most bytes first now r within = λ xs e. record { front = bytes; given = r.each xs e; within = within }
 
 -- after a fault there is left what was left before
 pub fault_taken : (most : ℕ) (bytes : List ℕ) (first now later : Option (List ℕ)) → IsRead bytes first now → later ≡ now → length bytes ≤ most → TakesAtMost most first later

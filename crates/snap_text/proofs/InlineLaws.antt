@@ -1,15 +1,10 @@
 -- What is written of an inline text reads back as contents that match it.
-use Rattle.std.proofs.Common.{◌≡◌, ℕ, List, Result, Ok, Err, sym, ap, ◌∙◌, subst}
-use Rattle.std.specs.Result.{IfOk}
-use Rattle.snap_literal.specs.Inline.{inline_normal}
+use Rattle.snap_text.proofs.Prelude.{◌≡◌, ℕ, List, Result, Ok, Err, sym, ap, ◌∙◌, subst, IfOk, inline_normal, spelled, meant, IsIndentation, Inline, raw_of, kind_of, normal_as, normal_of, MatchLatest, IsSettled, ReadsBack, InlineLaw}
 use Rattle.snap_literal.specs.Literal.{literal_reads}
 use Rattle.snap_literal.specs.OfLiteral.{of_literal}
-use Rattle.snap_literal.specs.Spelled.{spelled, meant, IsIndentation}
 use Rattle.snap_literal.proofs.InlineLaw.{inline-law}
 use Rattle.snap_literal.proofs.Meanings.{reads}
 use Rattle.snap_text.specs.declared.contents.TextSnapshotContents.{TextSnapshotContents}
-use Rattle.snap_text.specs.declared.contents.TextSnapshotKind.TheVariants.{Inline}
-use Rattle.snap_text.specs.Contents.{raw_of, kind_of, normal_as, normal_of, MatchLatest, IsSettled, ReadsBack, InlineLaw}
 
 -- contents made of the text that was meant match
 matches : (contents made : TextSnapshotContents) (indentation : List ℕ) → IsSettled contents → IsIndentation indentation → kind_of made ≡ Inline

@@ -1,3 +1,4 @@
+mod Prelude
 mod InlineLaws
 mod Shown
 pub mod Trimming

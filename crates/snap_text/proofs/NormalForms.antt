@@ -1,12 +1,8 @@
 -- Normal forms of printed texts.
-use Rattle.std.proofs.Common.{◌≡◌, ◌==◌, ℕ, List, [], ◌∷◌, ◌++◌, Bool, false, ◌||◌, refl, sym, ap, ◌∙◌, append_assoc, append-nil}
-use Rattle.std.specs.List.{list_any, flat_map}
-use Rattle.snap_content.specs.Lines.{ended}
-use Rattle.snap_content.specs.Printed.{IsLine, AreLines, is_break}
-use Rattle.snap_text.specs.Normal.{trimmed, normal}
+use Rattle.snap_text.proofs.Prelude.{◌≡◌, ◌==◌, ℕ, List, [], ◌∷◌, ◌++◌, Bool, false, ◌||◌, refl, sym, ap, ◌∙◌, append_assoc, append-nil, list_any, flat_map, ended, IsLine, AreLines, is_break, normal, or_left, or_right}
+use Rattle.snap_text.specs.Normal.{trimmed}
 use Rattle.snap_literal.proofs.Returns.{unreturned-free}
 use Rattle.snap_text.proofs.Trimming.{trimmed-well, trimmed-push, trimmed-behind}
-use Rattle.snap_content.proofs.Booleans.{or_left, or_right}
 
 -- a printed text, trimmed: it is not empty, and only its last line's end is gone
 pub record IsTrimmedLess (text : List ℕ) : Type 0 where

@@ -1,12 +1,7 @@
 -- The older form of printed texts is their normal form.
-use Rattle.std.proofs.Common.{◌≡◌, ◌==◌, ◌||◌, ◌&&◌, ℕ, List, [], ◌∷◌, ◌++◌, Bool, true, false, cond, refl, sym, ap, ◌∙◌}
-use Rattle.std.specs.List.{list_any, flat_map}
+use Rattle.snap_text.proofs.Prelude.{◌≡◌, ◌==◌, ◌||◌, ◌&&◌, ℕ, List, [], ◌∷◌, ◌++◌, Bool, true, false, cond, refl, sym, ap, ◌∙◌, list_any, flat_map, ended, IsLine, begins_dashes, is_break, normal, or_left}
 use Rattle.snap_content.specs.Front.{begins}
-use Rattle.snap_content.specs.Lines.{ended}
-use Rattle.snap_content.specs.Printed.{IsLine, begins_dashes, is_break}
-use Rattle.snap_text.specs.Normal.{normal}
 use Rattle.snap_text.specs.Legacy.{without_breaks, without_fence, legacy}
-use Rattle.snap_content.proofs.Booleans.{or_left}
 
 or_swap : (a b : Bool) → (a || b) ≡ false → (b || a) ≡ false
 or_swap true b h = absurd (cc)

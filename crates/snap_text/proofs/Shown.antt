@@ -1,17 +1,11 @@
 -- Contents that are written part by part.
-use Rattle.std.proofs.Common.{◌≡◌, ℕ, List, [], ◌∷◌, ◌++◌, refl, sym, ap, ◌∙◌, append_assoc}
+use Rattle.snap_text.proofs.Prelude.{◌≡◌, ℕ, List, [], ◌∷◌, ◌++◌, refl, sym, ap, ◌∙◌, append_assoc, HasWritten, chars, IsUtf8, from_byte, written, trimmed, Inline, File, normal_as, width_as}
 use Rattle.std.proofs.Output.{has_written_append, has_written_of_eq}
 use Rattle.std.proofs.lemmas.Str.{encodes-append, encodes-chars}
 use Rattle.std.specs.declared.fmt.Formatter.{Formatter}
-use Rattle.std.specs.Fmt.{HasWritten}
-use Rattle.std.specs.Str.{chars, IsUtf8}
-use Rattle.snap_literal.specs.Inline.{from_byte, written}
 use Rattle.snap_literal.specs.Lines.{IsUnbroken, IsLineThen, without_returns}
-use Rattle.snap_literal.specs.Normal.{trimmed}
 use Rattle.snap_literal.proofs.Written.{written-line, written-last, written-zero, written-inline}
 use Rattle.snap_text.specs.declared.contents.TextSnapshotKind.{TextSnapshotKind}
-use Rattle.snap_text.specs.declared.contents.TextSnapshotKind.TheVariants.{Inline, File}
-use Rattle.snap_text.specs.Contents.{normal_as, width_as}
 use lib.Utf8.{encodes, encode}
 
 -- what is written of contents is their normal form

@@ -1,13 +1,6 @@
 -- Escapes in double quotes: what their steps say of the scalar.
-use Rattle.std.proofs.Common.{◌≡◌, ◌≤◌, ◌<◌, ◌+◌, ◌*◌, ◌-◌, ◌^◌, ◌==◌, ◌&&◌, ℕ, zero, suc, List, [], ◌∷◌, ◌++◌, Bool, true, false, slice_index, Option, Some, None, is_some, Ok, Err, refl, sym, ap, ◌∙◌, subst, arith, lit<, pow-suc}
+use Rattle.snap_token.proofs.Prelude.{◌≡◌, ◌≤◌, ◌<◌, ◌+◌, ◌*◌, ◌-◌, ◌^◌, ◌==◌, ◌&&◌, ℕ, suc, List, [], ◌∷◌, ◌++◌, Bool, true, false, slice_index, Option, Some, None, Err, refl, sym, ◌∙◌, subst, arith, lit<, pow-suc, ScanError, Syntax, OutOfMemory, escaped_gap, is_break, is_pair, past_break, Place, skipped, Quoted, double, escape, digits, hexadecimal, escaped, further_digits, ReadsQuoted, Continues, both_second}
 use Rattle.std.proofs.Math.Nat.{pow-le-pow_right}
-use Rattle.snap_token.proofs.Folds.{second-of-both}
-use Rattle.snap_token.specs.declared.info.ScanError.{ScanError}
-use Rattle.snap_token.specs.declared.info.ScanError.TheVariants.{Syntax, OutOfMemory}
-use Rattle.snap_token.specs.Folding.{no_gap, escaped_gap}
-use Rattle.snap_token.specs.Characters.{is_break, is_pair, past_break}
-use Rattle.snap_token.specs.Place.{Place, skipped}
-use Rattle.snap_token.specs.Quoted.{Quoted, double, escape, digits, hexadecimal, value_of, with_digit, is_code, escaped, further_digits, ReadsQuoted, Continues}
 
 -- a step that is refused so is a scalar that is refused
 pub refused-so : (o n : Option Quoted) (e : ScanError) (p : Place) → Continues {T = Unit {0}} o n (Err e) → ReadsQuoted o (Err e) p
@@ -31,36 +24,6 @@ digit-more m n value d text p q more is place =
     let Q : ℕ → Type 0 = λ k. digits n (value * 16 + d) text (skipped p).left (skipped p) ≡ digits k value text p.left p in
     subst P (sym place) (subst Q (sym more) (sym (digit-at n value d text p.left p.index p.line p.col is)))
 
-none-at : (n value : ℕ) (text cs : List ℕ) (i l j : ℕ) → hexadecimal (slice_index cs 0) ≡ None → digits n value text cs (at cs i l j) ≡ None
-none-at n value text [] i l j is = refl
-none-at zero value text (c ∷ cs) i l j is = rw is refl
-none-at (suc n) value text (c ∷ cs) i l j is = rw is refl
-
-pub digit-none : (n value : ℕ) (text : List ℕ) (p : Place) → hexadecimal (slice_index p.left 0) ≡ None → digits n value text p.left p ≡ None
-digit-none n value text p is = none-at n value text p.left p.index p.line p.col is
-
-bad-at : (value d : ℕ) (text cs : List ℕ) (i l j : ℕ) → hexadecimal (slice_index cs 0) ≡ Some d → is_code (value * 16 + d) ≡ false → digits zero value text cs (at cs i l j) ≡ None
-bad-at value d text [] i l j is bad = refl
-bad-at value d text (c ∷ cs) i l j is bad = rw (is, bad) refl
-
-pub code-bad : (n value d : ℕ) (text : List ℕ) (p : Place) → n ≡ 0 → hexadecimal (slice_index p.left 0) ≡ Some d → is_code (value * 16 + d) ≡ false → digits n value text p.left p ≡ None
-code-bad n value d text p last is bad =
-    let P : ℕ → Type 0 = λ k. digits k value text p.left p ≡ None in
-    subst P (sym last) (bad-at value d text p.left p.index p.line p.col is bad)
-
-good-at : (value d : ℕ) (text cs : List ℕ) (i l j : ℕ) → hexadecimal (slice_index cs 0) ≡ Some d → is_code (value * 16 + d) ≡ true
-    → digits zero value text cs (at cs i l j) ≡ double no_gap (text ++ (value * 16 + d) ∷ []) (skipped (at cs i l j)).left (skipped (at cs i l j))
-good-at value d text [] i l j is good = absurd (cc)
-good-at value d text (c ∷ cs) i l j is good = rw (is, good) refl
-
-pub code-good : (n value d c : ℕ) (text : List ℕ) (p q : Place) → n ≡ 0 → hexadecimal (slice_index p.left 0) ≡ Some d → c ≡ value * 16 + d → is_code (value * 16 + d) ≡ true → q ≡ skipped p
-    → digits n value text p.left p ≡ double no_gap (text ++ c ∷ []) q.left q
-code-good n value d c text p q last is same good place =
-    let P : Place → Type 0 = λ x. digits n value text p.left p ≡ double no_gap (text ++ c ∷ []) x.left x in
-    let Q : ℕ → Type 0 = λ k. digits k value text p.left p ≡ double no_gap (text ++ c ∷ []) (skipped p).left (skipped p) in
-    let R : ℕ → Type 0 = λ k. digits zero value text p.left p ≡ double no_gap (text ++ k ∷ []) (skipped p).left (skipped p) in
-    subst P (sym place) (subst Q (sym last) (subst R (sym same) (good-at value d text p.left p.index p.line p.col is good)))
-
 pub digits-small : (value d n : ℕ) → value < 16 ^ n → d < 16 → value * 16 + d < 16 ^ suc n
 digits-small value d n small digit = rw (pow-suc 16 n) (omega (arith, small, digit))
 
@@ -74,9 +37,9 @@ digits-room value d n small digit few =
 break-at : (text : List ℕ) (c : ℕ) (cs : List ℕ) (i l j : ℕ) (pair : Bool) → is_pair c (slice_index cs 0) ≡ pair → is_break c ≡ true
     → escape text (c ∷ cs) (at (c ∷ cs) i l j) ≡ double escaped_gap text (past_break (at (c ∷ cs) i l j)).left (past_break (at (c ∷ cs) i l j))
 break-at text c cs i l j false single broken = rw (broken, single) refl
-break-at text c [] i l j true pair broken = absurd (let e : (0 == 10) ≡ true = second-of-both (c == 13) (0 == 10) pair in cc)
+break-at text c [] i l j true pair broken = absurd (let e : (0 == 10) ≡ true = both_second (c == 13) (0 == 10) pair in cc)
 break-at text c (d ∷ ds) i l j true pair broken =
-    let e : d ≡ 10 = let b : (d == 10) ≡ true = second-of-both (c == 13) (d == 10) pair in grind arith in
+    let e : d ≡ 10 = let b : (d == 10) ≡ true = both_second (c == 13) (d == 10) pair in grind arith in
     let other : is_break d ≡ true = rw e refl in
     let alone : is_pair d (slice_index ds 0) ≡ false = rw e refl in
     rw (broken, pair, other, alone) refl
@@ -85,34 +48,6 @@ break-any : (text cs : List ℕ) (i l j : ℕ) → is_break (slice_index cs 0) �
     → escape text cs (at cs i l j) ≡ double escaped_gap text (past_break (at cs i l j)).left (past_break (at cs i l j))
 break-any text [] i l j broken = absurd (cc)
 break-any text (c ∷ cs) i l j broken = break-at text c cs i l j (is_pair c (slice_index cs 0)) refl broken
-
--- an escaped line end
-pub escape-break : (text : List ℕ) (p q : Place) → is_break (slice_index p.left 0) ≡ true → q ≡ past_break p → escape text p.left p ≡ double escaped_gap text q.left q
-escape-break text p q broken is =
-    let P : Place → Type 0 = λ x. escape text p.left p ≡ double escaped_gap text x.left x in
-    subst P (sym is) (break-any text p.left p.index p.line p.col broken)
-
-letter-at : (text cs : List ℕ) (i l j d : ℕ) → is_break (slice_index cs 0) ≡ false → escaped (slice_index cs 0) ≡ Some d
-    → escape text cs (at cs i l j) ≡ double no_gap (text ++ d ∷ []) (skipped (at cs i l j)).left (skipped (at cs i l j))
-letter-at text [] i l j d broken is = absurd (cc)
-letter-at text (c ∷ cs) i l j d broken is = rw (broken, is) refl
-
--- a letter that stands for a character
-pub escape-letter : (text : List ℕ) (d : ℕ) (p q : Place) → is_break (slice_index p.left 0) ≡ false → escaped (slice_index p.left 0) ≡ Some d → q ≡ skipped p
-    → escape text p.left p ≡ double no_gap (text ++ d ∷ []) q.left q
-escape-letter text d p q broken is place =
-    let P : Place → Type 0 = λ x. escape text p.left p ≡ double no_gap (text ++ d ∷ []) x.left x in
-    subst P (sym place) (letter-at text p.left p.index p.line p.col d broken is)
-
-unknown-at : (text cs : List ℕ) (i l j : ℕ) → is_break (slice_index cs 0) ≡ false → escaped (slice_index cs 0) ≡ None → further_digits (slice_index cs 0) ≡ None
-    → escape text cs (at cs i l j) ≡ None
-unknown-at text [] i l j broken none code = refl
-unknown-at text (c ∷ cs) i l j broken none code = rw (broken, none, code) refl
-
--- a letter that stands for nothing
-pub escape-unknown : (text : List ℕ) (p : Place) → is_break (slice_index p.left 0) ≡ false → escaped (slice_index p.left 0) ≡ None → further_digits (slice_index p.left 0) ≡ None
-    → escape text p.left p ≡ None
-escape-unknown text p broken none code = unknown-at text p.left p.index p.line p.col broken none code
 
 code-at : (text cs : List ℕ) (i l j n : ℕ) → is_break (slice_index cs 0) ≡ false → escaped (slice_index cs 0) ≡ None → further_digits (slice_index cs 0) ≡ Some n
     → escape text cs (at cs i l j) ≡ digits n 0 text (skipped (at cs i l j)).left (skipped (at cs i l j))

@@ -1,11 +1,5 @@
 -- Where a text is cut by its bytes.
-use Rattle.std.proofs.Common.{◌≡◌, ℕ, ◌+◌, ◌-◌, ◌<◌, ◌≤◌, ◌≢◌, ◌==◌, List, [], ◌∷◌, ◌++◌, Bool, true, false, length, take, drop, slice_index, get_or, refl, sym, ap, ◌∙◌, subst, arith, if◌then◌else◌, length-append, add-zero, zero, suc}
-use Rattle.std.proofs.Math.Seq.{get_or-append-add, get_or-take, get_or-drop}
-use Rattle.std.proofs.lemmas.List.{take-append-drop, length-take-le}
-use Rattle.std.proofs.lemmas.Str.{byte_from_char, char_from_byte, length-encode, len_utf8_bounds, chars-append, chars-nil, encodes-chars, encodes-append, chars_from_encodes, IsUtf8-take, IsUtf8-drop, IsCharBoundary-before_ascii, IsCharBoundary-end}
-use Rattle.std.specs.Str.{chars, IsUtf8, IsCharBoundary}
-use Rattle.snap_token.specs.Place.{before_nul}
-use lib.Utf8.{encode, encodes}
+use Rattle.snap_token.proofs.Prelude.{◌≡◌, ℕ, ◌+◌, ◌-◌, ◌<◌, ◌≤◌, ◌≢◌, ◌==◌, List, [], ◌∷◌, ◌++◌, Bool, true, false, length, take, drop, slice_index, get_or, refl, sym, ap, ◌∙◌, subst, arith, if◌then◌else◌, length-append, add-zero, zero, suc, get_or-append-add, get_or-take, get_or-drop, take-append-drop, length-take-le, byte_from_char, char_from_byte, length-encode, len_utf8_bounds, chars-append, chars-nil, encodes-chars, encodes-append, chars_from_encodes, IsUtf8-take, IsUtf8-drop, IsCharBoundary-before_ascii, IsCharBoundary-end, chars, IsUtf8, IsCharBoundary, before_nul, encode, encodes}
 
 -- no byte of a text is 0
 abbrev pub NoneIsNul : List ℕ → Type 0

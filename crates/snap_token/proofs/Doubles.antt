@@ -1,25 +1,10 @@
 -- Scalars in double quotes, one character or one run of characters further.
-use Rattle.std.proofs.Common.{◌≡◌, ◌≢◌, ◌≤◌, ◌+◌, ◌==◌, ◌||◌, ◌&&◌, ℕ, List, [], ◌∷◌, ◌++◌, Bool, true, false, slice_index, refl, sym, ap, ◌∙◌, subst, arith, append-nil, append_assoc, Option, Some, None}
-use Rattle.snap_content.proofs.Booleans.{or_left, or_right, or_false, not_true}
-use Rattle.snap_token.specs.declared.folding.Gap.{Gap}
-use Rattle.snap_token.specs.declared.characters.Kind.TheVariants.{DoubleQuoted}
-use Rattle.snap_token.specs.Characters.{is_blank, is_break, is_pair, is_break_or_end, is_blank_or_end, is_of, past_break, is_document_indicator}
-use Rattle.snap_token.specs.Folding.{with_blank, with_break, gap_of, no_gap, escaped_gap, joined}
-use Rattle.snap_token.specs.Pieces.{Piece, before, EndsIn}
-use Rattle.snap_token.specs.Place.{Place, skipped, passed, skipped_while}
-use Rattle.snap_token.specs.Quoted.{Quoted, quoted_end, double, double_at, double_from, escape}
-use Rattle.snap_token.proofs.Folds.{gap-blank, gap-break, gap-none, second-of-both, mid-line, regroup, no-more}
+use Rattle.snap_token.proofs.Prelude.{◌≡◌, ◌≢◌, ◌≤◌, ◌+◌, ◌==◌, ◌||◌, ◌&&◌, ℕ, List, [], ◌∷◌, ◌++◌, Bool, true, false, slice_index, refl, sym, ap, ◌∙◌, subst, arith, append-nil, Option, None, or_left, or_right, not_true, both_second, Gap, DoubleQuoted, is_blank, is_break, is_pair, is_break_or_end, is_blank_or_end, is_of, past_break, is_document_indicator, with_break, gap_of, no_gap, joined, Piece, before, EndsIn, Place, skipped, passed, skipped_while, Quoted, quoted_end, double, double_at, escape, or_from}
+use Rattle.snap_token.proofs.Folds.{gap-blank, gap-break, gap-none, mid-line, regroup, no-more}
 use Rattle.snap_token.proofs.Pieces.{passed-ends}
 
 abbrev at : List ℕ → ℕ → ℕ → ℕ → Place
 at cs i l j = record { left = cs; index = i; line = l; col = j }
-
--- at the first character
-pub double-begun : (p q : Place) → q ≡ skipped p → double_at (record { text = []; behind = q.left }) no_gap q ≡ double_from p
-double-begun p q is =
-    let f : Gap → Option Quoted = λ h. double h [] q.left q in
-    let P : Place → Type 0 = λ x. double no_gap [] x.left x ≡ double_from p in
-    ap f (gap-none q.left) ∙ subst P (sym is) refl
 
 blank-at : (g : Gap) (all text cs : List ℕ) (i l j : ℕ) → EndsIn all cs → is_blank (slice_index cs 0) ≡ true
     → double (gap_of g (before all (skipped (at cs i l j)).left)) text (skipped (at cs i l j)).left (skipped (at cs i l j)) ≡ double (gap_of g (before all cs)) text cs (at cs i l j)
@@ -39,9 +24,9 @@ break-at : (g : Gap) (xs ys text : List ℕ) (c : ℕ) (cs : List ℕ) (i l j : 
 break-at g xs ys text c cs i l j false single blank broken =
     let f : Gap → Option Quoted = λ h. double h text cs (skipped (at (c ∷ cs) i l j)) in
     rw (blank, broken, single) (ap f (gap-break g xs ys))
-break-at g xs ys text c [] i l j true pair blank broken = absurd (let e : (0 == 10) ≡ true = second-of-both (c == 13) (0 == 10) pair in cc)
+break-at g xs ys text c [] i l j true pair blank broken = absurd (let e : (0 == 10) ≡ true = both_second (c == 13) (0 == 10) pair in cc)
 break-at g xs ys text c (d ∷ ds) i l j true pair blank broken =
-    let e : d ≡ 10 = let b : (d == 10) ≡ true = second-of-both (c == 13) (d == 10) pair in grind arith in
+    let e : d ≡ 10 = let b : (d == 10) ≡ true = both_second (c == 13) (d == 10) pair in grind arith in
     let inner : is_blank d ≡ false = rw e refl in
     let other : is_break d ≡ true = rw e refl in
     let alone : is_pair d (slice_index ds 0) ≡ false = rw e refl in
@@ -112,7 +97,7 @@ run-of text (c ∷ cs) i l j inside =
     → double no_gap (text ++ before (c ∷ cs) (passed (is_of DoubleQuoted) (c ∷ cs) p).left) (passed (is_of DoubleQuoted) (c ∷ cs) p).left (passed (is_of DoubleQuoted) (c ∷ cs) p) ≡ double no_gap text (c ∷ cs) p) [
       | true ↦ λ e.
           let o : Ordinary c = ordinary c e in
-          let stop : (is_document_indicator p || c == 0) ≡ false = or_false (is_document_indicator p) (c == 0) (mid-line p inside) o.end in
+          let stop : (is_document_indicator p || c == 0) ≡ false = or_from (is_document_indicator p) (c == 0) (mid-line p inside) o.end in
           let taken : double no_gap text (c ∷ cs) p ≡ double no_gap ((text ++ []) ++ c ∷ []) cs s = rw (o.blank, o.broken, stop, o.sign34, o.sign92) refl in
           let further : 1 ≤ s.col = rw o.feed (omega arith) in
           rw e (ap end (regroup text c cs q.left (passed-ends (is_of DoubleQuoted) cs s refl))
@@ -132,7 +117,7 @@ word-at g text (c ∷ cs) i l j blank broken sign end no34 no92 =
     let q : Place = passed (is_of DoubleQuoted) cs s in
     let f : List ℕ → Option Quoted = λ t. double no_gap t q.left q in
     let nul : (c == 0) ≡ false = grind arith in
-    let stop : (is_document_indicator p || c == 0) ≡ false = or_false (is_document_indicator p) (c == 0) sign nul in
+    let stop : (is_document_indicator p || c == 0) ≡ false = or_from (is_document_indicator p) (c == 0) sign nul in
     let other34 : (c == 34) ≡ false = grind arith in
     let other92 : (c == 92) ≡ false = grind arith in
     let taken : double g text (c ∷ cs) p ≡ double no_gap ((text ++ joined g) ++ c ∷ []) cs s = rw (blank, broken, stop, other34, other92) refl in
@@ -161,13 +146,8 @@ closed-at g text (c ∷ cs) i l j sign quote =
     let broken : is_break c ≡ false = rw quote refl in
     let nul : (c == 0) ≡ false = rw quote refl in
     let is : (c == 34) ≡ true = rw quote refl in
-    let stop : (is_document_indicator (at (c ∷ cs) i l j) || c == 0) ≡ false = or_false (is_document_indicator (at (c ∷ cs) i l j)) (c == 0) sign nul in
+    let stop : (is_document_indicator (at (c ∷ cs) i l j) || c == 0) ≡ false = or_from (is_document_indicator (at (c ∷ cs) i l j)) (c == 0) sign nul in
     rw (blank, broken, stop, is) refl
-
--- the closing quote
-pub double-closed : (t : Piece) (g : Gap) (p : Place) → is_document_indicator p ≡ false → slice_index p.left 0 ≡ 34
-    → double_at t g p ≡ quoted_end (gap_of g (before t.behind p.left)) t.text p
-double-closed t g p sign quote = closed-at (gap_of g (before t.behind p.left)) t.text p.left p.index p.line p.col sign quote
 
 escape-at : (g : Gap) (text cs : List ℕ) (i l j : ℕ) → is_document_indicator (at cs i l j) ≡ false → slice_index cs 0 ≡ 92
     → double g text cs (at cs i l j) ≡ escape (text ++ joined g) (skipped (at cs i l j)).left (skipped (at cs i l j))
@@ -178,7 +158,7 @@ escape-at g text (c ∷ cs) i l j sign slash =
     let nul : (c == 0) ≡ false = rw slash refl in
     let quote : (c == 34) ≡ false = rw slash refl in
     let is : (c == 92) ≡ true = rw slash refl in
-    let stop : (is_document_indicator (at (c ∷ cs) i l j) || c == 0) ≡ false = or_false (is_document_indicator (at (c ∷ cs) i l j)) (c == 0) sign nul in
+    let stop : (is_document_indicator (at (c ∷ cs) i l j) || c == 0) ≡ false = or_from (is_document_indicator (at (c ∷ cs) i l j)) (c == 0) sign nul in
     rw (blank, broken, stop, quote, is) refl
 
 -- a backslash
@@ -195,8 +175,3 @@ double-none text t q is =
     let f : Gap → Option Quoted = λ h. double h text q.left q in
     let P : Piece → Type 0 = λ x. double_at x no_gap q ≡ double no_gap text q.left q in
     subst P (sym is) (ap f (gap-none q.left))
-
-pub double-escaped : (text : List ℕ) (t : Piece) (q : Place) → t ≡ record { text = text; behind = q.left } → double_at t escaped_gap q ≡ double escaped_gap text q.left q
-double-escaped text t q is =
-    let P : Piece → Type 0 = λ x. double_at x escaped_gap q ≡ double escaped_gap text q.left q in
-    subst P (sym is) refl

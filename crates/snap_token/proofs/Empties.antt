@@ -1,12 +1,7 @@
 -- Texts and lists without a character.
-use Rattle.std.proofs.Common.{◌≡◌, ℕ, ◌+◌, ◌-◌, ◌<◌, ◌==◌, List, [], ◌∷◌, ◌++◌, Bool, true, false, not, length, take, refl, sym, ap, ◌∙◌, arith}
-use Rattle.std.proofs.lemmas.Str.{encodes-chars}
-use Rattle.std.specs.Str.{chars, IsUtf8}
+use Rattle.snap_token.proofs.Prelude.{◌≡◌, ℕ, ◌+◌, ◌-◌, ◌<◌, ◌==◌, List, [], ◌∷◌, ◌++◌, Bool, true, false, not, length, take, refl, sym, ap, ◌∙◌, arith, encodes-chars, chars, IsUtf8, is_nil, before, EndsIn, encodes}
 use Rattle.snap_content.proofs.BeforeRest.{splits}
 use Rattle.snap_token.proofs.Cuts.{some-byte}
-use Rattle.snap_token.specs.Folding.{is_nil}
-use Rattle.snap_token.specs.Pieces.{before, EndsIn}
-use lib.Utf8.{encodes}
 
 nil-of : (cs : List ℕ) (bytes : List ℕ) → encodes cs ≡ bytes → (length bytes == 0) ≡ is_nil cs
 nil-of [] bytes e = rw (sym e) refl

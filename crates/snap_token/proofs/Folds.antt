@@ -1,12 +1,7 @@
 -- White space inside a scalar, one character further.
-use Rattle.std.proofs.Common.{◌≡◌, ℕ, List, [], ◌∷◌, ◌++◌, Bool, true, false, ◌&&◌, ◌≤◌, ◌==◌, refl, sym, ap, ◌∙◌, arith, append-nil, append_assoc}
+use Rattle.snap_token.proofs.Prelude.{◌≡◌, ℕ, List, [], ◌∷◌, ◌++◌, Bool, true, false, ◌&&◌, ◌≤◌, ◌==◌, refl, sym, ap, ◌∙◌, arith, append-nil, append_assoc, Gap, with_blank, with_break, gap_of, no_gap, is_document_indicator, Place, before, EndsIn, both_second, both_first}
 use Rattle.snap_token.specs.declared.folding.Fold.{Fold}
 use Rattle.snap_token.specs.declared.folding.Fold.TheVariants.{Inline, Broken, Escaped}
-use Rattle.snap_token.specs.declared.folding.Gap.{Gap}
-use Rattle.snap_token.specs.Folding.{with_blank, with_break, gap_of, no_gap}
-use Rattle.snap_token.specs.Characters.{is_document_indicator}
-use Rattle.snap_token.specs.Place.{Place}
-use Rattle.snap_token.specs.Pieces.{before, EndsIn}
 use Rattle.snap_token.proofs.Pieces.{before-next, before-same, before-cons}
 
 abbrev gap : Fold → List ℕ → Gap
@@ -31,14 +26,6 @@ gap-break g xs ys = of-break g.fold g.text xs ys
 
 pub gap-none : (xs : List ℕ) → gap_of no_gap (before xs xs) ≡ no_gap
 gap-none xs = ap (gap Inline) (before-same xs)
-
-pub first-of-both : (a b : Bool) → (a && b) ≡ true → a ≡ true
-first-of-both true b h = refl
-first-of-both false b h = h
-
-pub second-of-both : (a b : Bool) → (a && b) ≡ true → b ≡ true
-second-of-both true b h = h
-second-of-both false b h = absurd (cc)
 
 pub no-more : (text xs : List ℕ) → text ++ before xs xs ≡ text
 no-more text xs = let f : List ℕ → List ℕ = λ l. text ++ l in ap f (before-same xs) ∙ append-nil text

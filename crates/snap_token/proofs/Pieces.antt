@@ -1,8 +1,5 @@
 -- Pieces of a list, before an end of it.
-use Rattle.std.proofs.Common.{◌≡◌, ℕ, ◌+◌, ◌-◌, List, [], ◌∷◌, ◌++◌, length, take, refl, sym, ap, ◌∙◌, subst, arith, Bool, true, false, length-append, append_assoc}
-use Rattle.std.proofs.Math.Seq.{take-append_seam}
-use Rattle.snap_token.specs.Pieces.{before, EndsIn}
-use Rattle.snap_token.specs.Place.{Place, passed, behind}
+use Rattle.snap_token.proofs.Prelude.{◌≡◌, ℕ, ◌+◌, ◌-◌, List, [], ◌∷◌, ◌++◌, length, take, refl, sym, ap, ◌∙◌, subst, arith, Bool, true, false, length-append, append_assoc, take-append_seam, before, EndsIn, Place, passed, behind}
 
 front-is : (xs ys : List ℕ) → before (xs ++ ys) ys ≡ xs
 front-is xs ys =

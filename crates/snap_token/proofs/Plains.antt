@@ -1,15 +1,7 @@
 -- Plain scalars, one character or one run of characters further.
-use Rattle.std.proofs.Common.{◌≡◌, ◌≢◌, ◌==◌, ◌||◌, ◌&&◌, ℕ, List, [], ◌∷◌, ◌++◌, Bool, true, false, slice_index, refl, sym, ap, ◌∙◌, subst, arith, append-nil, append_assoc, Option, Some, None}
-use Rattle.snap_content.proofs.Booleans.{or_left, or_right, not_true}
-use Rattle.snap_token.specs.declared.folding.Gap.{Gap}
-use Rattle.snap_token.specs.declared.characters.Kind.TheVariants.{Word}
-use Rattle.snap_token.specs.Characters.{is_blank, is_break, is_pair, is_break_or_end, is_blank_or_end, is_flow_sign, is_of, past_break}
-use Rattle.snap_token.specs.Folding.{with_blank, with_break, gap_of, no_gap, joined}
-use Rattle.snap_token.specs.Pieces.{before, EndsIn}
-use Rattle.snap_token.specs.Place.{Place, skipped, passed, skipped_while}
-use Rattle.snap_token.specs.Plain.{Plain, plain, plain_end, plain_from, ends_plain, is_bad_tab}
-use Rattle.snap_token.proofs.Folds.{gap-blank, gap-break, gap-none, second-of-both, regroup, no-more}
-use Rattle.snap_token.proofs.Pieces.{before-is, before-cons, before-same, ends-same, passed-ends}
+use Rattle.snap_token.proofs.Prelude.{◌≡◌, ◌≢◌, ◌==◌, ◌||◌, ◌&&◌, ℕ, List, [], ◌∷◌, ◌++◌, Bool, true, false, slice_index, refl, sym, ap, ◌∙◌, subst, arith, append-nil, Option, None, or_left, or_right, not_true, both_second, Gap, Word, is_blank, is_break, is_pair, is_break_or_end, is_blank_or_end, is_flow_sign, is_of, past_break, with_break, gap_of, no_gap, joined, before, EndsIn, Place, skipped, passed, skipped_while, Plain, plain, plain_end, ends_plain, is_bad_tab}
+use Rattle.snap_token.proofs.Folds.{gap-blank, gap-break, gap-none, regroup, no-more}
+use Rattle.snap_token.proofs.Pieces.{passed-ends}
 
 abbrev at : List ℕ → ℕ → ℕ → ℕ → Place
 at cs i l j = record { left = cs; index = i; line = l; col = j }
@@ -38,9 +30,9 @@ break-at : (indent : Option ℕ) (flow : Bool) (g : Gap) (xs ys text : List ℕ)
 break-at indent flow g xs ys text c cs i l j false single blank broken =
     let f : Gap → Option Plain = λ h. plain indent flow h text cs (skipped (at (c ∷ cs) i l j)) in
     rw (blank, broken, single) (ap f (gap-break g xs ys))
-break-at indent flow g xs ys text c [] i l j true pair blank broken = absurd (let e : (0 == 10) ≡ true = second-of-both (c == 13) (0 == 10) pair in cc)
+break-at indent flow g xs ys text c [] i l j true pair blank broken = absurd (let e : (0 == 10) ≡ true = both_second (c == 13) (0 == 10) pair in cc)
 break-at indent flow g xs ys text c (d ∷ ds) i l j true pair blank broken =
-    let e : d ≡ 10 = let b : (d == 10) ≡ true = second-of-both (c == 13) (d == 10) pair in grind arith in
+    let e : d ≡ 10 = let b : (d == 10) ≡ true = both_second (c == 13) (d == 10) pair in grind arith in
     let inner : is_blank d ≡ false = rw e refl in
     let other : is_break d ≡ true = rw e refl in
     let alone : is_pair d (slice_index ds 0) ≡ false = rw e refl in
@@ -144,35 +136,6 @@ plain-word indent flow g text p q blank broken on is =
     let f : Gap → Option Plain = λ h. plain indent flow h ((text ++ joined g) ++ before p.left q.left) q.left q in
     let P : Place → Type 0 = λ x. plain indent flow no_gap ((text ++ joined g) ++ before p.left x.left) x.left x ≡ plain indent flow g text p.left p in
     ap f (gap-none q.left) ∙ subst P (sym is) (word-at indent flow g text p.left p.index p.line p.col blank broken on)
-
--- the first character
-begun-at : (indent : Option ℕ) (flow : Bool) (cs : List ℕ) (i l j : ℕ) → is_blank (slice_index cs 0) ≡ true
-    → plain indent flow (gap_of no_gap (before cs (skipped (at cs i l j)).left)) [] (skipped (at cs i l j)).left (skipped (at cs i l j)) ≡ plain_from indent flow (at cs i l j)
-begun-at indent flow [] i l j blank = absurd (cc)
-begun-at indent flow (c ∷ cs) i l j blank =
-    let f : Gap → Option Plain = λ h. plain indent flow h [] cs (skipped (at (c ∷ cs) i l j)) in
-    let g : Gap → Gap = with_blank c in
-    rw blank (ap f (gap-blank no_gap (c ∷ cs) c cs (ends-same (c ∷ cs)) ∙ ap g (gap-none (c ∷ cs))))
-
-pub plain-blank-first : (indent : Option ℕ) (flow : Bool) (p q : Place) → is_blank (slice_index p.left 0) ≡ true → q ≡ skipped p
-    → plain indent flow (gap_of no_gap (before p.left q.left)) [] q.left q ≡ plain_from indent flow p
-plain-blank-first indent flow p q blank is =
-    let P : Place → Type 0 = λ x. plain indent flow (gap_of no_gap (before p.left x.left)) [] x.left x ≡ plain_from indent flow p in
-    subst P (sym is) (begun-at indent flow p.left p.index p.line p.col blank)
-
-first-at : (indent : Option ℕ) (flow : Bool) (cs : List ℕ) (i l j : ℕ) → is_blank (slice_index cs 0) ≡ false → slice_index cs 0 ≢ 0
-    → plain indent flow no_gap (before cs (skipped (at cs i l j)).left) (skipped (at cs i l j)).left (skipped (at cs i l j)) ≡ plain_from indent flow (at cs i l j)
-first-at indent flow [] i l j blank some = absurd (some refl)
-first-at indent flow (c ∷ cs) i l j blank some =
-    let f : List ℕ → Option Plain = λ t. plain indent flow no_gap t cs (skipped (at (c ∷ cs) i l j)) in
-    rw blank (ap f (before-is (c ∷ cs) (c ∷ []) cs refl))
-
-pub plain-first : (indent : Option ℕ) (flow : Bool) (p q : Place) → is_blank (slice_index p.left 0) ≡ false → slice_index p.left 0 ≢ 0 → q ≡ skipped p
-    → plain indent flow (gap_of no_gap (before q.left q.left)) (before p.left q.left) q.left q ≡ plain_from indent flow p
-plain-first indent flow p q blank some is =
-    let f : Gap → Option Plain = λ h. plain indent flow h (before p.left q.left) q.left q in
-    let P : Place → Type 0 = λ x. plain indent flow no_gap (before p.left x.left) x.left x ≡ plain_from indent flow p in
-    ap f (gap-none q.left) ∙ subst P (sym is) (first-at indent flow p.left p.index p.line p.col blank some)
 
 tab-at : (indent : Option ℕ) (flow : Bool) (g : Gap) (text cs : List ℕ) (i l j : ℕ) → is_blank (slice_index cs 0) ≡ true → is_bad_tab indent g (slice_index cs 0) j ≡ true
     → plain indent flow g text cs (at cs i l j) ≡ None

@@ -1,25 +1,10 @@
 -- Scalars in single quotes, one character or one run of characters further.
-use Rattle.std.proofs.Common.{◌≡◌, ◌≢◌, ◌≤◌, ◌+◌, ◌==◌, ◌||◌, ◌&&◌, ℕ, List, [], ◌∷◌, ◌++◌, Bool, true, false, slice_index, refl, sym, ap, ◌∙◌, subst, arith, append-nil, append_assoc, Option, Some, None}
-use Rattle.snap_content.proofs.Booleans.{or_left, or_right, or_false, not_true}
-use Rattle.snap_token.specs.declared.folding.Gap.{Gap}
-use Rattle.snap_token.specs.declared.characters.Kind.TheVariants.{SingleQuoted}
-use Rattle.snap_token.specs.Characters.{is_blank, is_break, is_pair, is_break_or_end, is_blank_or_end, is_of, past_break, is_document_indicator}
-use Rattle.snap_token.specs.Folding.{with_blank, with_break, gap_of, no_gap, joined}
-use Rattle.snap_token.specs.Pieces.{Piece, before, EndsIn}
-use Rattle.snap_token.specs.Place.{Place, skipped, passed, skipped_while}
-use Rattle.snap_token.specs.Quoted.{Quoted, quoted_end, single, single_at, single_from, doubled}
-use Rattle.snap_token.proofs.Folds.{gap-blank, gap-break, gap-none, second-of-both, mid-line, regroup, no-more}
+use Rattle.snap_token.proofs.Prelude.{◌≡◌, ◌≢◌, ◌≤◌, ◌+◌, ◌==◌, ◌||◌, ◌&&◌, ℕ, List, [], ◌∷◌, ◌++◌, Bool, true, false, slice_index, refl, sym, ap, ◌∙◌, subst, arith, append-nil, Option, None, or_left, or_right, not_true, both_second, Gap, SingleQuoted, is_blank, is_break, is_pair, is_break_or_end, is_blank_or_end, is_of, past_break, is_document_indicator, with_break, gap_of, no_gap, joined, Piece, before, EndsIn, Place, skipped, passed, skipped_while, Quoted, quoted_end, single, single_at, or_from}
+use Rattle.snap_token.proofs.Folds.{gap-blank, gap-break, gap-none, mid-line, regroup, no-more}
 use Rattle.snap_token.proofs.Pieces.{passed-ends}
 
 abbrev at : List ℕ → ℕ → ℕ → ℕ → Place
 at cs i l j = record { left = cs; index = i; line = l; col = j }
-
--- at the first character
-pub single-begun : (p q : Place) → q ≡ skipped p → single_at (record { text = []; behind = q.left }) no_gap q ≡ single_from p
-single-begun p q is =
-    let f : Gap → Option Quoted = λ h. single h [] q.left q in
-    let P : Place → Type 0 = λ x. single no_gap [] x.left x ≡ single_from p in
-    ap f (gap-none q.left) ∙ subst P (sym is) refl
 
 blank-at : (g : Gap) (all text cs : List ℕ) (i l j : ℕ) → EndsIn all cs → is_blank (slice_index cs 0) ≡ true
     → single (gap_of g (before all (skipped (at cs i l j)).left)) text (skipped (at cs i l j)).left (skipped (at cs i l j)) ≡ single (gap_of g (before all cs)) text cs (at cs i l j)
@@ -39,9 +24,9 @@ break-at : (g : Gap) (xs ys text : List ℕ) (c : ℕ) (cs : List ℕ) (i l j : 
 break-at g xs ys text c cs i l j false apart blank broken =
     let f : Gap → Option Quoted = λ h. single h text cs (skipped (at (c ∷ cs) i l j)) in
     rw (blank, broken, apart) (ap f (gap-break g xs ys))
-break-at g xs ys text c [] i l j true pair blank broken = absurd (let e : (0 == 10) ≡ true = second-of-both (c == 13) (0 == 10) pair in cc)
+break-at g xs ys text c [] i l j true pair blank broken = absurd (let e : (0 == 10) ≡ true = both_second (c == 13) (0 == 10) pair in cc)
 break-at g xs ys text c (d ∷ ds) i l j true pair blank broken =
-    let e : d ≡ 10 = let b : (d == 10) ≡ true = second-of-both (c == 13) (d == 10) pair in grind arith in
+    let e : d ≡ 10 = let b : (d == 10) ≡ true = both_second (c == 13) (d == 10) pair in grind arith in
     let inner : is_blank d ≡ false = rw e refl in
     let other : is_break d ≡ true = rw e refl in
     let alone : is_pair d (slice_index ds 0) ≡ false = rw e refl in
@@ -109,7 +94,7 @@ run-of text (c ∷ cs) i l j inside =
     → single no_gap (text ++ before (c ∷ cs) (passed (is_of SingleQuoted) (c ∷ cs) p).left) (passed (is_of SingleQuoted) (c ∷ cs) p).left (passed (is_of SingleQuoted) (c ∷ cs) p) ≡ single no_gap text (c ∷ cs) p) [
       | true ↦ λ e.
           let o : Ordinary c = ordinary c e in
-          let stop : (is_document_indicator p || c == 0) ≡ false = or_false (is_document_indicator p) (c == 0) (mid-line p inside) o.end in
+          let stop : (is_document_indicator p || c == 0) ≡ false = or_from (is_document_indicator p) (c == 0) (mid-line p inside) o.end in
           let taken : single no_gap text (c ∷ cs) p ≡ single no_gap ((text ++ []) ++ c ∷ []) cs s = rw (o.blank, o.broken, stop, o.sign39) refl in
           let further : 1 ≤ s.col = rw o.feed (omega arith) in
           rw e (ap end (regroup text c cs q.left (passed-ends (is_of SingleQuoted) cs s refl))
@@ -129,7 +114,7 @@ word-at g text (c ∷ cs) i l j blank broken sign end no39 =
     let q : Place = passed (is_of SingleQuoted) cs s in
     let f : List ℕ → Option Quoted = λ t. single no_gap t q.left q in
     let nul : (c == 0) ≡ false = grind arith in
-    let stop : (is_document_indicator p || c == 0) ≡ false = or_false (is_document_indicator p) (c == 0) sign nul in
+    let stop : (is_document_indicator p || c == 0) ≡ false = or_from (is_document_indicator p) (c == 0) sign nul in
     let other39 : (c == 39) ≡ false = grind arith in
     let taken : single g text (c ∷ cs) p ≡ single no_gap ((text ++ joined g) ++ c ∷ []) cs s = rw (blank, broken, stop, other39) refl in
     let feed : (c == 10) ≡ false = or_left (c == 10) (c == 13) broken in
@@ -157,14 +142,9 @@ closed-at g text (c ∷ cs) i l j sign quote alone =
     let broken : is_break c ≡ false = rw quote refl in
     let nul : (c == 0) ≡ false = rw quote refl in
     let is : (c == 39) ≡ true = rw quote refl in
-    let stop : (is_document_indicator (at (c ∷ cs) i l j) || c == 0) ≡ false = or_false (is_document_indicator (at (c ∷ cs) i l j)) (c == 0) sign nul in
+    let stop : (is_document_indicator (at (c ∷ cs) i l j) || c == 0) ≡ false = or_from (is_document_indicator (at (c ∷ cs) i l j)) (c == 0) sign nul in
     let other : (slice_index cs 0 == 39) ≡ false = grind arith in
     rw (blank, broken, stop, is, other) refl
-
--- the closing quote
-pub single-closed : (t : Piece) (g : Gap) (p : Place) → is_document_indicator p ≡ false → slice_index p.left 0 ≡ 39 → slice_index p.left 1 ≢ 39
-    → single_at t g p ≡ quoted_end (gap_of g (before t.behind p.left)) t.text p
-single-closed t g p sign quote alone = closed-at (gap_of g (before t.behind p.left)) t.text p.left p.index p.line p.col sign quote alone
 
 doubled-at : (g : Gap) (text cs : List ℕ) (i l j : ℕ) → is_document_indicator (at cs i l j) ≡ false → slice_index cs 0 ≡ 39 → slice_index cs 1 ≡ 39
     → single no_gap ((text ++ joined g) ++ 39 ∷ []) (skipped (skipped (at cs i l j))).left (skipped (skipped (at cs i l j))) ≡ single g text cs (at cs i l j)
@@ -176,7 +156,7 @@ doubled-at g text (c ∷ d ∷ ds) i l j sign quote twice =
     let nul : (c == 0) ≡ false = rw quote refl in
     let is : (c == 39) ≡ true = rw quote refl in
     let again : (d == 39) ≡ true = rw twice refl in
-    let stop : (is_document_indicator (at (c ∷ d ∷ ds) i l j) || c == 0) ≡ false = or_false (is_document_indicator (at (c ∷ d ∷ ds) i l j)) (c == 0) sign nul in
+    let stop : (is_document_indicator (at (c ∷ d ∷ ds) i l j) || c == 0) ≡ false = or_from (is_document_indicator (at (c ∷ d ∷ ds) i l j)) (c == 0) sign nul in
     rw (blank, broken, stop, is, again) refl
 
 -- two quotes

@@ -1,3 +1,4 @@
+mod Prelude
 pub mod SameValues
 pub mod Ordered
 mod Numerals

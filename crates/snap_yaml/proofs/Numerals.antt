@@ -1,37 +1,21 @@
 -- What `from_str_radix` reads at 64 bits with a sign, in the words of typing.
-use Rattle.std.proofs.Common.{◌≡◌, ℕ, zero, suc, ℤ, pos, negsuc, ◌≤◌, ◌^◌, List, [], ◌∷◌, Bool, true, false, ◌&&◌, ◌||◌, Option, Some, None, nat_lt, refl, sym, ap, ◌∙◌, arith, subst, cond, drop}
-use Rattle.std.specs.Prelude.{IsTrue, if◌then◌else◌, neg_ℤ, ◌==◌}
-use Rattle.std.specs.Char.{digit_value, is_ascii}
-use Rattle.std.specs.List.{list_all}
-use Rattle.std.specs.Str.{chars, IsUtf8}
-use Rattle.std.specs.Str.Parse.{AllDigits, IsNumeral, digits_value, without_leading_sign, signed_digits_value}
-use Rattle.std.proofs.lemmas.Bool.Decides.{nat_tests}
+use Rattle.snap_yaml.proofs.Prelude.{◌≡◌, ℕ, zero, suc, ℤ, pos, negsuc, ◌≤◌, ◌^◌, List, [], ◌∷◌, Bool, true, false, ◌&&◌, ◌||◌, Option, Some, None, nat_lt, refl, sym, ap, ◌∙◌, arith, subst, cond, drop, IsTrue, if◌then◌else◌, neg_ℤ, ◌==◌, digit_value, is_ascii, list_all, chars, IsUtf8, AllDigits, IsNumeral, digits_value, without_leading_sign, signed_digits_value, nat_tests, bytes_are, is_digits_in, is_integer_in, integer_of, and_from, and_parts}
 use borrow.Author.Tests.{ltb-true, lt-ltb}
 use mir.Syntax.{w64}
 use mir.Val.{SFits, to_z, of_z}
 use Rattle.std.proofs.lemmas.Int.{to_z-of_z}
 use Rattle.snap_content.specs.Typed.{number_in, below_zero, has_64_bits}
 use Rattle.snap_content.proofs.Ascii.{IsAscii-list_all, chars-ascii}
-use Rattle.snap_content.proofs.Ends.{bytes_are}
-use Rattle.snap_yaml.specs.Typing.{is_digits_in, is_integer_in, integer_of}
-
-both : (a b : Bool) → (a && b) ≡ true → (a ≡ true) × (b ≡ true)
-both true b h = (refl, h)
-both false b h = absurd (cc)
-
-joined : (a b : Bool) → a ≡ true → b ≡ true → (a && b) ≡ true
-joined true b h k = k
-joined false b h k = h
 
 -- digits, as a test and as a fact
 digits-from_test : (base : ℕ) (cs : List ℕ) → list_all (λ c. nat_lt (digit_value c) base) cs ≡ true → AllDigits base cs
 digits-from_test base [] h = tt
 digits-from_test base (c ∷ cs) h =
-    let p = both (nat_lt (digit_value c) base) _ h in (ltb-true (digit_value c) base p.0, digits-from_test base cs p.1)
+    let p = and_parts (nat_lt (digit_value c) base) _ h in (ltb-true (digit_value c) base p.0, digits-from_test base cs p.1)
 
 test-from_digits : (base : ℕ) (cs : List ℕ) → AllDigits base cs → list_all (λ c. nat_lt (digit_value c) base) cs ≡ true
 test-from_digits base [] h = refl
-test-from_digits base (c ∷ cs) h = joined (nat_lt (digit_value c) base) _ (lt-ltb (digit_value c) base h.0) (test-from_digits base cs h.1)
+test-from_digits base (c ∷ cs) h = and_from (nat_lt (digit_value c) base) _ (lt-ltb (digit_value c) base h.0) (test-from_digits base cs h.1)
 
 numeral-from_test : (base : ℕ) (cs : List ℕ) → is_digits_in base cs ≡ true → IsNumeral base cs
 numeral-from_test base [] h = absurd (cc)
@@ -82,13 +66,13 @@ digits_then false false base c cs = refl
 
 read-from_test : (m p : Bool) (base c : ℕ) (cs : List ℕ) → test m p base c cs ≡ true → IsNumeral base (unsigned m p c cs) × SFits w64 (signed m p base c cs)
 read-from_test m p base c cs h =
-    let q = both (if p || m then is_digits_in base cs else is_digits_in base (c ∷ cs)) (has_64_bits (number m p base c cs)) h in
+    let q = and_parts (if p || m then is_digits_in base cs else is_digits_in base (c ∷ cs)) (has_64_bits (number m p base c cs)) h in
     let P : ℤ → Type 0 = λ z. SFits w64 z in
     (numeral-from_test base (unsigned m p c cs) (sym (digits_then m p base c cs) ∙ q.0), subst P (same_number m p base c cs) (fits-from_test (number m p base c cs) q.1))
 
 test-from_read : (m p : Bool) (base c : ℕ) (cs : List ℕ) → IsNumeral base (unsigned m p c cs) × SFits w64 (signed m p base c cs) → test m p base c cs ≡ true
 test-from_read m p base c cs h =
-    joined (if p || m then is_digits_in base cs else is_digits_in base (c ∷ cs)) (has_64_bits (number m p base c cs))
+    and_from (if p || m then is_digits_in base cs else is_digits_in base (c ∷ cs)) (has_64_bits (number m p base c cs))
     (digits_then m p base c cs ∙ test-from_numeral base (unsigned m p c cs) h.0)
     (ap has_64_bits (same_number m p base c cs) ∙ test-from_fits (signed m p base c cs) h.1)
 
@@ -110,8 +94,8 @@ digit_ascii base c most h = grind (arith, nat_tests)
 digits_ascii : (base : ℕ) (cs : List ℕ) → base ≤ 36 → list_all (λ c. nat_lt (digit_value c) base) cs ≡ true → IsTrue (list_all is_ascii cs)
 digits_ascii base [] most h = refl
 digits_ascii base (c ∷ cs) most h =
-    let p = both (nat_lt (digit_value c) base) _ h in
-    joined (nat_lt c 128) (list_all is_ascii cs) (digit_ascii base c most p.0) (digits_ascii base cs most p.1)
+    let p = and_parts (nat_lt (digit_value c) base) _ h in
+    and_from (nat_lt c 128) (list_all is_ascii cs) (digit_ascii base c most p.0) (digits_ascii base cs most p.1)
 
 digit_text_ascii : (base : ℕ) (cs : List ℕ) → base ≤ 36 → is_digits_in base cs ≡ true → IsTrue (list_all is_ascii cs)
 digit_text_ascii base [] most h = absurd (cc)
@@ -121,13 +105,13 @@ sign_ascii : (c : ℕ) → (c == 43 || c == 45) ≡ true → nat_lt c 128 ≡ tr
 sign_ascii c h = grind (arith, nat_tests)
 
 signed_ascii : (s : Bool) (base c : ℕ) (cs : List ℕ) → base ≤ 36 → (c == 43 || c == 45) ≡ s → (if s then is_digits_in base cs else is_digits_in base (c ∷ cs)) ≡ true → IsTrue (list_all is_ascii (c ∷ cs))
-signed_ascii true base c cs most is h = joined (nat_lt c 128) (list_all is_ascii cs) (sign_ascii c is) (digit_text_ascii base cs most h)
+signed_ascii true base c cs most is h = and_from (nat_lt c 128) (list_all is_ascii cs) (sign_ascii c is) (digit_text_ascii base cs most h)
 signed_ascii false base c cs most is h = digit_text_ascii base (c ∷ cs) most h
 
 integer_ascii : (base : ℕ) (cs : List ℕ) → base ≤ 36 → is_integer_in base cs ≡ true → IsTrue (list_all is_ascii cs)
 integer_ascii base [] most h = refl
 integer_ascii base (c ∷ cs) most h =
-    signed_ascii (c == 43 || c == 45) base c cs most refl (both (if c == 43 || c == 45 then is_digits_in base cs else is_digits_in base (c ∷ cs)) _ h).0
+    signed_ascii (c == 43 || c == 45) base c cs most refl (and_parts (if c == 43 || c == 45 then is_digits_in base cs else is_digits_in base (c ∷ cs)) _ h).0
 
 chosen : (b : Bool) (z : ℤ) → b ≡ true → Some z ≡ (if b then Some z else None)
 chosen true z h = refl

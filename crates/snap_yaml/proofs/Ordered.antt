@@ -1,10 +1,5 @@
 -- The order of lists at their ends: the list that ends first comes first.
-use Rattle.std.proofs.Common.{◌≡◌, List, [], ◌∷◌, length, false, sym, ap, ◌∙◌}
-use Rattle.std.specs.Prelude.{◌==◌}
-use Rattle.std.specs.declared.cmp.Ordering.{Ordering}
-use Rattle.std.specs.declared.cmp.Ordering.TheVariants.{Less}
-use Rattle.snap_yaml.specs.View.{array_values, hash_values}
-use Rattle.snap_yaml.specs.Orders.{values_cmp, pairs_cmp}
+use Rattle.snap_yaml.proofs.Prelude.{◌≡◌, List, [], ◌∷◌, length, false, sym, ap, ◌∙◌, ◌==◌, Ordering, Less, array_values, hash_values, values_cmp, pairs_cmp}
 use Rattle.snap_yaml.specs.declared.yaml.Yaml.{Yaml}
 
 pub values_end : (xs ys : List Yaml) (r : Ordering) → xs ≡ [] → (length ys == 0) ≡ false → values_cmp (array_values xs) (array_values ys) ≡ r → Less ≡ r

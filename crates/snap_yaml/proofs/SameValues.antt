@@ -1,31 +1,10 @@
 -- Values that the order does not tell apart are equal.
-use Rattle.std.proofs.Common.{◌≡◌, ℕ, List, [], ◌∷◌, Bool, true, false, refl, sym, ap, ◌∙◌}
-use Rattle.std.specs.declared.cmp.Ordering.{Ordering}
-use Rattle.std.specs.declared.cmp.Ordering.TheVariants.{Less, Equal, Greater}
+use Rattle.snap_yaml.proofs.Prelude.{◌≡◌, ℕ, List, [], ◌∷◌, Bool, true, false, refl, sym, ap, ◌∙◌, Ordering, Less, Equal, Greater, ranked, int_ranked, value_cmp, values_cmp, pairs_cmp}
 use Rattle.std.specs.Ordering.{ordering_then, nat_cmp, bool_cmp, is_eq}
-use Rattle.std.proofs.lemmas.Cmp.{ranked, int_ranked}
 use mathlib.Core.Bool.{true≢false}
 use Rattle.snap_content.specs.Orders.{text_cmp}
 use Rattle.snap_yaml.specs.Value as v
-use Rattle.snap_yaml.specs.Orders.{value_cmp, values_cmp, pairs_cmp}
-
-both : (a b : Ordering) → ordering_then a b ≡ Equal → (a ≡ Equal) × (b ≡ Equal)
-both Less b h = absurd (true≢false (sym (ap is_eq h)))
-both Equal b h = (refl, h)
-both Greater b h = absurd (true≢false (sym (ap is_eq h)))
-
-same_truth : (b c : Bool) → bool_cmp b c ≡ Equal → b ≡ c
-same_truth false false h = refl
-same_truth true true h = refl
-same_truth false true h = absurd (true≢false (sym (ap is_eq h)))
-same_truth true false h = absurd (true≢false (sym (ap is_eq h)))
-
-same_text : (s u : List ℕ) → text_cmp s u ≡ Equal → s ≡ u
-same_text [] [] h = refl
-same_text [] (d ∷ ds) h = absurd (true≢false (sym (ap is_eq h)))
-same_text (c ∷ cs) [] h = absurd (true≢false (sym (ap is_eq h)))
-same_text (c ∷ cs) (d ∷ ds) h =
-    let p = both (nat_cmp c d) (text_cmp cs ds) h in ap (λ x. x ∷ cs) (ranked c d Equal (sym p.0)) ∙ ap (λ xs. d ∷ xs) (same_text cs ds p.1)
+use Rattle.snap_content.proofs.SameTrees.{same_text, same_truth, both}
 
 mutual
   pub same_value : (a b : v.Value) → value_cmp a b ≡ Equal → a ≡ b

@@ -1,26 +1,11 @@
 -- A reader of trees types each scalar as a loader does, and takes kept numbers for whole ones where they are.
-use Rattle.std.proofs.Common.{◌≡◌, ℕ, zero, suc, ◌+◌, ◌-◌, ◌*◌, ◌^◌, ◌≤◌, ℤ, pos, negsuc, List, [], ◌∷◌, Bool, true, false, ◌||◌, ◌&&◌, not, Option, Some, None, if◌then◌else◌, nat_lt, refl, sym, ap, ◌∙◌, arith, drop}
-use Rattle.std.specs.Prelude.{◌==◌, nat_le, codes}
-use Rattle.std.specs.Char.{digit_value, is_ascii_digit}
-use Rattle.std.specs.List.{list_all}
-use Rattle.std.specs.Str.{bytes_eq}
-use Rattle.std.specs.Str.Parse.{digits_value, digits_value_after}
-use Rattle.std.proofs.lemmas.Bool.Decides.{nat_tests}
+use Rattle.snap_yaml.proofs.Prelude.{◌≡◌, ℕ, zero, suc, ◌+◌, ◌-◌, ◌*◌, ◌^◌, ◌≤◌, ℤ, pos, negsuc, List, [], ◌∷◌, Bool, true, false, ◌||◌, ◌&&◌, not, Option, Some, None, if◌then◌else◌, nat_lt, refl, sym, ap, ◌∙◌, arith, drop, ◌==◌, nat_le, codes, digit_value, is_ascii_digit, list_all, bytes_eq, digits_value, digits_value_after, nat_tests, is_digits_in, is_integer_in, integer_of, prefixed_number, is_real_text, integer_or, typed_number, typed_word, typed_yaml, and_from, and_parts}
 use Rattle.snap_content.specs.Numbers as n
 use Rattle.snap_content.specs.Plain as p
 use Rattle.snap_content.specs.Typed as t
 use Rattle.snap_print.proofs.Digits.{digits_decimal}
 use Rattle.snap_yaml.specs.Value as v
 use Rattle.snap_yaml.specs.Through.{plain_typed}
-use Rattle.snap_yaml.specs.Typing.{is_digits_in, is_integer_in, integer_of, prefixed_number, is_real_text, integer_or, typed_number, typed_word, typed_yaml}
-
-both : (a b : Bool) → (a && b) ≡ true → (a ≡ true) × (b ≡ true)
-both true b h = (refl, h)
-both false b h = absurd (cc)
-
-joined : (a b : Bool) → a ≡ true → b ≡ true → (a && b) ≡ true
-joined true b h k = k
-joined false b h k = h
 
 grouped : (a b c : Bool) → (a && (b && c)) ≡ ((a && b) && c)
 grouped true b c = refl
@@ -154,7 +139,7 @@ marked (c ∷ d ∷ cs) rest =
     (t.number_in 16 cs) (t.number_in 8 cs) (t.number_in 10 (d ∷ cs)) rest (apart c 43 48 refl) (apart d 120 111 refl))
 
 -- a whole number is a number
-digit_test : (c : ℕ) → nat_lt (digit_value c) 10 ≡ is_ascii_digit c
+pub digit_test : (c : ℕ) → nat_lt (digit_value c) 10 ≡ is_ascii_digit c
 digit_test c = grind (arith, nat_tests)
 
 all_digits : (cs : List ℕ) → list_all (λ c. nat_lt (digit_value c) 10) cs ≡ list_all is_ascii_digit cs
@@ -177,8 +162,8 @@ wider (negsuc m) h = grind (arith, nat_tests)
 is_whole : (w : List ℕ) → is_integer_in 10 w ≡ true → (n.is_integer_text w && t.has_128_bits (t.number_in 10 w)) ≡ true
 is_whole [] h = absurd (cc)
 is_whole (c ∷ cs) h =
-    let q = both (if c == 43 || c == 45 then is_digits_in 10 cs else is_digits_in 10 (c ∷ cs)) (t.has_64_bits (t.number_in 10 (c ∷ cs))) h in
-    joined (n.is_integer_text (c ∷ cs)) (t.has_128_bits (t.number_in 10 (c ∷ cs)))
+    let q = and_parts (if c == 43 || c == 45 then is_digits_in 10 cs else is_digits_in 10 (c ∷ cs)) (t.has_64_bits (t.number_in 10 (c ∷ cs))) h in
+    and_from (n.is_integer_text (c ∷ cs)) (t.has_128_bits (t.number_in 10 (c ∷ cs)))
     (if_along (c == 43 || c == 45) (is_digits_in 10 cs) (is_digits_in 10 (c ∷ cs)) (n.is_digits cs) (n.is_digits (c ∷ cs)) (same_digits cs) (same_digits (c ∷ cs)) q.0)
     (wider (t.number_in 10 (c ∷ cs)) q.1)
 
@@ -220,7 +205,7 @@ number_through : (w : List ℕ)
 number_through w =
     let k : Bool = n.is_integer_text w && t.has_128_bits (t.number_in 10 w) in
     numbers (is_integer_in 10 w) k (is_real_text w) (t.number_in 10 w) (t.value (p.text w)) (is_whole w)
-    (λ h. is_number w (both (n.is_integer_text w) (t.has_128_bits (t.number_in 10 w)) h).0)
+    (λ h. is_number w (and_parts (n.is_integer_text w) (t.has_128_bits (t.number_in 10 w)) h).0)
     ∙ ap (or_typed (integer_of 10 w)) (through_if (is_real_text w) (v.real w) (v.string w)) ∙ through_or (integer_of 10 w) (if is_real_text w then v.real w else v.string w)
 
 word_through : (w : List ℕ)

@@ -1,8 +1,7 @@
 -- One level of a value, where the search is given the equation, and the items of an array.
-use Rattle.std.proofs.Common.{◌≡◌, ℕ, List, [], ◌∷◌, map, Option, Some, None, refl, sym, ap, ◌∙◌, rules, option_map, slice_get, option_copied, Bor}
+use Rattle.snap_yaml.proofs.Prelude.{◌≡◌, ℕ, List, [], ◌∷◌, map, Option, Some, None, refl, sym, ap, ◌∙◌, rules, option_map, slice_get, option_copied, Bor, value_of, array_list, array_values, Array}
 use Rattle.std.proofs.lemmas.Option.{slice_get-map}
 use Rattle.snap_yaml.specs.Value as v
-use Rattle.snap_yaml.specs.View.{value_of, array_list, array_values, Array}
 use Rattle.snap_yaml.specs.Readers.{listed, array_in, items_in}
 use Rattle.snap_yaml.specs.declared.yaml.Yaml as y
 

@@ -102,10 +102,7 @@ fn compare_hashes(hash: &Hash, other: &Hash) -> Ordering
     for (key, found) in hash.as_slice() {
         match rest {
             [] => return Ordering::Greater,
-            [first, later @ ..] => match in_turn!(
-                key.compare(&first.0),
-                found.compare(&first.1)
-            ) {
+            [first, later @ ..] => match in_turn!(key.compare(&first.0), found.compare(&first.1)) {
                 Ordering::Equal => rest = later,
                 unequal => return unequal,
             },

@@ -1,5 +1,4 @@
-use Rattle.std.proofs.Common.{sym, ◌∙◌}
-use Rattle.std.proofs.lemmas.List.{drop_all}
+use Rattle.snap_content.proofs.Prelude.{sym, ◌∙◌, drop_all}
 use Rattle.snap_content.proofs.Ordered.{struct_order, struct_variant_order, items_end, pairs_end, fields_end}
 use Rattle.snap_content.proofs.+order.Goals as goal
 

@@ -1,6 +1,4 @@
-use Rattle.std.proofs.Common.{◌≡◌, drop}
-use Rattle.snap_content.specs.View.{item_list, item_trees, pair_list, pair_trees, field_list, field_trees}
-use Rattle.snap_content.specs.Orders.{trees_cmp, pairs_cmp, fields_cmp}
+use Rattle.snap_content.proofs.Prelude.{◌≡◌, drop, item_list, item_trees, pair_list, pair_trees, field_list, field_trees, trees_cmp, pairs_cmp, fields_cmp}
 use Rattle.snap_content.proofs.+order.Given as goal
 
 -- what is left compares as the whole does

@@ -1,7 +1,4 @@
-use Rattle.std.proofs.Common.{rules, ◌≤◌, ◌+◌, ◌∙◌, map, arith, refl, inl, length-set}
-use Rattle.snap_content.specs.Sorted.{InKeyOrder, AsBeforeOrInKeyOrder}
-use Rattle.snap_content.specs.View.{tree, item_trees, pair_tree, pair_trees, field_trees}
-use Rattle.snap_content.specs.Count.{count, count_items, count_pairs, count_fields}
+use Rattle.snap_content.proofs.Prelude.{rules, ◌≤◌, ◌+◌, ◌∙◌, map, arith, refl, inl, length-set, InKeyOrder, AsBeforeOrInKeyOrder, tree, item_trees, pair_tree, pair_trees, field_trees, count, count_items, count_pairs, count_fields}
 use Rattle.snap_content.proofs.Joined.{left_turn, count_left, count_pairs_left, count_fields_left}
 use Rattle.snap_content.proofs.Rearrangements.{items_turn, items_end, items_stop, pairs_turn, pairs_end, pairs_stop, fields_turn, fields_end, fields_stop, map_moved, unmoved}
 use Rattle.snap_content.proofs.+sort.Goals as goal

@@ -1,8 +1,5 @@
-use Rattle.std.proofs.Common.{◌≡◌, ◌+◌, ◌*◌, List, ◌++◌, map, take, drop, length}
+use Rattle.snap_content.proofs.Prelude.{◌≡◌, ◌+◌, ◌*◌, List, ◌++◌, map, take, drop, length, tree, item_list, item_trees, pair_tree, pair_list, pair_trees, field_list, field_trees, Entry, InKeyOrder, AsBeforeOrInKeyOrder, ItemsRearranged, PairsRearranged, FieldsRearranged, count, count_items, count_pairs, count_fields}
 use Rattle.snap_content.specs.Tree as t
-use Rattle.snap_content.specs.View.{tree, item_list, item_trees, pair_tree, pair_list, pair_trees, field_list, field_trees}
-use Rattle.snap_content.specs.Sorted.{Entry, InKeyOrder, AsBeforeOrInKeyOrder, ItemsRearranged, PairsRearranged, FieldsRearranged}
-use Rattle.snap_content.specs.Count.{count, count_items, count_pairs, count_fields}
 use Rattle.snap_content.proofs.Joined.{joined, joined_fields}
 use Rattle.snap_content.proofs.+sort.Given as goal
 

@@ -1,8 +1,4 @@
-use Rattle.std.proofs.Common.{◌≡◌, true, rules, of_calls, refl, ◌≤◌, ◌+◌, arith, length-set}
-use Rattle.snap_content.specs.View.{tree, item_trees, pair_trees, field_trees}
-use Rattle.snap_content.specs.Count.{count, count_items, count_pairs, count_fields, is_leaf}
-use Rattle.snap_content.specs.Walked.{in_leaf}
-use Rattle.snap_content.specs.declared.content.Content.{the_lemmas}
+use Rattle.snap_content.proofs.Prelude.{◌≡◌, true, rules, of_calls, refl, ◌≤◌, ◌+◌, arith, length-set, tree, item_trees, pair_trees, field_trees, count, count_items, count_pairs, count_fields, is_leaf, in_leaf, the_lemmas}
 use Rattle.snap_content.proofs.Visits.{shrinks_at, walked_on, walked_off, some_walked, newtype_struct_walked, newtype_variant_walked, seq_walked, tuple_walked, tuple_struct_walked, tuple_variant_walked, map_walked, struct_walked, struct_variant_walked}
 use Rattle.snap_content.proofs.WalkTurns.{count-set, count_at, count_pairs-set, count_pairs_at, count_fields-set, count_fields_at, items_turn, items_end, pairs_turn, pairs_end, fields_turn, fields_end}
 use Rattle.snap_content.proofs.+walk.Goals as goal

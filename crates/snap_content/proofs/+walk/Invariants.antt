@@ -1,8 +1,5 @@
-use Rattle.std.proofs.Common.{◌≡◌, ◌≤◌, ◌+◌, ◌*◌, take, drop, length}
+use Rattle.snap_content.proofs.Prelude.{◌≡◌, ◌≤◌, ◌+◌, ◌*◌, take, drop, length, tree, item_list, item_trees, pair_list, pair_trees, field_list, field_trees, count, count_items, count_pairs, count_fields, Calls, ItemsWalked, PairsWalked, FieldsWalked}
 use Rattle.snap_content.specs.Tree as t
-use Rattle.snap_content.specs.View.{tree, item_list, item_trees, pair_list, pair_trees, field_list, field_trees}
-use Rattle.snap_content.specs.Count.{count, count_items, count_pairs, count_fields}
-use Rattle.snap_content.specs.Walked.{Calls, ItemsWalked, PairsWalked, FieldsWalked}
 use Rattle.snap_content.proofs.Joined.{joined, joined_pairs, joined_fields}
 use Rattle.snap_content.proofs.+walk.Given as goal
 

@@ -1,5 +1,4 @@
-use Rattle.std.proofs.Common.{◌≡◌, take, map}
-use Rattle.snap_yaml.specs.View.{value_of, array_list, pair_value, hash_list}
+use Rattle.snap_yaml.proofs.Prelude.{◌≡◌, take, map, value_of, array_list, pair_value, hash_list}
 use Rattle.snap_yaml.proofs.+clone.Given as goal
 
 abbrev pub invariant-clone::clone_array-loop-item : goal.invariant-clone::clone_array-loop-item

@@ -1,4 +1,4 @@
-use Rattle.std.proofs.Common.{sym, ◌∙◌}
+use Rattle.snap_yaml.proofs.Prelude.{sym, ◌∙◌}
 use Rattle.std.proofs.lemmas.List.{drop_all}
 use Rattle.snap_yaml.proofs.Ordered.{values_end, pairs_end}
 use Rattle.snap_yaml.proofs.+order.Goals as goal

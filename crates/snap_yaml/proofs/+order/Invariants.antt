@@ -1,6 +1,4 @@
-use Rattle.std.proofs.Common.{◌≡◌, drop}
-use Rattle.snap_yaml.specs.View.{array_list, array_values, hash_list, hash_values}
-use Rattle.snap_yaml.specs.Orders.{values_cmp, pairs_cmp}
+use Rattle.snap_yaml.proofs.Prelude.{◌≡◌, drop, array_list, array_values, hash_list, hash_values, values_cmp, pairs_cmp}
 use Rattle.snap_yaml.proofs.+order.Given as goal
 
 -- what is left compares as the whole does

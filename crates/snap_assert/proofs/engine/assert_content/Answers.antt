@@ -1,15 +1,6 @@
-use Rattle.std.proofs.Common.{◌≡◌, ◌∙◌, List, ℕ, sym, ap, subst}
-use Rattle.std.proofs.lemmas.Result.{IfOk-weaker}
+use Rattle.snap_assert.proofs.Prelude.{◌≡◌, ◌∙◌, List, ℕ, sym, ap, subst, IfOk-weaker, assertion_of, KeptBy, NamesOwn, IsAnswered, empty_session, settings_of, place_of, asked_path, some_same}
 use Rattle.std.specs.Option.{option_copied}
-use Rattle.snap_assert.specs.Assertions.{assertion_of}
-use Rattle.snap_assert.specs.Kept.{KeptBy, NamesOwn}
-use Rattle.snap_assert.specs.Outcomes.{IsAnswered}
-use Rattle.snap_assert.specs.Session.{empty_session}
-use Rattle.snap_settings.specs.Settings.{settings_of}
-use Rattle.snap_place.specs.Place.{place_of}
-use Rattle.snap_assert.specs.Steps.{asked_path}
 use Rattle.snap_assert.proofs.engine.assert_content.Goals as goal
-use Rattle.snap_content.proofs.Booleans.{some_same}
 
 pub returns-in-Some-clause-answered : goal.returns-in-Some-clause-answered
 returns-in-Some-clause-answered g c =

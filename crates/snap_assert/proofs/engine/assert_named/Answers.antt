@@ -1,5 +1,4 @@
-use Rattle.std.proofs.Common.{refl}
-use Rattle.std.proofs.lemmas.Result.{IfOk-weaker}
+use Rattle.snap_assert.proofs.Prelude.{refl, IfOk-weaker}
 use Rattle.snap_content.specs.View.{tree}
 use Rattle.snap_assert.proofs.Settling.{kept_unwritten}
 use Rattle.snap_assert.proofs.engine.assert_named.Goals as goal

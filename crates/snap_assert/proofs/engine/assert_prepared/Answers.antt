@@ -1,5 +1,4 @@
-use Rattle.std.proofs.Common.{◌∙◌, sym, subst}
-use Rattle.snap_assert.specs.Strays.{AreStrays, AllStray}
+use Rattle.snap_assert.proofs.Prelude.{◌∙◌, sym, subst, AreStrays, AllStray}
 use Rattle.snap_assert.proofs.Settling.{kept_unwritten}
 use Rattle.snap_assert.proofs.engine.assert_prepared.Goals as goal
 

@@ -1,4 +1,4 @@
-use Rattle.std.proofs.Common.{refl}
+use Rattle.snap_assert.proofs.Prelude.{refl}
 use Rattle.snap_assert.proofs.Answering.{answered}
 use Rattle.snap_assert.proofs.Settling.{has_text, kept_unwritten}
 use Rattle.snap_assert.proofs.engine.assert_printed.Goals as goal

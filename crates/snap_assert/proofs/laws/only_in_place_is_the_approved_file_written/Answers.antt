@@ -1,4 +1,4 @@
-use Rattle.std.proofs.Common.{refl}
+use Rattle.snap_assert.proofs.Prelude.{refl}
 use Rattle.snap_assert.proofs.ApprovedPaths.{unchanged_beside, unchanged_without, unwritten_in_place}
 use Rattle.snap_assert.proofs.laws.only_in_place_is_the_approved_file_written.Goals as goal
 

@@ -1,6 +1,4 @@
-use Rattle.std.proofs.Common.{◌∙◌, ◌++◌, ap, codes}
-use Rattle.snap_settings.specs.Settings.{settings_of}
-use Rattle.snap_place.specs.Place.{place_of}
+use Rattle.snap_assert.proofs.Prelude.{◌∙◌, ◌++◌, ap, codes, settings_of, place_of}
 use Rattle.snap_place.proofs.FilePaths.{path_of-file}
 use Rattle.snap_assert.proofs.prepare.prepare.Goals as goal
 

@@ -1,5 +1,4 @@
-use Rattle.std.proofs.Common.{◌∙◌, ap, sym, Some}
-use Rattle.snap_assert.specs.Removed.{is_among}
+use Rattle.snap_assert.proofs.Prelude.{◌∙◌, ap, sym, Some, is_among}
 use Rattle.snap_assert.proofs.Keeping.{kept_removed_each, kept_one_more, among_at}
 use Rattle.snap_assert.proofs.Removals.{one_more, all_gone}
 use Rattle.snap_assert.proofs.removal.remove_files.Goals as goal

@@ -1,6 +1,4 @@
-use Rattle.std.proofs.Common.{◌≡◌, Some, take}
-use Rattle.snap_outside.specs.Files.{Files}
-use Rattle.snap_assert.specs.Removed.{remove_each}
+use Rattle.snap_assert.proofs.Prelude.{◌≡◌, Some, take, Files, remove_each}
 use Rattle.snap_assert.proofs.removal.remove_files.Given as goal
 
 abbrev pub invariant-loop-path : goal.invariant-loop-path

@@ -1,4 +1,4 @@
-use Rattle.std.proofs.Common.{refl}
+use Rattle.snap_assert.proofs.Prelude.{refl}
 use Rattle.snap_assert.proofs.Settling.{untaken_alone, removed_alone, gone_alone}
 use Rattle.snap_assert.proofs.settle.approve.Goals as goal
 

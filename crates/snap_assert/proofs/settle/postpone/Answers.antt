@@ -1,5 +1,5 @@
 use Rattle.snap_assert.proofs.Settling.{postponed, saved_alone, stopped_alone}
-use Rattle.snap_assert.specs.Steps.{pending_path}
+use Rattle.snap_assert.proofs.Prelude.{pending_path}
 use Rattle.snap_assert.proofs.settle.postpone.Goals as goal
 
 pub returns-in-Ok-clause-ok : goal.returns-in-Ok-clause-ok

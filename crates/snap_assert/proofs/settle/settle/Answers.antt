@@ -1,6 +1,4 @@
-use Rattle.std.proofs.Common.{◌∙◌, ap, sym, true, Some}
-use Rattle.std.proofs.lemmas.Result.{on_ok_weaker}
-use Rattle.snap_assert.specs.Steps.{step}
+use Rattle.snap_assert.proofs.Prelude.{◌∙◌, ap, sym, true, Some, on_ok_weaker, step}
 use Rattle.snap_assert.proofs.Settling.{cleared_is, passed_is, kept_clearing, kept_approving, kept_at, kept_both, own_strays, own_wait, own_at}
 use Rattle.snap_assert.proofs.settle.settle.Goals as goal
 

@@ -1,5 +1,4 @@
-use Rattle.std.proofs.Common.{refl, sym, subst}
-use Rattle.snap_assert.specs.Kept.{KeptBy}
+use Rattle.snap_assert.proofs.Prelude.{refl, sym, subst, KeptBy}
 use Rattle.snap_assert.proofs.Settling.{kept_updating, kept_postponing, kept_unwritten, own_path, own_wait, names_own, named_at}
 use Rattle.snap_assert.proofs.settle.write_by.Goals as goal
 

@@ -1,4 +1,4 @@
-use Rattle.std.specs.Str.{chars}
+use Rattle.snap_assert.proofs.Prelude.{chars}
 use Rattle.snap_assert.proofs.StrayPaths.{no_longer, not_behind, not_new, behind_new}
 use Rattle.snap_assert.proofs.strays.is_stray_name.Goals as goal
 

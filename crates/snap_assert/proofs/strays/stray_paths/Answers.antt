@@ -1,8 +1,4 @@
-use Rattle.std.proofs.Common.{◌∙◌, ap, sym, map}
-use Rattle.std.specs.List.{filter}
-use Rattle.std.specs.Str.{chars}
-use Rattle.snap_path.specs.Paths.{joined}
-use Rattle.snap_assert.specs.Steps.{is_stray}
+use Rattle.snap_assert.proofs.Prelude.{◌∙◌, ap, sym, map, filter, chars, joined, is_stray}
 use Rattle.snap_assert.proofs.StrayPaths.{in_any_order, all_stray}
 use Rattle.snap_assert.proofs.strays.stray_paths.Goals as goal
 

@@ -1,8 +1,4 @@
-use Rattle.std.proofs.Common.{◌≡◌, map, take}
-use Rattle.std.specs.List.{filter}
-use Rattle.std.specs.Str.{chars}
-use Rattle.snap_path.specs.Paths.{joined}
-use Rattle.snap_assert.specs.Steps.{is_stray}
+use Rattle.snap_assert.proofs.Prelude.{◌≡◌, map, take, filter, chars, joined, is_stray}
 use Rattle.snap_assert.proofs.strays.strays_among.Given as goal
 
 abbrev pub invariant-loop-name : goal.invariant-loop-name

@@ -1,14 +1,6 @@
-use Rattle.std.proofs.Common.{◌∙◌, ℕ, List, codes, refl, subst, Ok}
+use Rattle.snap_block.proofs.Prelude.{◌∙◌, ℕ, List, codes, refl, subst, Ok, Mark, Place, BlockScalar, Lines, between, header_from, with_breaks, Passes, IsRefusedOpening, ReadsLines}
 use Rattle.snap_token.specs.Causes.{IsRefusedBy}
-use Rattle.snap_token.specs.Mark.{Mark}
-use Rattle.snap_token.specs.Place.{Place}
 use Rattle.snap_token.proofs.Explained.{explained}
-use Rattle.snap_block.specs.declared.block_scalar.BlockScalar.{BlockScalar}
-use Rattle.snap_block.specs.declared.lines.Lines.{Lines}
-use Rattle.snap_block.specs.Block.{between}
-use Rattle.snap_block.specs.Header.{header_from}
-use Rattle.snap_block.specs.Lines.{with_breaks}
-use Rattle.snap_block.specs.Steps.{Passes, IsRefusedOpening, ReadsLines}
 use Rattle.snap_block.proofs.Blocks.{Begun, refused-opening, block-read}
 use Rattle.snap_block.proofs.block_scalar.scan_block_scalar.Goals as goal
 

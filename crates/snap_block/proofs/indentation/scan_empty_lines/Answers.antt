@@ -1,8 +1,4 @@
-use Rattle.std.proofs.Common.{◌≡◌, ◌∙◌, ◌++◌, ℕ, List, [], ◌∷◌, Bool, true, nat_lt, slice_index, sym, ap, subst, arith}
-use Rattle.snap_token.specs.Characters.{is_break}
-use Rattle.snap_token.specs.Mark.{Mark}
-use Rattle.snap_token.specs.Place.{Place}
-use Rattle.snap_block.specs.Lines.{with_breaks}
+use Rattle.snap_block.proofs.Prelude.{◌≡◌, ◌∙◌, ◌++◌, ℕ, List, [], ◌∷◌, Bool, true, nat_lt, slice_index, sym, ap, subst, arith, is_break, Mark, Place, with_breaks}
 use Rattle.snap_block.proofs.Between.{between_at, between-tab, between-break, opened-break}
 use Rattle.snap_block.proofs.indentation.scan_empty_lines.Goals as goal
 

@@ -1,6 +1,4 @@
-use Rattle.std.proofs.Common.{◌≡◌, ◌≤◌, ◌+◌, length}
-use Rattle.snap_token.specs.Place.{Place, Later}
-use Rattle.snap_block.specs.Steps.{Passes}
+use Rattle.snap_block.proofs.Prelude.{◌≡◌, ◌≤◌, ◌+◌, length, Place, Later, Passes}
 use Rattle.snap_block.proofs.indentation.scan_empty_lines.Given as goal
 
 abbrev pub invariant-lines : goal.invariant-lines

@@ -1,9 +1,4 @@
-use Rattle.std.proofs.Common.{◌≡◌, ◌≢◌, ◌≤◌, ◌==◌, ◌∙◌, ◌++◌, max, ℕ, List, [], ◌∷◌, true, false, slice_index, refl, sym, ap, subst, arith}
-use Rattle.snap_token.specs.Characters.{is_break}
-use Rattle.snap_token.specs.Mark.{Mark}
-use Rattle.snap_token.specs.Place.{Place}
-use Rattle.snap_block.specs.Block.{first_sign}
-use Rattle.snap_block.specs.Lines.{with_breaks}
+use Rattle.snap_block.proofs.Prelude.{◌≡◌, ◌≢◌, ◌≤◌, ◌==◌, ◌∙◌, ◌++◌, max, ℕ, List, [], ◌∷◌, true, false, slice_index, refl, sym, ap, subst, arith, is_break, Mark, Place, first_sign, with_breaks}
 use Rattle.snap_block.proofs.Between.{between_at, between-break, opened-break}
 use Rattle.snap_block.proofs.Leading.{widest_at, widest-run, first-run, between-run, opened-run, widest-break, first-break, widest-end, first-end}
 use Rattle.snap_block.proofs.indentation.scan_leading_lines.Goals as goal

@@ -1,7 +1,4 @@
-use Rattle.std.proofs.Common.{◌≡◌, ◌≤◌, ◌+◌, ℕ, max, length}
-use Rattle.snap_token.specs.Place.{Place, Later}
-use Rattle.snap_block.specs.Block.{widest, first_sign}
-use Rattle.snap_block.specs.Steps.{Passes}
+use Rattle.snap_block.proofs.Prelude.{◌≡◌, ◌≤◌, ◌+◌, ℕ, max, length, Place, Later, widest, first_sign, Passes}
 use Rattle.snap_block.proofs.indentation.scan_leading_lines.Given as goal
 
 abbrev pub invariant-lines : goal.invariant-lines

@@ -1,4 +1,4 @@
-use Rattle.std.proofs.Common.{arith}
+use Rattle.snap_block.proofs.Prelude.{arith}
 use Rattle.snap_block.proofs.indentation.scan_opening.Goals as goal
 
 pub returns-in-Ok-scan_leading_lines-clause-value : goal.returns-in-Ok-scan_leading_lines-clause-value

@@ -1,7 +1,4 @@
-use Rattle.std.proofs.Common.{◌≡◌, ◌∙◌, ℕ, Bool, true, nat_lt, slice_index, sym, ap, arith}
-use Rattle.snap_token.specs.Mark.{Mark}
-use Rattle.snap_token.specs.Place.{Place}
-use Rattle.snap_block.specs.Lines.{with_breaks}
+use Rattle.snap_block.proofs.Prelude.{◌≡◌, ◌∙◌, ℕ, Bool, true, nat_lt, slice_index, sym, ap, arith, Mark, Place, with_breaks}
 use Rattle.snap_block.proofs.Between.{between-space, opened-space}
 use Rattle.snap_block.proofs.indentation.skip_indentation.Goals as goal
 

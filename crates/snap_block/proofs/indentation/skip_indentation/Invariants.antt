@@ -1,6 +1,4 @@
-use Rattle.std.proofs.Common.{◌≡◌, ◌≤◌, ◌+◌, ℕ, List, length}
-use Rattle.snap_token.specs.Place.{Place, Later}
-use Rattle.snap_block.specs.Steps.{Passes}
+use Rattle.snap_block.proofs.Prelude.{◌≡◌, ◌≤◌, ◌+◌, ℕ, List, length, Place, Later, Passes}
 use Rattle.snap_block.proofs.indentation.skip_indentation.Given as goal
 
 abbrev pub invariant-spaces : goal.invariant-spaces

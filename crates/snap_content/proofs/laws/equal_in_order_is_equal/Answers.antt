@@ -1,7 +1,4 @@
-use Rattle.std.proofs.Common.{ap, ◌∙◌}
-use Rattle.std.proofs.lemmas.Cmp.{tied_itself}
-use Rattle.snap_content.specs.Orders.{tree_cmp}
-use Rattle.snap_content.specs.TotalOrder.{tree_total}
+use Rattle.snap_content.proofs.Prelude.{ap, ◌∙◌, tied_itself, tree_cmp, tree_total}
 use Rattle.snap_content.proofs.SameTrees.{same_tree}
 use Rattle.snap_content.proofs.laws.equal_in_order_is_equal.Goals as goal
 

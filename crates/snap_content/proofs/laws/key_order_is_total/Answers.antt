@@ -1,4 +1,4 @@
-use Rattle.snap_content.specs.KeyLaws.{key_total}
+use Rattle.snap_content.proofs.Prelude.{key_total}
 use Rattle.snap_content.proofs.laws.key_order_is_total.Goals as goal
 
 pub returns : goal.returns

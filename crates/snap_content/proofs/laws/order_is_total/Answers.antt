@@ -1,4 +1,4 @@
-use Rattle.snap_content.specs.TotalOrder.{tree_total}
+use Rattle.snap_content.proofs.Prelude.{tree_total}
 use Rattle.snap_content.proofs.laws.order_is_total.Goals as goal
 
 pub returns : goal.returns

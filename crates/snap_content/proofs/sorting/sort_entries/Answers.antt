@@ -1,8 +1,4 @@
-use Rattle.std.proofs.Common.{rules, inr}
-use Rattle.std.proofs.lemmas.List.Sorted.{ranks_by, answers_always}
-use Rattle.std.specs.Cmp.{IsStrictWeakOrder}
-use Rattle.snap_content.specs.KeyLaws.{key_total}
-use Rattle.snap_content.specs.View.{tree}
+use Rattle.snap_content.proofs.Prelude.{rules, inr, ranks_by, answers_always, IsStrictWeakOrder, key_total, tree}
 use Rattle.snap_content.proofs.KeyOrdered.{content_before, in_key_order}
 use Rattle.snap_content.proofs.sorting.sort_entries.Goals as goal
 

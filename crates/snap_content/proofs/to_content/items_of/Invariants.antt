@@ -1,5 +1,4 @@
-use Rattle.std.proofs.Common.{◌≡◌, take, map}
-use Rattle.snap_content.specs.View.{tree, item_list}
+use Rattle.snap_content.proofs.Prelude.{◌≡◌, take, map, tree, item_list}
 use Rattle.snap_content.proofs.to_content.items_of.Given as goal
 
 -- the trees of the values so far

@@ -1,6 +1,4 @@
-use Rattle.std.proofs.Common.{List, length, sym, ap, subst, arith}
-use Rattle.std.specs.Vec.Iter.{into_iter_items, into_iter_len}
-use Rattle.snap_content.specs.declared.content.Content.{Content}
+use Rattle.snap_emit.proofs.Prelude.{List, length, sym, ap, subst, arith, into_iter_items, into_iter_len, Content}
 use Rattle.snap_emit.proofs.PlainRead.{AreMade, ArePairsMade, hash-none, hash-some, hash-found, none-made, one-made, never-made, all-made, none-found, one-found, all-found, no-pairs-made, one-pair-made, key-never-made, value-never-made, all-pairs-made, none-found-in, one-found-in, all-found-in, nothing-left}
 use Rattle.snap_emit.proofs.from_value.+from_value.Goals as goal
 

@@ -1,5 +1,4 @@
-use Rattle.std.proofs.Common.{◌≡◌, length}
-use Rattle.std.specs.Vec.Iter.{into_iter_items, into_iter_len}
+use Rattle.snap_emit.proofs.Prelude.{◌≡◌, length, into_iter_items, into_iter_len}
 use Rattle.snap_emit.proofs.PlainRead.{AreMade, ArePairsMade, AreFound, AreFoundIn}
 use Rattle.snap_emit.proofs.from_value.+from_value.Given as goal
 

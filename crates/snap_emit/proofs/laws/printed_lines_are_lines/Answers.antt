@@ -1,4 +1,4 @@
-use Rattle.snap_print.proofs.LineFacts.{printed_lines}
+use Rattle.snap_emit.proofs.Prelude.{printed_lines}
 use Rattle.snap_emit.proofs.laws.printed_lines_are_lines.Goals as goal
 
 pub returns : goal.returns

@@ -1,4 +1,4 @@
-use Rattle.snap_print.proofs.Typing.{typed_word}
+use Rattle.snap_emit.proofs.Prelude.{typed_word}
 use Rattle.snap_emit.proofs.laws.words_are_typed.Goals as goal
 
 pub returns : goal.returns

@@ -1,4 +1,4 @@
-use Rattle.std.proofs.Common.{refl}
+use Rattle.snap_emit.proofs.Prelude.{refl}
 use Rattle.snap_emit.proofs.laws.worked_examples.Goals as goal
 
 pub returns-clause-marked : goal.returns-clause-marked

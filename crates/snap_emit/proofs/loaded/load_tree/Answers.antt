@@ -1,4 +1,4 @@
-use Rattle.snap_yaml.specs.View.{value_of}
+use Rattle.snap_emit.proofs.Prelude.{value_of}
 use Rattle.snap_emit.proofs.Parsing.{loaded-plain, loaded-tree, loaded-numbers, printed-read, json-text-read}
 use Rattle.snap_emit.proofs.loaded.load_tree.Goals as goal
 

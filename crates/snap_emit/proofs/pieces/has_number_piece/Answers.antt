@@ -1,6 +1,4 @@
-use Rattle.std.proofs.Common.{rules, sym, ◌∙◌}
-use Rattle.std.proofs.lemmas.Result.{IfOk-weaker}
-use Rattle.std.specs.Str.{chars}
+use Rattle.snap_emit.proofs.Prelude.{rules, sym, ◌∙◌, IfOk-weaker, chars}
 use Rattle.snap_emit.proofs.NumberPieces.{number-cut, number-whole}
 use Rattle.snap_emit.proofs.pieces.has_number_piece.Goals as goal
 

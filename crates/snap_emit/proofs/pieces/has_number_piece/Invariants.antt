@@ -1,8 +1,4 @@
-use Rattle.std.proofs.Common.{◌≡◌, length}
-use denote.Text.{Utf8}
-use denote.Shadow.{shadow}
-use Rattle.std.specs.Str.{chars}
-use Rattle.snap_emit.specs.Pieces.{has_number_piece}
+use Rattle.snap_emit.proofs.Prelude.{◌≡◌, length, Utf8, shadow, chars, has_number_piece}
 use Rattle.snap_emit.proofs.pieces.has_number_piece.Given as goal
 
 abbrev pub invariant-loop-piece : goal.invariant-loop-piece

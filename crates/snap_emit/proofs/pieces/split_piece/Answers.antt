@@ -1,5 +1,4 @@
-use Rattle.std.proofs.Common.{rules, sym, ◌∙◌}
-use Rattle.std.specs.Str.{chars}
+use Rattle.snap_emit.proofs.Prelude.{rules, sym, ◌∙◌, chars}
 use Rattle.snap_emit.proofs.NumberPieces.{passed-more}
 use Rattle.snap_emit.proofs.pieces.split_piece.Goals as goal
 

@@ -1,7 +1,4 @@
-use Rattle.std.proofs.Common.{length}
-use denote.Text.{Utf8}
-use denote.Shadow.{shadow}
-use Rattle.std.specs.Str.{chars}
+use Rattle.snap_emit.proofs.Prelude.{length, Utf8, shadow, chars}
 use Rattle.snap_emit.proofs.NumberPieces.{IsPassed}
 use Rattle.snap_emit.proofs.pieces.split_piece.Given as goal
 

@@ -1,4 +1,4 @@
-use Rattle.std.proofs.Common.{◌∙◌}
+use Rattle.snap_emit.proofs.Prelude.{◌∙◌}
 use Rattle.snap_emit.proofs.Magnitudes.{whole-known}
 use Rattle.snap_emit.proofs.whole.is_whole.Goals as goal
 

@@ -1,6 +1,4 @@
-use Rattle.snap_content.specs.Plain.{plain}
-use Rattle.snap_content.specs.View.{tree}
-use Rattle.snap_print.proofs.LineFacts.{printed_lines}
+use Rattle.snap_emit.proofs.Prelude.{plain, tree, printed_lines}
 use Rattle.snap_emit.proofs.yaml.body_to_string.Goals as goal
 
 pub returns-clause-lines : goal.returns-clause-lines

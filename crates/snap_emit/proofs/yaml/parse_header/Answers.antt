@@ -1,5 +1,4 @@
-use Rattle.std.proofs.Common.{◌≡◌, Some}
-use Rattle.std.specs.Str.{chars}
+use Rattle.snap_emit.proofs.Prelude.{◌≡◌, Some, chars}
 use Rattle.snap_emit.proofs.Parsing.{read-from}
 use Rattle.snap_emit.proofs.yaml.parse_header.Goals as goal
 

@@ -1,6 +1,4 @@
-use Rattle.snap_content.specs.Plain.{plain}
-use Rattle.snap_content.specs.View.{tree}
-use Rattle.snap_print.proofs.LineFacts.{printed_lines}
+use Rattle.snap_emit.proofs.Prelude.{plain, tree, printed_lines}
 use Rattle.snap_emit.proofs.Printing.{at_success}
 use Rattle.snap_emit.proofs.yaml.to_string.Goals as goal
 

@@ -1,6 +1,4 @@
-use Rattle.std.proofs.Common.{[], ◌∷◌}
-use Rattle.std.proofs.lemmas.Result.{on_err_weaker}
-use Rattle.snap_emitter.specs.Columns.{blanks}
+use Rattle.snap_emitter.proofs.Prelude.{[], ◌∷◌, on_err_weaker, blanks}
 use Rattle.snap_emitter.proofs.Begun.{begun_then}
 use Rattle.snap_emitter.proofs.blanks.break_line.Goals as goal
 

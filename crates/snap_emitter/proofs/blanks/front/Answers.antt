@@ -1,5 +1,4 @@
-use Rattle.std.proofs.lemmas.Str.{IsCharBoundary-from_ascii}
-use Rattle.snap_content.proofs.Ascii.{IsAscii-list_all}
+use Rattle.snap_emitter.proofs.Prelude.{IsCharBoundary-from_ascii, IsAscii-list_all}
 use Rattle.snap_emitter.proofs.blanks.front.Goals as goal
 
 pub range-requires-clause-end_boundary : goal.range-requires-clause-end_boundary

@@ -1,5 +1,4 @@
-use Rattle.std.proofs.Common.{◌≡◌, ◌++◌, ◌≤◌, ◌-◌}
-use Rattle.snap_emitter.specs.Columns.{blanks}
+use Rattle.snap_emitter.proofs.Prelude.{◌≡◌, ◌++◌, ◌≤◌, ◌-◌, blanks}
 use Rattle.snap_emitter.proofs.blanks.push_blanks.Given as goal
 
 abbrev pub invariant-wide : goal.invariant-wide

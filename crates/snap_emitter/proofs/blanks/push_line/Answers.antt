@@ -1,7 +1,4 @@
-use Rattle.std.proofs.Common.{◌++◌, ap, ◌∙◌}
-use Rattle.std.proofs.lemmas.Result.{on_ok_weaker}
-use Rattle.std.specs.Char.{is_ascii}
-use Rattle.std.specs.List.{list_all}
+use Rattle.snap_emitter.proofs.Prelude.{◌++◌, ap, ◌∙◌, on_ok_weaker, is_ascii, list_all}
 use Rattle.snap_emitter.proofs.Spaces.{front_line, ascii_line}
 use Rattle.snap_emitter.proofs.blanks.push_line.Goals as goal
 

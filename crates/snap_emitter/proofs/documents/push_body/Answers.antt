@@ -1,8 +1,4 @@
-use Rattle.std.proofs.Common.{◌++◌, [], ◌∷◌, ap, ◌∙◌}
-use Rattle.std.proofs.lemmas.Result.{on_ok_weaker, on_err_weaker}
-use Rattle.snap_emitter.specs.Columns.{IsBegun, text_at}
-use Rattle.snap_emitter.specs.Document.{body}
-use Rattle.snap_emitter.specs.Shape.{shape_of}
+use Rattle.snap_emitter.proofs.Prelude.{◌++◌, [], ◌∷◌, ap, ◌∙◌, on_ok_weaker, on_err_weaker, IsBegun, text_at, body, shape_of}
 use Rattle.snap_emitter.proofs.Begun.{unmoved, begun_first, begun_then, begun_as, on_err}
 use Rattle.snap_emitter.proofs.Columned.{text_ended}
 use Rattle.snap_emitter.proofs.Walked.{added_twice}

@@ -1,7 +1,4 @@
-use Rattle.std.specs.Prelude.{codes}
-use Rattle.std.proofs.lemmas.Result.{on_ok_weaker, on_err_weaker}
-use Rattle.snap_emitter.specs.Document.{body}
-use Rattle.snap_emitter.specs.Shape.{shape_of}
+use Rattle.snap_emitter.proofs.Prelude.{codes, on_ok_weaker, on_err_weaker, body, shape_of}
 use Rattle.snap_emitter.proofs.Begun.{begun_then}
 use Rattle.snap_emitter.proofs.Walked.{added_twice}
 use Rattle.snap_emitter.proofs.documents.push_document.Goals as goal

@@ -1,9 +1,4 @@
-use Rattle.std.proofs.Common.{◌++◌, ap, ◌∙◌}
-use Rattle.std.specs.Prelude.{codes}
-use Rattle.std.proofs.lemmas.Result.{on_ok_weaker, on_err_weaker}
-use Rattle.snap_emitter.specs.Columns.{text_at}
-use Rattle.snap_emitter.specs.Document.{dumped}
-use Rattle.snap_emitter.specs.Shape.{shape_of}
+use Rattle.snap_emitter.proofs.Prelude.{◌++◌, ap, ◌∙◌, codes, on_ok_weaker, on_err_weaker, text_at, dumped, shape_of}
 use Rattle.snap_emitter.proofs.Begun.{begun_then, begun_as}
 use Rattle.snap_emitter.proofs.Columned.{text_joined}
 use Rattle.snap_emitter.proofs.Walked.{added_twice}

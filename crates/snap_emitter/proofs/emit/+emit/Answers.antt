@@ -1,6 +1,4 @@
-use Rattle.std.proofs.Common.{sym, ◌∙◌, refl}
-use Rattle.snap_emitter.specs.Columns.{IsBegun}
-use Rattle.snap_emitter.specs.Emitted.{list_text, dict_text, key_of}
+use Rattle.snap_emitter.proofs.Prelude.{sym, ◌∙◌, refl, IsBegun, list_text, dict_text, key_of}
 use Rattle.snap_emitter.proofs.Begun.{on_err, unmoved}
 use Rattle.snap_emitter.proofs.Trees.{array_text, hash_text}
 use Rattle.snap_emitter.proofs.Walked.{item_mark, item_text, list_mark, list_loop, key_spelled, key_mark, pair_key, pair_value, dict_first, dict_loop, line_break, line_of_pair}

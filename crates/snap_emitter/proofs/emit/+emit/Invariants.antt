@@ -1,6 +1,4 @@
-use Rattle.std.proofs.Common.{◌≡◌, ◌++◌, take}
-use Rattle.std.specs.List.{flat_map}
-use Rattle.snap_emitter.specs.Emitted.{item_line, pair_line}
+use Rattle.snap_emitter.proofs.Prelude.{◌≡◌, ◌++◌, take, flat_map, item_line, pair_line}
 use Rattle.snap_emitter.proofs.emit.+emit.Given as goal
 
 abbrev pub invariant-emit_items-loop-item : goal.invariant-emit_items-loop-item

@@ -1,4 +1,4 @@
-use Rattle.snap_emitter.specs.Columns.{break_at}
+use Rattle.snap_emitter.proofs.Prelude.{break_at}
 use Rattle.snap_emitter.proofs.Begun.{on_err, begun_first}
 use Rattle.snap_emitter.proofs.emit.push_marked_line.Goals as goal
 

@@ -1,6 +1,4 @@
-use Rattle.std.proofs.Common.{◌∙◌, ap, map}
-use Rattle.snap_emitter.specs.FromContent.{content_shape, pair_shape, field_shape, byte_shape, IsContentWithin, IsPairWithin, IsFieldWithin}
-use Rattle.snap_emitter.specs.Shape.{shape_of, pair_shapes}
+use Rattle.snap_emitter.proofs.Prelude.{◌∙◌, ap, map, content_shape, pair_shape, field_shape, byte_shape, IsContentWithin, IsPairWithin, IsFieldWithin, shape_of, pair_shapes}
 use Rattle.snap_yaml.specs.declared.yaml.Yaml as yaml
 use Rattle.snap_emitter.proofs.Contents.{seq_made, tuple_made, tuple_struct_made, tuple_variant_made, map_made, struct_made, struct_variant_made, bytes_made, made_more, pair_same, field_same}
 use Rattle.snap_emitter.proofs.ContentsWithin.{seq_within, tuple_within, tuple_struct_within, tuple_variant_within, map_within, struct_within, struct_variant_within, bytes_within, all_more, at_ok}

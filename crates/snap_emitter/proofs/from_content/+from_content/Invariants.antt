@@ -1,7 +1,4 @@
-use Rattle.std.proofs.Common.{◌≡◌, take, map}
-use Rattle.std.specs.List.{All}
-use Rattle.snap_emitter.specs.FromContent.{content_shape, pair_shape, field_shape, IsContentWithin, IsPairWithin, IsFieldWithin}
-use Rattle.snap_emitter.specs.Shape.{shape_of, pair_shapes}
+use Rattle.snap_emitter.proofs.Prelude.{◌≡◌, take, map, All, content_shape, pair_shape, field_shape, IsContentWithin, IsPairWithin, IsFieldWithin, shape_of, pair_shapes}
 use Rattle.snap_emitter.proofs.from_content.+from_content.Given as goal
 
 abbrev pub invariant-yaml_items-loop-item : goal.invariant-yaml_items-loop-item

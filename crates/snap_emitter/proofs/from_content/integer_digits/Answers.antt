@@ -1,4 +1,4 @@
-use Rattle.snap_content.proofs.Ascii.{list_all-IsAscii}
+use Rattle.snap_emitter.proofs.Prelude.{list_all-IsAscii}
 use Rattle.snap_emitter.proofs.from_content.integer_digits.Goals as goal
 
 pub from_ascii-requires : goal.from_ascii-requires

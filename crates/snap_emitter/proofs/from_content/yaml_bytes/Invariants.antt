@@ -1,7 +1,4 @@
-use Rattle.std.proofs.Common.{◌≡◌, take, map}
-use Rattle.std.specs.List.{All}
-use Rattle.snap_emitter.specs.FromContent.{byte_shape, IsByteWithin}
-use Rattle.snap_emitter.specs.Shape.{shape_of}
+use Rattle.snap_emitter.proofs.Prelude.{◌≡◌, take, map, All, byte_shape, IsByteWithin, shape_of}
 use Rattle.snap_emitter.proofs.from_content.yaml_bytes.Given as goal
 
 abbrev pub invariant-loop-byte : goal.invariant-loop-byte

@@ -1,10 +1,4 @@
-use Rattle.std.proofs.Common.{◌++◌, refl, ap, ◌∙◌}
-use Rattle.std.proofs.lemmas.Result.{on_ok_weaker, on_err_weaker}
-use Rattle.snap_content.specs.Lines.{text_of}
-use Rattle.snap_content.specs.Plain.{plain}
-use Rattle.snap_content.specs.View.{tree}
-use Rattle.snap_emitter.specs.Document.{body}
-use Rattle.snap_emitter.specs.Shape.{shape_of}
+use Rattle.snap_emitter.proofs.Prelude.{◌++◌, refl, ap, ◌∙◌, on_ok_weaker, on_err_weaker, text_of, plain, tree, body, shape_of}
 use Rattle.snap_emitter.proofs.Begun.{unmoved, begun_as, on_err, on_ok}
 use Rattle.snap_emitter.proofs.Columned.{plain_body}
 use Rattle.snap_emitter.proofs.printing.print_body.Goals as goal

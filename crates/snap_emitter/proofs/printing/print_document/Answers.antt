@@ -1,10 +1,4 @@
-use Rattle.std.proofs.Common.{◌++◌, refl, ap, ◌∙◌}
-use Rattle.std.proofs.lemmas.Result.{on_ok_weaker, on_err_weaker}
-use Rattle.snap_content.specs.Lines.{document_of}
-use Rattle.snap_content.specs.Plain.{plain}
-use Rattle.snap_content.specs.View.{tree}
-use Rattle.snap_emitter.specs.Document.{document}
-use Rattle.snap_emitter.specs.Shape.{shape_of}
+use Rattle.snap_emitter.proofs.Prelude.{◌++◌, refl, ap, ◌∙◌, on_ok_weaker, on_err_weaker, document_of, plain, tree, document, shape_of}
 use Rattle.snap_emitter.proofs.Begun.{unmoved, begun_as, on_err, on_ok}
 use Rattle.snap_emitter.proofs.Columned.{plain_document}
 use Rattle.snap_emitter.proofs.printing.print_document.Goals as goal

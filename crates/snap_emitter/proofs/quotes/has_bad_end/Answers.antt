@@ -1,6 +1,4 @@
-use Rattle.std.proofs.Common.{sym, ap, ◌∙◌}
-use Rattle.std.specs.Str.{chars}
-use Rattle.snap_content.specs.Quotes.{ends_badly}
+use Rattle.snap_emitter.proofs.Prelude.{sym, ap, ◌∙◌, chars, ends_badly}
 use Rattle.snap_content.proofs.Ends.{ends_badly-push}
 use Rattle.snap_emitter.proofs.quotes.has_bad_end.Goals as goal
 

@@ -1,4 +1,4 @@
-use Rattle.std.proofs.Common.{◌∙◌}
+use Rattle.snap_emitter.proofs.Prelude.{◌∙◌}
 use Rattle.snap_emitter.proofs.Bytes.{special_bytes}
 use Rattle.snap_emitter.proofs.quotes.holds_special.Goals as goal
 

@@ -1,4 +1,4 @@
-use Rattle.std.proofs.Common.{sym, ◌∙◌}
+use Rattle.snap_emitter.proofs.Prelude.{sym, ◌∙◌}
 use Rattle.snap_emitter.proofs.Beginnings.{two_looks}
 use Rattle.snap_emitter.proofs.quotes.is_quoted.Goals as goal
 

@@ -1,5 +1,4 @@
-use Rattle.std.proofs.Common.{rules}
-use Rattle.std.specs.Str.{chars}
+use Rattle.snap_emitter.proofs.Prelude.{rules, chars}
 use Rattle.snap_emitter.proofs.Quoting.{bare_more}
 use Rattle.snap_emitter.proofs.scalars.after_bare.Goals as goal
 

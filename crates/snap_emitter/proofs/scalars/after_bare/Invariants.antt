@@ -1,8 +1,4 @@
-use Rattle.std.proofs.Common.{length}
-use denote.Text.{Utf8}
-use denote.Shadow.{shadow}
-use Rattle.std.specs.Str.{chars}
-use Rattle.snap_emitter.specs.Bare.{IsBareBefore}
+use Rattle.snap_emitter.proofs.Prelude.{length, Utf8, shadow, chars, IsBareBefore}
 use Rattle.snap_emitter.proofs.scalars.after_bare.Given as goal
 
 abbrev pub invariant-loop-c : goal.invariant-loop-c

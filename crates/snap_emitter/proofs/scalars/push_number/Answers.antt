@@ -1,4 +1,4 @@
-use Rattle.snap_content.proofs.Ascii.{list_all-IsAscii}
+use Rattle.snap_emitter.proofs.Prelude.{list_all-IsAscii}
 use Rattle.snap_emitter.proofs.scalars.push_number.Goals as goal
 
 pub push_ascii-requires : goal.push_ascii-requires

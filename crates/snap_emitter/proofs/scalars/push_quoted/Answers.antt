@@ -1,8 +1,4 @@
-use Rattle.std.proofs.Common.{[], ◌∷◌, ◌++◌, refl, ap, ◌∙◌, rules}
-use Rattle.std.specs.List.{flat_map}
-use Rattle.std.specs.Str.{chars}
-use Rattle.snap_content.specs.Spell.{escaped, quoted}
-use Rattle.snap_emitter.specs.Columns.{IsBegun}
+use Rattle.snap_emitter.proofs.Prelude.{[], ◌∷◌, ◌++◌, refl, ap, ◌∙◌, rules, flat_map, chars, escaped, quoted, IsBegun}
 use Rattle.snap_emitter.proofs.Begun.{on_err}
 use Rattle.snap_emitter.proofs.Quoting.{quoted_at, run_split, step_after}
 use Rattle.snap_emitter.proofs.Walked.{added_twice}

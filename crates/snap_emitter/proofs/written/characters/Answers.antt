@@ -1,6 +1,4 @@
-use Rattle.std.proofs.Common.{◌≡◌, length, rules, arith}
-use Rattle.std.proofs.lemmas.Str.{chars_from_encodes}
-use Rattle.std.specs.Str.{chars}
+use Rattle.snap_emitter.proofs.Prelude.{◌≡◌, length, rules, arith, chars_from_encodes, chars}
 use Rattle.snap_emitter.proofs.written.characters.Goals as goal
 
 pub returns-clause-value : goal.returns-clause-value

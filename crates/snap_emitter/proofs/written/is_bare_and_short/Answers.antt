@@ -1,5 +1,4 @@
-use Rattle.std.proofs.Common.{◌≤◌, length, sym, ◌∙◌, arith}
-use Rattle.std.proofs.lemmas.Bool.Decides.{nat_tests}
+use Rattle.snap_emitter.proofs.Prelude.{◌≤◌, length, sym, ◌∙◌, arith, nat_tests}
 use Rattle.snap_emitter.proofs.Quoting.{bare_few_bytes}
 use Rattle.snap_emitter.proofs.written.is_bare_and_short.Goals as goal
 

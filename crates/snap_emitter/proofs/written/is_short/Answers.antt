@@ -1,5 +1,4 @@
-use Rattle.std.proofs.Common.{◌≤◌, length, arith}
-use Rattle.std.proofs.lemmas.Bool.Decides.{nat_tests}
+use Rattle.snap_emitter.proofs.Prelude.{◌≤◌, length, arith, nat_tests}
 use Rattle.snap_emitter.proofs.Quoting.{few_bytes}
 use Rattle.snap_emitter.proofs.written.is_short.Goals as goal
 

@@ -1,4 +1,4 @@
-use Rattle.std.proofs.Common.{arith}
+use Rattle.snap_emitter.proofs.Prelude.{arith}
 use Rattle.snap_emitter.proofs.Quoting.{counted_below}
 use Rattle.snap_emitter.proofs.written.quoted_len.Goals as goal
 

@@ -1,9 +1,4 @@
-use Rattle.std.proofs.Common.{◌≡◌, ◌+◌, length}
-use denote.Text.{Utf8}
-use denote.Shadow.{shadow}
-use Rattle.std.specs.List.{flat_map}
-use Rattle.std.specs.Str.{chars}
-use Rattle.snap_content.specs.Spell.{escaped}
+use Rattle.snap_emitter.proofs.Prelude.{◌≡◌, ◌+◌, length, Utf8, shadow, flat_map, chars, escaped}
 use Rattle.snap_emitter.proofs.written.quoted_len.Given as goal
 
 abbrev pub invariant-loop-c : goal.invariant-loop-c

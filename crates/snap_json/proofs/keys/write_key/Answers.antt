@@ -1,8 +1,4 @@
-use Rattle.std.proofs.Common.{ap}
-use Rattle.snap_json.specs.Layout.{colon}
-use Rattle.snap_json.specs.JsonPlain.{key_plain, text_of_key, json_key}
-use Rattle.snap_json.specs.Written.{whole, key_written}
-use Rattle.snap_content.specs.View.{tree}
+use Rattle.snap_json.proofs.Prelude.{ap, colon, key_plain, text_of_key, json_key, whole, key_written, tree}
 use Rattle.snap_json.proofs.Behind.{on_exit, stopped_first, stopped_as, added_as, wrote_behind}
 use Rattle.snap_json.proofs.keys.write_key.Goals as goal
 

@@ -1,8 +1,4 @@
-use Rattle.std.proofs.Common.{ap}
-use Rattle.std.specs.Str.{chars}
-use Rattle.snap_json.specs.Layout.{colon}
-use Rattle.snap_json.specs.Strings.{json_string}
-use Rattle.snap_json.specs.Written.{whole}
+use Rattle.snap_json.proofs.Prelude.{ap, chars, colon, json_string, whole}
 use Rattle.snap_json.proofs.Behind.{on_exit, stopped_first, stopped_as, added_as, wrote_behind}
 use Rattle.snap_json.proofs.keys.write_name.Goals as goal
 

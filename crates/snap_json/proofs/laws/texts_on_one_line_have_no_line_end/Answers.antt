@@ -1,4 +1,4 @@
-use Rattle.snap_json.specs.JsonPlain.{json_plain}
+use Rattle.snap_json.proofs.Prelude.{json_plain}
 use Rattle.snap_json.proofs.OneLine.{text_clear}
 use Rattle.snap_json.proofs.laws.texts_on_one_line_have_no_line_end.Goals as goal
 

@@ -1,4 +1,4 @@
-use Rattle.std.proofs.Common.{arith}
+use Rattle.snap_json.proofs.Prelude.{arith}
 use Rattle.snap_json.proofs.Behind.{on_exit}
 use Rattle.snap_json.proofs.Blanks.{blanks_added, blanks_stopped}
 use Rattle.snap_json.proofs.layout.write_blanks.Goals as goal

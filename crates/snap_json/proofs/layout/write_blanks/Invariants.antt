@@ -1,6 +1,4 @@
-use Rattle.std.proofs.Common.{◌≤◌, ◌-◌}
-use Rattle.snap_json.specs.Layout.{blanks}
-use Rattle.snap_json.specs.Written.{IsAdded, whole}
+use Rattle.snap_json.proofs.Prelude.{◌≤◌, ◌-◌, blanks, IsAdded, whole}
 use Rattle.snap_json.proofs.layout.write_blanks.Given as goal
 
 abbrev pub invariant-eights : goal.invariant-eights

@@ -1,5 +1,4 @@
-use Rattle.std.proofs.Common.{[], ◌∷◌}
-use Rattle.snap_json.specs.Written.{whole}
+use Rattle.snap_json.proofs.Prelude.{[], ◌∷◌, whole}
 use Rattle.snap_json.proofs.Behind.{on_exit, stopped_first, wrote_behind}
 use Rattle.snap_json.proofs.layout.write_closing.Goals as goal
 

@@ -1,6 +1,4 @@
-use Rattle.std.proofs.Common.{◌∷◌, sym, ap}
-use Rattle.snap_json.specs.Layout.{blanks, comma}
-use Rattle.snap_json.specs.Written.{whole}
+use Rattle.snap_json.proofs.Prelude.{◌∷◌, sym, ap, blanks, comma, whole}
 use Rattle.snap_json.proofs.Behind.{on_exit, stopped_first, stopped_as}
 use Rattle.snap_json.proofs.layout.write_comma.Goals as goal
 

@@ -1,5 +1,4 @@
-use Rattle.snap_json.specs.Layout.{break_at}
-use Rattle.snap_json.specs.Written.{whole}
+use Rattle.snap_json.proofs.Prelude.{break_at, whole}
 use Rattle.snap_json.proofs.Behind.{on_exit, stopped_first, wrote_behind}
 use Rattle.snap_json.proofs.layout.write_opening.Goals as goal
 

@@ -1,6 +1,4 @@
-use Rattle.std.proofs.Common.{◌++◌, ap, ◌∙◌}
-use Rattle.snap_content.specs.View.{tree}
-use Rattle.snap_json.specs.JsonText.{json_text}
+use Rattle.snap_json.proofs.Prelude.{◌++◌, ap, ◌∙◌, tree, json_text}
 use Rattle.snap_json.proofs.Calls.{text_added, accepted_tree, refused_exit}
 use Rattle.snap_json.proofs.print.text_in.Goals as goal
 

@@ -1,5 +1,4 @@
-use Rattle.std.proofs.Common.{rules}
-use Rattle.std.specs.Str.{chars}
+use Rattle.snap_json.proofs.Prelude.{rules, chars}
 use Rattle.snap_json.proofs.Runs.{bare_more}
 use Rattle.snap_json.proofs.strings.after_bare.Goals as goal
 

@@ -1,7 +1,4 @@
-use Rattle.std.proofs.Common.{◌≡◌, ℕ, [], ◌∷◌, ◌++◌, sym, ap}
-use Rattle.std.proofs.lemmas.List.{append-nil}
-use Rattle.snap_json.specs.Strings.{json_escaped, json_string}
-use Rattle.snap_json.specs.Written.{whole}
+use Rattle.snap_json.proofs.Prelude.{◌≡◌, ℕ, [], ◌∷◌, ◌++◌, sym, ap, append-nil, json_escaped, json_string, whole}
 use Rattle.snap_json.proofs.Behind.{on_exit, stopped_first, stopped_behind, stopped_as, wrote_behind, wrote_as}
 use Rattle.snap_json.proofs.strings.write_character.Goals as goal
 

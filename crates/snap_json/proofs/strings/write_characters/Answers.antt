@@ -1,9 +1,4 @@
-use Rattle.std.proofs.Common.{◌≡◌, [], ◌++◌, sym, ap, ◌∙◌, rules, append_assoc}
-use Rattle.std.proofs.lemmas.List.{append-nil}
-use Rattle.std.specs.List.{flat_map}
-use Rattle.std.specs.Str.{chars}
-use Rattle.snap_json.specs.Strings.{json_escaped}
-use Rattle.snap_json.specs.Written.{whole}
+use Rattle.snap_json.proofs.Prelude.{◌≡◌, [], ◌++◌, sym, ap, ◌∙◌, rules, append_assoc, append-nil, flat_map, chars, json_escaped, whole}
 use Rattle.snap_json.proofs.Behind.{on_exit, stopped_first, stopped_behind, stopped_as, added_behind, added_as}
 use Rattle.snap_json.proofs.Runs.{run_split, step_first, step_after}
 use Rattle.snap_json.proofs.strings.write_characters.Goals as goal

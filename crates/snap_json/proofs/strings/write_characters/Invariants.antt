@@ -1,10 +1,4 @@
-use Rattle.std.proofs.Common.{◌≡◌, ◌++◌, List, ℕ, length}
-use denote.Text.{Utf8}
-use denote.Shadow.{shadow}
-use Rattle.std.specs.List.{flat_map}
-use Rattle.std.specs.Str.{chars}
-use Rattle.snap_json.specs.Strings.{json_escaped}
-use Rattle.snap_json.specs.Written.{IsAdded, whole}
+use Rattle.snap_json.proofs.Prelude.{◌≡◌, ◌++◌, List, ℕ, length, Utf8, shadow, flat_map, chars, json_escaped, IsAdded, whole}
 use Rattle.snap_json.proofs.strings.write_characters.Given as goal
 
 abbrev pub invariant-loop-c : goal.invariant-loop-c

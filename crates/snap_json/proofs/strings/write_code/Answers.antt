@@ -1,6 +1,4 @@
-use Rattle.std.proofs.Common.{[], ◌∷◌, ◌/◌, ◌%◌, false}
-use Rattle.std.specs.Fmt.{digit_glyph}
-use Rattle.snap_json.specs.Written.{whole}
+use Rattle.snap_json.proofs.Prelude.{[], ◌∷◌, ◌/◌, ◌%◌, false, digit_glyph, whole}
 use Rattle.snap_json.proofs.Behind.{on_exit, stopped_first, stopped_behind, added_behind, wrote_behind}
 use Rattle.snap_json.proofs.strings.write_code.Goals as goal
 

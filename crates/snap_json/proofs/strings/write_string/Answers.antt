@@ -1,8 +1,4 @@
-use Rattle.std.proofs.Common.{[], ◌∷◌, ◌++◌}
-use Rattle.std.specs.List.{flat_map}
-use Rattle.std.specs.Str.{chars}
-use Rattle.snap_json.specs.Strings.{json_escaped}
-use Rattle.snap_json.specs.Written.{whole}
+use Rattle.snap_json.proofs.Prelude.{[], ◌∷◌, ◌++◌, flat_map, chars, json_escaped, whole}
 use Rattle.snap_json.proofs.Behind.{on_exit, stopped_first, stopped_behind, wrote_behind}
 use Rattle.snap_json.proofs.strings.write_string.Goals as goal
 

@@ -1,8 +1,4 @@
-use Rattle.std.proofs.Common.{◌≡◌, rules, ◌+◌, [], ◌∷◌, ◌++◌, take, sym, ap, ◌∙◌}
-use Rattle.std.proofs.lemmas.List.{take_more, take_all}
-use Rattle.snap_json.specs.Layout.{closing}
-use Rattle.snap_json.specs.Written.{whole, behind}
-use Rattle.snap_json.specs.Walked.{further, value_written, pair_written, field_written, item_list_at, pair_list_at, field_list_at, bytes_written, item_list_written, pair_list_written, field_list_written, variant_written}
+use Rattle.snap_json.proofs.Prelude.{◌≡◌, rules, ◌+◌, [], ◌∷◌, ◌++◌, take, sym, ap, ◌∙◌, take_more, take_all, closing, whole, behind, further, value_written, pair_written, field_written, item_list_at, pair_list_at, field_list_at, bytes_written, item_list_written, pair_list_written, field_list_written, variant_written}
 use Rattle.snap_json.proofs.Behind.{on_exit, stopped_first, stopped_behind, stopped_at, added_behind, added_none, wrote_behind, wrote_at, wrote_as, out_of_memory}
 use Rattle.snap_json.proofs.Collections.{failed_opening, failed_first, failed_further, added_more, wrote_collection}
 use Rattle.snap_json.proofs.Trees.{of_bytes, of_seq, of_tuple, of_tuple_struct, of_map, of_struct, of_newtype_variant, of_tuple_variant, of_struct_variant}

@@ -1,6 +1,4 @@
-use Rattle.std.proofs.Common.{take}
-use Rattle.snap_json.specs.Written.{IsAdded}
-use Rattle.snap_json.specs.Walked.{all_written, further, value_written, pair_written, field_written}
+use Rattle.snap_json.proofs.Prelude.{take, IsAdded, all_written, further, value_written, pair_written, field_written}
 use Rattle.snap_json.proofs.walk.+walk.Given as goal
 
 abbrev pub invariant-write_items-loop-item : goal.invariant-write_items-loop-item

@@ -1,6 +1,4 @@
-use Rattle.std.proofs.Common.{◌+◌, [], ◌∷◌, ◌++◌, take, get_or, sym, ap, ◌∙◌}
-use Rattle.std.proofs.lemmas.List.{take_more, take_all}
-use Rattle.snap_json.specs.Walked.{further, byte_written, bytes_at}
+use Rattle.snap_json.proofs.Prelude.{◌+◌, [], ◌∷◌, ◌++◌, take, get_or, sym, ap, ◌∙◌, take_more, take_all, further, byte_written, bytes_at}
 use Rattle.snap_json.proofs.Behind.{on_exit, stopped_first, stopped_behind, stopped_at, added_behind, added_none, wrote_at, out_of_memory}
 use Rattle.snap_json.proofs.Collections.{failed_opening, failed_first, failed_further, added_more, wrote_collection, same_get}
 use Rattle.snap_json.proofs.walk.write_bytes.Goals as goal

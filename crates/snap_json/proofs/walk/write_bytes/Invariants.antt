@@ -1,6 +1,4 @@
-use Rattle.std.proofs.Common.{take}
-use Rattle.snap_json.specs.Written.{IsAdded}
-use Rattle.snap_json.specs.Walked.{all_written, further, byte_written}
+use Rattle.snap_json.proofs.Prelude.{take, IsAdded, all_written, further, byte_written}
 use Rattle.snap_json.proofs.walk.write_bytes.Given as goal
 
 abbrev pub invariant-loop-byte : goal.invariant-loop-byte

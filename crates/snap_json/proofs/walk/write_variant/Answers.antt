@@ -1,5 +1,4 @@
-use Rattle.snap_content.specs.Plain.{text}
-use Rattle.snap_json.specs.Written.{member_written}
+use Rattle.snap_json.proofs.Prelude.{text, member_written}
 use Rattle.snap_json.proofs.Behind.{on_exit, stopped_first, wrote_behind}
 use Rattle.snap_json.proofs.walk.write_variant.Goals as goal
 

@@ -1,10 +1,4 @@
-use Rattle.std.proofs.Common.{◌≡◌, ◌++◌, length}
-use denote.Text.{Utf8}
-use denote.Shadow.{shadow}
-use Rattle.std.specs.List.{flat_map}
-use Rattle.std.specs.Str.{chars}
-use Rattle.snap_str.specs.Lines.{lines}
-use Rattle.snap_literal.specs.Frame.{given}
+use Rattle.snap_literal.proofs.Prelude.{◌≡◌, ◌++◌, length, Utf8, shadow, flat_map, chars, lines, given}
 use Rattle.snap_literal.proofs.frame.push_all_given.Given as goal
 
 abbrev pub invariant-loop-line : goal.invariant-loop-line

@@ -1,10 +1,4 @@
-use Rattle.std.proofs.Common.{◌≡◌, length}
-use denote.Text.{Utf8}
-use denote.Shadow.{shadow}
-use Rattle.std.specs.List.{list_any}
-use Rattle.std.specs.Str.{chars}
-use Rattle.snap_str.specs.Lines.{lines}
-use Rattle.snap_literal.specs.Frame.{breaks_frame}
+use Rattle.snap_literal.proofs.Prelude.{◌≡◌, length, Utf8, shadow, list_any, chars, lines, breaks_frame}
 use Rattle.snap_literal.proofs.frame.some_breaks_frame.Given as goal
 
 abbrev pub invariant-loop-line : goal.invariant-loop-line

@@ -1,6 +1,4 @@
-use Rattle.std.proofs.Common.{◌++◌, sym, ap, ◌∙◌}
-use Rattle.std.specs.Str.{chars}
-use Rattle.snap_literal.specs.Frame.{space_front}
+use Rattle.snap_literal.proofs.Prelude.{◌++◌, sym, ap, ◌∙◌, chars, space_front}
 use Rattle.snap_literal.proofs.Frames.{signed, unsigned, space-then}
 use Rattle.snap_literal.proofs.frame.split_sign.Goals as goal
 

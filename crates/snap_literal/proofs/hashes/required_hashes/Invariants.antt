@@ -1,8 +1,4 @@
-use Rattle.std.proofs.Common.{◌≡◌, ◌≤◌, max, length}
-use denote.Text.{Utf8}
-use denote.Shadow.{shadow}
-use Rattle.std.specs.Str.{chars}
-use Rattle.snap_literal.specs.Hashes.{required}
+use Rattle.snap_literal.proofs.Prelude.{◌≡◌, ◌≤◌, max, length, Utf8, shadow, chars, required}
 use Rattle.snap_literal.proofs.hashes.required_hashes.Given as goal
 
 abbrev pub invariant-loop-c : goal.invariant-loop-c

@@ -1,6 +1,4 @@
-use Rattle.std.proofs.Common.{◌≡◌, ◌++◌, ◌≤◌, length, ap, ◌∙◌, arith, rules}
-use Rattle.std.specs.Str.{chars}
-use Rattle.snap_literal.specs.Hashes.{hashes}
+use Rattle.snap_literal.proofs.Prelude.{◌≡◌, ◌++◌, ◌≤◌, length, ap, ◌∙◌, arith, rules, chars, hashes}
 use Rattle.snap_literal.proofs.Hashed.{hashes-push, hashes-within, length-chars-le}
 use Rattle.snap_literal.proofs.hashes.split_hashes.Goals as goal
 

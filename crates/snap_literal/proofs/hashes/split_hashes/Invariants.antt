@@ -1,8 +1,4 @@
-use Rattle.std.proofs.Common.{◌≡◌, ◌++◌, length}
-use denote.Text.{Utf8}
-use denote.Shadow.{shadow}
-use Rattle.std.specs.Str.{chars}
-use Rattle.snap_literal.specs.Hashes.{hashes}
+use Rattle.snap_literal.proofs.Prelude.{◌≡◌, ◌++◌, length, Utf8, shadow, chars, hashes}
 use Rattle.snap_literal.proofs.hashes.split_hashes.Given as goal
 
 abbrev pub invariant-loop-more : goal.invariant-loop-more

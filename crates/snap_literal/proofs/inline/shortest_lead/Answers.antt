@@ -1,6 +1,4 @@
-use Rattle.std.proofs.Common.{ap, sym, rules, length}
-use Rattle.std.proofs.lemmas.Str.{chars-nil}
-use Rattle.std.specs.Str.{chars}
+use Rattle.snap_literal.proofs.Prelude.{ap, sym, rules, length, chars-nil, chars}
 use Rattle.snap_literal.proofs.LineLeads.{shortest_start}
 use Rattle.snap_literal.proofs.inline.shortest_lead.Goals as goal
 

@@ -1,10 +1,5 @@
-use Rattle.std.proofs.Common.{◌≡◌, ◌++◌, length}
-use denote.Text.{Utf8}
-use denote.Shadow.{shadow}
-use Rattle.std.specs.Str.{chars}
-use Rattle.snap_literal.specs.Inline.{shortest, indentation_of}
+use Rattle.snap_literal.proofs.Prelude.{◌≡◌, ◌++◌, length, Utf8, shadow, chars, shortest, indentation_of, lines}
 use Rattle.snap_literal.proofs.inline.shortest_lead.Given as goal
-use Rattle.snap_str.specs.Lines.{lines}
 
 abbrev pub invariant-loop-line : goal.invariant-loop-line
 invariant-loop-line l = record {

@@ -1,6 +1,4 @@
-use Rattle.std.proofs.Common.{refl}
-use Rattle.snap_literal.specs.Inline.{inline_normal}
-use Rattle.snap_literal.specs.Spelled.{spelled}
+use Rattle.snap_literal.proofs.Prelude.{refl, inline_normal, spelled}
 use Rattle.snap_literal.proofs.InlineLaw.{comes-back}
 use Rattle.snap_literal.proofs.laws.inline_law.Goals as goal
 

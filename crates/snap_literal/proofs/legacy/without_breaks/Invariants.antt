@@ -1,7 +1,4 @@
-use Rattle.std.proofs.Common.{◌≡◌, length}
-use denote.Text.{Utf8}
-use denote.Shadow.{shadow}
-use Rattle.std.specs.Str.{chars}
+use Rattle.snap_literal.proofs.Prelude.{◌≡◌, length, Utf8, shadow, chars}
 use Rattle.snap_literal.specs.Legacy.{without_breaks}
 use Rattle.snap_literal.proofs.legacy.without_breaks.Given as goal
 

@@ -1,6 +1,4 @@
-use Rattle.std.proofs.Common.{sym, ◌∙◌, arith}
-use Rattle.std.proofs.lemmas.Str.{chars-nil}
-use Rattle.std.specs.Str.{chars}
+use Rattle.snap_literal.proofs.Prelude.{sym, ◌∙◌, arith, chars-nil, chars}
 use Rattle.snap_literal.proofs.LineLeads.{from_byte-inside}
 use Rattle.snap_literal.proofs.lines.from_byte.Goals as goal
 

@@ -1,8 +1,4 @@
-use Rattle.std.proofs.Common.{◌≡◌, length}
-use denote.Text.{Utf8}
-use denote.Shadow.{shadow}
-use Rattle.std.specs.Str.{chars}
-use Rattle.snap_literal.specs.Inline.{from_byte}
+use Rattle.snap_literal.proofs.Prelude.{◌≡◌, length, Utf8, shadow, chars, from_byte}
 use Rattle.snap_literal.proofs.lines.from_byte.Given as goal
 
 abbrev pub invariant-loop-c : goal.invariant-loop-c

@@ -1,7 +1,4 @@
-use Rattle.std.proofs.Common.{◌≡◌, true, ap, rules}
-use Rattle.std.specs.Str.{chars}
-use Rattle.snap_literal.specs.Inline.{lead}
-use Rattle.snap_literal.specs.Spelled.{is_indent}
+use Rattle.snap_literal.proofs.Prelude.{◌≡◌, true, ap, rules, chars, lead, is_indent}
 use Rattle.snap_literal.proofs.LineLeads.{lead_done, lead_stop, lead_step, blank_32, blank_9}
 use Rattle.snap_literal.proofs.lines.lead.Goals as goal
 use Rattle.snap_literal.proofs.lines.lead.Goals.{else-c-ne32-via-then-c-ne32+else-c-ne9, else-c-ne32-via-else-c-ne32}

@@ -1,7 +1,4 @@
-use Rattle.std.proofs.Common.{◌≡◌, ◌++◌, length}
-use denote.Text.{Utf8}
-use denote.Shadow.{shadow}
-use Rattle.std.specs.Str.{chars}
+use Rattle.snap_literal.proofs.Prelude.{◌≡◌, ◌++◌, length, Utf8, shadow, chars}
 use Rattle.snap_literal.proofs.LineLeads.{IsLead}
 use Rattle.snap_literal.proofs.lines.lead.Given as goal
 

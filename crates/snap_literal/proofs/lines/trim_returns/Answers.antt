@@ -1,5 +1,4 @@
-use Rattle.std.proofs.Common.{◌∙◌, sym, rules}
-use Rattle.std.specs.Str.{chars}
+use Rattle.snap_literal.proofs.Prelude.{◌∙◌, sym, rules, chars}
 use Rattle.snap_literal.proofs.Returns.{returns-more, returns-none}
 use Rattle.snap_literal.proofs.lines.trim_returns.Goals as goal
 

@@ -1,8 +1,4 @@
-use Rattle.std.proofs.Common.{◌≡◌, length}
-use denote.Text.{Utf8}
-use denote.Shadow.{shadow}
-use Rattle.std.specs.Str.{chars}
-use Rattle.snap_literal.specs.Lines.{without_returns}
+use Rattle.snap_literal.proofs.Prelude.{◌≡◌, length, Utf8, shadow, chars, without_returns}
 use Rattle.snap_literal.proofs.lines.trim_returns.Given as goal
 
 abbrev pub invariant-loop-front : goal.invariant-loop-front

@@ -1,7 +1,4 @@
-use Rattle.std.proofs.Common.{◌≡◌, ℕ, List, ◌∙◌, subst}
-use Rattle.std.specs.Result.{IfOk}
-use Rattle.std.specs.Str.{chars}
-use Rattle.snap_literal.specs.Spelled.{spelled}
+use Rattle.snap_literal.proofs.Prelude.{◌≡◌, ℕ, List, ◌∙◌, subst, IfOk, chars, spelled}
 use Rattle.snap_literal.proofs.InlineLaw.{comes-back-ok}
 use Rattle.snap_literal.proofs.literal.to_inline.Goals as goal
 

@@ -1,7 +1,5 @@
-use Rattle.std.proofs.Common.{◌∙◌, sym, ap}
+use Rattle.snap_literal.proofs.Prelude.{◌∙◌, sym, ap, chars, unreturned}
 use Rattle.std.proofs.lemmas.Result.{IfOk-weaker}
-use Rattle.std.specs.Str.{chars}
-use Rattle.snap_literal.specs.Normal.{unreturned}
 use Rattle.snap_literal.proofs.Returns.{unreturned-free}
 use Rattle.snap_literal.proofs.normal.normal_text.Goals as goal
 

@@ -1,6 +1,4 @@
-use Rattle.std.proofs.Common.{◌≡◌, ◌∷◌, ◌++◌, [], ◌∙◌, sym, ap, rules}
-use Rattle.std.specs.Str.{chars}
-use Rattle.snap_literal.specs.Lines.{without_returns}
+use Rattle.snap_literal.proofs.Prelude.{◌≡◌, ◌∷◌, ◌++◌, [], ◌∙◌, sym, ap, rules, chars, without_returns}
 use Rattle.snap_literal.proofs.Returns.{past_line, unreturned-unbroken}
 use Rattle.snap_literal.proofs.normal.unreturned_text.Goals as goal
 

@@ -1,8 +1,4 @@
-use Rattle.std.proofs.Common.{◌≡◌, ◌++◌, length}
-use denote.Text.{Utf8}
-use denote.Shadow.{shadow}
-use Rattle.std.specs.Str.{chars}
-use Rattle.snap_literal.specs.Normal.{unreturned}
+use Rattle.snap_literal.proofs.Prelude.{◌≡◌, ◌++◌, length, Utf8, shadow, chars, unreturned}
 use Rattle.snap_literal.proofs.normal.unreturned_text.Given as goal
 
 -- the lines so far, and those of what is left

@@ -1,6 +1,4 @@
-use Rattle.std.proofs.Common.{◌≡◌, ◌∷◌, ◌++◌, [], rules}
-use Rattle.std.specs.Str.{chars}
-use Rattle.snap_literal.specs.Literal.{IsBody}
+use Rattle.snap_literal.proofs.Prelude.{◌≡◌, ◌∷◌, ◌++◌, [], rules, chars, IsBody}
 use Rattle.snap_literal.proofs.Outcomes.{ok_then, body_done, body_too_long, body_with_return, body_nothing, body_on, body_off}
 use Rattle.snap_literal.proofs.Reading.{reading_step, reading_end, reading_none}
 use Rattle.snap_literal.proofs.read.read_body.Goals as goal

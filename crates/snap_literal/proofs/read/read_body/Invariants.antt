@@ -1,8 +1,4 @@
-use Rattle.std.proofs.Common.{length}
-use denote.Text.{Utf8}
-use denote.Shadow.{shadow}
-use Rattle.std.specs.Str.{chars}
-use Rattle.snap_literal.specs.Literal.{IsBody}
+use Rattle.snap_literal.proofs.Prelude.{length, Utf8, shadow, chars, IsBody}
 use Rattle.snap_literal.proofs.Reading.{IsReading}
 use Rattle.snap_literal.proofs.read.read_body.Given as goal
 

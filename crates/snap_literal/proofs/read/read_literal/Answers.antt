@@ -1,4 +1,4 @@
-use Rattle.std.specs.Str.{chars}
+use Rattle.snap_literal.proofs.Prelude.{chars}
 use Rattle.snap_literal.proofs.Outcomes.{literal_result}
 use Rattle.snap_literal.proofs.read.read_literal.Goals as goal
 

@@ -1,7 +1,4 @@
-use Rattle.std.proofs.Common.{◌≡◌, ◌∷◌, ◌++◌, [], Some, option_to_list, refl, sym, ap, ◌∙◌, append-nil, rules}
-use Rattle.std.specs.Str.{chars}
-use Rattle.snap_literal.specs.Literal.{Inside}
-use Rattle.snap_literal.specs.Literal.Inside.{ends}
+use Rattle.snap_literal.proofs.Prelude.{◌≡◌, ◌∷◌, ◌++◌, [], Some, option_to_list, refl, sym, ap, ◌∙◌, append-nil, rules, chars, Inside, ends}
 use Rattle.snap_literal.proofs.Outcomes.{ok_then, not_alone}
 use Rattle.snap_literal.proofs.Reading.{reading_step, reading_end, reading_none, inside_ahead, inside_behind, inside_none}
 use Rattle.snap_literal.proofs.read.read_quoted.Goals as goal

@@ -1,4 +1,4 @@
-use Rattle.std.specs.Str.{chars}
+use Rattle.snap_literal.proofs.Prelude.{chars}
 use Rattle.snap_literal.proofs.Outcomes.{raw_result}
 use Rattle.snap_literal.proofs.Reading.{raw_body}
 use Rattle.snap_literal.proofs.read.read_raw.Goals as goal

@@ -1,5 +1,4 @@
-use Rattle.std.proofs.Common.{◌≡◌, ◌++◌}
-use Rattle.snap_literal.specs.Hashes.{hashes}
+use Rattle.snap_literal.proofs.Prelude.{◌≡◌, ◌++◌, hashes}
 use Rattle.snap_literal.proofs.spelling.push_hashes.Given as goal
 
 abbrev pub invariant-loop-left : goal.invariant-loop-left

@@ -1,10 +1,6 @@
-use Rattle.std.proofs.Common.{◌≡◌, ◌++◌, ◌∷◌, [], true, rules}
-use Rattle.std.specs.List.{flat_map, list_any}
-use Rattle.std.specs.Str.{chars}
-use Rattle.snap_literal.specs.Spelled.{framed_line, shown, line_parts}
+use Rattle.snap_literal.proofs.Prelude.{◌≡◌, ◌++◌, ◌∷◌, [], true, rules, flat_map, list_any, chars, framed_line, shown, line_parts, is_line_end}
 use Rattle.snap_literal.proofs.LineParts.{framed_past, framed_end, on_ok}
 use Rattle.snap_literal.proofs.spelling.push_shown.Goals as goal
-use Rattle.snap_literal.specs.Lines.{is_line_end}
 
 pub loop-line-preserved : goal.loop-line-preserved
 loop-line-preserved c = record {

@@ -1,9 +1,4 @@
-use Rattle.std.proofs.Common.{◌≡◌, ◌++◌, ◌∷◌, length}
-use denote.Text.{Utf8}
-use denote.Shadow.{shadow}
-use Rattle.std.specs.List.{flat_map}
-use Rattle.std.specs.Str.{chars}
-use Rattle.snap_literal.specs.Spelled.{framed_line, line_parts}
+use Rattle.snap_literal.proofs.Prelude.{◌≡◌, ◌++◌, ◌∷◌, length, Utf8, shadow, flat_map, chars, framed_line, line_parts}
 use Rattle.snap_literal.proofs.spelling.push_shown.Given as goal
 
 abbrev pub invariant-loop-line : goal.invariant-loop-line

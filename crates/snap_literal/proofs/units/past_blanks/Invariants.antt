@@ -1,8 +1,4 @@
-use Rattle.std.proofs.Common.{◌≡◌, ◌≤◌, length}
-use denote.Text.{Utf8}
-use denote.Shadow.{shadow}
-use Rattle.std.specs.Str.{chars}
-use Rattle.snap_literal.specs.Units.{past_blanks}
+use Rattle.snap_literal.proofs.Prelude.{◌≡◌, ◌≤◌, length, Utf8, shadow, chars, past_blanks}
 use Rattle.snap_literal.proofs.units.past_blanks.Given as goal
 
 abbrev pub invariant-loop-c : goal.invariant-loop-c

@@ -1,4 +1,4 @@
-use Rattle.std.proofs.Common.{arith}
+use Rattle.snap_literal.proofs.Prelude.{arith}
 use Rattle.snap_literal.proofs.Outcomes.{braced_room}
 use Rattle.snap_literal.proofs.units.read_braced.Goals as goal
 

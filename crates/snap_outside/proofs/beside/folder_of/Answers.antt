@@ -1,4 +1,4 @@
-use Rattle.std.proofs.Common.{arith, rules}
+use Rattle.snap_outside.proofs.Prelude.{arith, rules}
 use Rattle.snap_outside.proofs.LastMark.{split_at_last}
 use Rattle.snap_outside.proofs.beside.folder_of.Goals as goal
 

@@ -1,5 +1,4 @@
-use Rattle.std.proofs.Common.{◌≡◌, IfOk, string_bytes, sym, ap, subst, ◌∙◌, arith}
-use Rattle.std.specs.Prelude.{option_map}
+use Rattle.snap_outside.proofs.Prelude.{◌≡◌, IfOk, string_bytes, sym, ap, subst, ◌∙◌, arith, option_map}
 use Rattle.snap_outside.specs.Beside.{helper_beside}
 use Rattle.snap_outside.proofs.LastMark.{split_at_last}
 use Rattle.snap_outside.proofs.beside.helper_of.Goals as goal

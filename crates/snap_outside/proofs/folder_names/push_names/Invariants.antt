@@ -1,5 +1,4 @@
-use Rattle.std.proofs.Common.{◌≡◌, ◌++◌, length}
-use Rattle.snap_outside.specs.Listing.{names_in}
+use Rattle.snap_outside.proofs.Prelude.{◌≡◌, ◌++◌, length, names_in}
 use Rattle.snap_outside.proofs.folder_names.push_names.Given as goal
 
 -- the names so far, and those in what is left

@@ -1,4 +1,4 @@
-use Rattle.std.proofs.Common.{refl, ap, ◌∙◌, length, inl, inr, arith}
+use Rattle.snap_outside.proofs.Prelude.{refl, ap, ◌∙◌, length, inl, inr, arith}
 use Rattle.snap_outside.proofs.Asking.{told_none, told_more}
 use Rattle.snap_outside.proofs.folder_names.read_pieces.Goals as goal
 

@@ -1,6 +1,4 @@
-use Rattle.std.proofs.Common.{◌≡◌, ◌≤◌, length}
-use Rattle.snap_outside.specs.Disks.{asked_of}
-use Rattle.snap_outside.specs.Listing.{Told}
+use Rattle.snap_outside.proofs.Prelude.{◌≡◌, ◌≤◌, length, asked_of, Told}
 use Rattle.snap_outside.proofs.folder_names.read_pieces.Given as goal
 
 -- each turn makes a call

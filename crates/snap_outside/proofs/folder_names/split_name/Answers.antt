@@ -1,6 +1,4 @@
-use Rattle.std.proofs.Common.{◌+◌, ◌∷◌, take, drop, ap, sym, ◌∙◌, add-one}
-use Rattle.std.specs.List.{slice_split}
-use Rattle.snap_outside.specs.Listing.{is_zero}
+use Rattle.snap_outside.proofs.Prelude.{◌+◌, ◌∷◌, take, drop, ap, sym, ◌∙◌, add-one, slice_split, is_zero}
 use Rattle.snap_outside.proofs.Parts.{one_name, first_name}
 use Rattle.snap_outside.proofs.folder_names.split_name.Goals as goal
 

@@ -1,4 +1,4 @@
-use Rattle.std.proofs.Common.{◌++◌, ap, sym, ◌∙◌}
+use Rattle.snap_outside.proofs.Prelude.{◌++◌, ap, sym, ◌∙◌}
 use Rattle.snap_outside.proofs.Joined.{behind_front, not_behind}
 use Rattle.snap_outside.proofs.listing.behind.Goals as goal
 

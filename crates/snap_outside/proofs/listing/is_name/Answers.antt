@@ -1,4 +1,4 @@
-use Rattle.std.proofs.Common.{sym, ◌∙◌}
+use Rattle.snap_outside.proofs.Prelude.{sym, ◌∙◌}
 use Rattle.snap_outside.proofs.Joined.{name_test}
 use Rattle.snap_outside.proofs.listing.is_name.Goals as goal
 

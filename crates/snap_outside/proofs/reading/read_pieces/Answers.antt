@@ -1,4 +1,4 @@
-use Rattle.std.proofs.Common.{◌∙◌, refl}
+use Rattle.snap_outside.proofs.Prelude.{◌∙◌, refl}
 use Rattle.snap_outside.proofs.Asking.{gave_none, gave_more}
 use Rattle.snap_outside.proofs.reading.read_pieces.Goals as goal
 

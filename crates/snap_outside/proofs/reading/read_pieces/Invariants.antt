@@ -1,6 +1,4 @@
-use Rattle.std.proofs.Common.{◌≡◌, ◌-◌, length}
-use Rattle.snap_outside.specs.Disks.{asked_of}
-use Rattle.snap_outside.specs.Operations.{Gave}
+use Rattle.snap_outside.proofs.Prelude.{◌≡◌, ◌-◌, length, asked_of, Gave}
 use Rattle.snap_outside.proofs.reading.read_pieces.Given as goal
 
 abbrev pub invariant-loop-alloc : goal.invariant-loop-alloc

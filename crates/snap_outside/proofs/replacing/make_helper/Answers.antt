@@ -1,7 +1,5 @@
-use Rattle.std.proofs.Common.{◌≡◌, ap, ◌∙◌, inr, arith}
-use Rattle.snap_outside.specs.Disks.{asked_of}
+use Rattle.snap_outside.proofs.Prelude.{◌≡◌, ap, ◌∙◌, inr, arith, asked_of, tried}
 use Rattle.snap_outside.specs.Limits.{most_helpers}
-use Rattle.snap_outside.specs.Writing.{tried}
 use Rattle.snap_outside.proofs.replacing.make_helper.Goals as goal
 
 pub returns-clause-none : goal.returns-clause-none

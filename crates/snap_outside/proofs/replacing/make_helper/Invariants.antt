@@ -1,6 +1,4 @@
-use Rattle.std.proofs.Common.{◌≡◌}
-use Rattle.snap_outside.specs.Disks.{asked_of}
-use Rattle.snap_outside.specs.Writing.{tried}
+use Rattle.snap_outside.proofs.Prelude.{◌≡◌, asked_of, tried}
 use Rattle.snap_outside.proofs.replacing.make_helper.Given as goal
 
 -- the names before this one were taken

@@ -1,5 +1,4 @@
-use Rattle.std.proofs.Common.{refl}
-use Rattle.std.specs.Fmt.{digits}
+use Rattle.snap_owed_json.proofs.Prelude.{refl, digits}
 use Rattle.snap_owed_json.proofs.laws.worked_examples.Goals as goal
 
 pub returns-clause-tokens : goal.returns-clause-tokens

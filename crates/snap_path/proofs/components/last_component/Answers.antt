@@ -1,7 +1,4 @@
-use Rattle.std.proofs.Common.{[], ◌∷◌, ◌++◌, ap, sym, ◌∙◌, rules}
-use Rattle.std.proofs.lemmas.Str.{chars-nil}
-use Rattle.std.specs.Str.{chars}
-use Rattle.snap_path.specs.Paths.{components}
+use Rattle.snap_path.proofs.Prelude.{[], ◌∷◌, ◌++◌, ap, sym, ◌∙◌, rules, chars-nil, chars, components}
 use Rattle.snap_path.proofs.Parts.{behind-here, behind-later, whole-here, whole-none}
 use Rattle.snap_path.proofs.components.last_component.Goals as goal
 

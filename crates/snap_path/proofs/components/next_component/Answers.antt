@@ -1,7 +1,4 @@
-use Rattle.std.proofs.Common.{◌∷◌, length, ap, sym, ◌∙◌, arith}
-use Rattle.std.proofs.lemmas.Str.{chars-nil}
-use Rattle.std.specs.Str.{chars}
-use Rattle.snap_path.specs.Paths.{components}
+use Rattle.snap_path.proofs.Prelude.{◌∷◌, length, ap, sym, ◌∙◌, arith, chars-nil, chars, components}
 use Rattle.snap_path.proofs.Parts.{next-here, next-last, component-size}
 use Rattle.snap_path.proofs.components.next_component.Goals as goal
 

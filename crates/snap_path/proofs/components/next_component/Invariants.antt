@@ -1,8 +1,4 @@
-use Rattle.std.proofs.Common.{◌≡◌, ◌≤◌, length}
-use denote.Text.{Utf8}
-use denote.Shadow.{shadow}
-use Rattle.std.specs.Str.{chars}
-use Rattle.snap_path.specs.Paths.{components}
+use Rattle.snap_path.proofs.Prelude.{◌≡◌, ◌≤◌, length, Utf8, shadow, chars, components}
 use Rattle.snap_path.proofs.components.next_component.Given as goal
 
 -- what is left has the same components, and is no longer

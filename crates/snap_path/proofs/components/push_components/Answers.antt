@@ -1,6 +1,4 @@
-use Rattle.std.proofs.Common.{rules}
-use Rattle.std.specs.Str.{chars}
-use Rattle.snap_path.specs.Paths.{components}
+use Rattle.snap_path.proofs.Prelude.{rules, chars, components}
 use Rattle.snap_path.proofs.Parts.{part-pushed, part-stands, all-pushed, all-stand}
 use Rattle.snap_path.proofs.components.push_components.Goals as goal
 

@@ -1,8 +1,4 @@
-use Rattle.std.proofs.Common.{◌≡◌, ◌++◌, length}
-use denote.Text.{Utf8}
-use denote.Shadow.{shadow}
-use Rattle.std.specs.Str.{chars}
-use Rattle.snap_path.specs.Paths.{components, then_slashed, stand_behind}
+use Rattle.snap_path.proofs.Prelude.{◌≡◌, ◌++◌, length, Utf8, shadow, chars, components, then_slashed, stand_behind}
 use Rattle.snap_path.proofs.components.push_components.Given as goal
 
 -- what stands so far, and what is left behind it

@@ -1,7 +1,4 @@
-use Rattle.std.proofs.Common.{[], ◌∷◌, ◌++◌, codes, refl, ap, ◌∙◌, rules}
-use Rattle.std.specs.Str.{chars}
-use Rattle.snap_content.proofs.Ascii.{chars-ascii}
-use Rattle.snap_path.specs.Paths.{components, steps_up, then_slashed}
+use Rattle.snap_path.proofs.Prelude.{[], ◌∷◌, ◌++◌, codes, refl, ap, ◌∙◌, rules, chars, chars-ascii, components, steps_up, then_slashed}
 use Rattle.snap_path.proofs.Parts.{part-pushed, part-stands, all-pushed, all-stand}
 use Rattle.snap_path.proofs.components.push_steps.Goals as goal
 

@@ -1,8 +1,4 @@
-use Rattle.std.proofs.Common.{◌≡◌, ◌++◌, false, length}
-use denote.Text.{Utf8}
-use denote.Shadow.{shadow}
-use Rattle.std.specs.Str.{chars}
-use Rattle.snap_path.specs.Paths.{components, steps_up, then_slashed, stand_behind}
+use Rattle.snap_path.proofs.Prelude.{◌≡◌, ◌++◌, false, length, Utf8, shadow, chars, components, steps_up, then_slashed, stand_behind}
 use Rattle.snap_path.proofs.components.push_steps.Given as goal
 
 -- the steps so far, and those for what is left behind them

@@ -1,6 +1,4 @@
-use Rattle.std.proofs.Common.{ap, sym, ◌∙◌}
-use Rattle.std.specs.Str.{chars}
-use Rattle.snap_path.specs.Paths.{components, last_of, name_of}
+use Rattle.snap_path.proofs.Prelude.{ap, sym, ◌∙◌, chars, components, last_of, name_of}
 use Rattle.snap_path.proofs.Parts.{last_of-push}
 use Rattle.snap_path.proofs.names.path_name.Goals as goal
 

@@ -1,8 +1,4 @@
-use Rattle.std.proofs.Common.{◌≡◌, length}
-use denote.Text.{Utf8}
-use denote.Shadow.{shadow}
-use Rattle.std.specs.Str.{chars}
-use Rattle.snap_path.specs.Paths.{apart, components}
+use Rattle.snap_path.proofs.Prelude.{◌≡◌, length, Utf8, shadow, chars, apart, components}
 use Rattle.snap_path.proofs.paths.apart.Given as goal
 
 -- what is left falls apart as the whole does

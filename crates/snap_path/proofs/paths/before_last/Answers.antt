@@ -1,7 +1,4 @@
-use Rattle.std.proofs.Common.{ap, sym, ◌∙◌}
-use Rattle.std.proofs.lemmas.Str.{chars-nil}
-use Rattle.std.specs.Str.{chars}
-use Rattle.snap_path.specs.Paths.{all_but_last, components}
+use Rattle.snap_path.proofs.Prelude.{ap, sym, ◌∙◌, chars-nil, chars, all_but_last, components}
 use Rattle.snap_path.proofs.Parts.{all_but_last-push}
 use Rattle.snap_path.proofs.paths.before_last.Goals as goal
 

@@ -1,6 +1,4 @@
-use Rattle.std.proofs.Common.{sym, ◌∙◌}
-use Rattle.std.specs.Str.{chars}
-use Rattle.snap_path.specs.Paths.{components}
+use Rattle.snap_path.proofs.Prelude.{sym, ◌∙◌, chars, components}
 use Rattle.snap_path.proofs.Parts.{apart-common, apart-both}
 use Rattle.snap_path.proofs.paths.behind_common.Goals as goal
 

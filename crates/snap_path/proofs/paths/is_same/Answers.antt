@@ -1,4 +1,4 @@
-use Rattle.std.proofs.Common.{◌∙◌}
+use Rattle.snap_path.proofs.Prelude.{◌∙◌}
 use Rattle.snap_content.proofs.Ends.{same_texts}
 use Rattle.snap_path.proofs.paths.is_same.Goals as goal
 

@@ -1,6 +1,4 @@
-use Rattle.std.proofs.Common.{◌++◌, false, ap, sym, ◌∙◌}
-use Rattle.std.specs.Str.{chars}
-use Rattle.snap_path.specs.Paths.{components, then_slashed, stand_behind, start, is_absolute}
+use Rattle.snap_path.proofs.Prelude.{◌++◌, false, ap, sym, ◌∙◌, chars, components, then_slashed, stand_behind, start, is_absolute}
 use Rattle.snap_path.proofs.Parts.{joined-below}
 use Rattle.snap_path.proofs.paths.path_join.Goals as goal
 

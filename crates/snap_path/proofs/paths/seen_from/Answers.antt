@@ -1,5 +1,4 @@
-use Rattle.std.specs.Str.{chars}
-use Rattle.snap_path.specs.Paths.{apart, components}
+use Rattle.snap_path.proofs.Prelude.{chars, apart, components}
 use Rattle.snap_path.proofs.Parts.{seen-apart}
 use Rattle.snap_path.proofs.paths.seen_from.Goals as goal
 

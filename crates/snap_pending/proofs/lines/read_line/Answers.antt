@@ -1,9 +1,4 @@
-use Rattle.std.proofs.Common.{length, sym, ◌∙◌, subst}
-use Rattle.std.proofs.lemmas.Bool.{eqb-true, eqb-false}
-use Rattle.std.specs.Str.{chars}
-use Rattle.snap_content.specs.declared.error.Error.{Error}
-use Rattle.snap_str.proofs.LineTexts.{some_bytes, no_bytes}
-use Rattle.snap_pending.specs.Told.{LineRefused}
+use Rattle.snap_pending.proofs.Prelude.{length, sym, ◌∙◌, subst, eqb-true, eqb-false, chars, Error, some_bytes, no_bytes, LineRefused}
 use Rattle.snap_pending.proofs.LinesRead.{empty_is_unprinted, empty_is_no_json, parse_refused, line_end}
 use Rattle.snap_pending.proofs.lines.read_line.Goals as goal
 

@@ -1,8 +1,4 @@
-use Rattle.std.proofs.Common.{ap, sym, ◌∙◌, subst}
-use Rattle.snap_content.specs.Plain.{Plain}
-use Rattle.snap_content.specs.View.{pair_trees}
-use Rattle.snap_content.proofs.DictMade.{dict_of}
-use Rattle.snap_pending.specs.Told.{RecordEnd}
+use Rattle.snap_pending.proofs.Prelude.{ap, sym, ◌∙◌, subst, Plain, pair_trees, dict_of, RecordEnd}
 use Rattle.snap_pending.proofs.lines.read_record.Goals as goal
 
 pub returns-in-Map : goal.returns-in-Map

@@ -1,6 +1,4 @@
-use Rattle.std.proofs.Common.{refl, ap, sym, ◌∙◌, Some}
-use Rattle.std.specs.Prelude.{codes}
-use Rattle.snap_store.specs.Fields.{last_filled}
+use Rattle.snap_pending.proofs.Prelude.{refl, ap, sym, ◌∙◌, Some, codes, last_filled}
 use Rattle.snap_pending.specs.Told.IsOtherRecord.{other_new, other_old}
 use Rattle.snap_pending.specs.Told.LacksInRecord.{lacks_run, lacks_line, lacks_in_new, lacks_in_old}
 use Rattle.snap_pending.proofs.Parts.{held_refused, may_tell}

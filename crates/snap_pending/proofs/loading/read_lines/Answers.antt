@@ -1,6 +1,4 @@
-use Rattle.std.specs.Str.{chars}
-use Rattle.snap_str.specs.Lines.{lines}
-use Rattle.snap_pending.specs.Batches.{records_of}
+use Rattle.snap_pending.proofs.Prelude.{chars, lines, records_of}
 use Rattle.snap_pending.proofs.LinesRead.{all_told}
 use Rattle.snap_pending.proofs.loading.read_lines.Goals as goal
 

@@ -1,9 +1,6 @@
-use Rattle.std.proofs.Common.{length}
+use Rattle.snap_pending.proofs.Prelude.{length, chars, lines, records_of}
 use denote.Text.{Utf8}
 use denote.Shadow.{shadow}
-use Rattle.std.specs.Str.{chars}
-use Rattle.snap_str.specs.Lines.{lines}
-use Rattle.snap_pending.specs.Batches.{records_of}
 use Rattle.snap_pending.proofs.LinesRead.{Told, Refused}
 use Rattle.snap_pending.proofs.loading.read_lines.Given as goal
 

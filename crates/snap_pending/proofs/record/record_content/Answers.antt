@@ -1,6 +1,5 @@
-use Rattle.std.proofs.Common.{ap, ◌∙◌}
-use Rattle.snap_content.specs.Tree.{u32, map}
-use Rattle.snap_store.proofs.Headers.{tree-pairs, tree-U32, in_front-none}
+use Rattle.snap_pending.proofs.Prelude.{ap, ◌∙◌, u32, tree-pairs, tree-U32, in_front-none}
+use Rattle.snap_content.specs.Tree.{map}
 use Rattle.snap_pending.proofs.Records.{record_pairs}
 use Rattle.snap_pending.proofs.record.record_content.Goals as goal
 

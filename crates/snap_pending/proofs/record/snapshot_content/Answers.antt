@@ -1,7 +1,5 @@
-use Rattle.std.proofs.Common.{ap, ◌∙◌}
+use Rattle.snap_pending.proofs.Prelude.{ap, ◌∙◌, meta_tree, tree-pairs, in_front-none}
 use Rattle.snap_content.specs.Tree.{map}
-use Rattle.snap_store.specs.MetaTree.{meta_tree}
-use Rattle.snap_store.proofs.Headers.{tree-pairs, in_front-none}
 use Rattle.snap_pending.proofs.Records.{held_pairs}
 use Rattle.snap_pending.proofs.record.snapshot_content.Goals as goal
 

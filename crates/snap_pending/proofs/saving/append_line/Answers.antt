@@ -1,9 +1,9 @@
-use Rattle.std.proofs.Common.{refl}
-use Rattle.snap_pending.proofs.Ends.{same_but_then, text_added}
+use Rattle.snap_pending.proofs.Prelude.{refl, nothing_written}
+use Rattle.snap_pending.proofs.Ends.{text_added}
 use Rattle.snap_pending.proofs.saving.append_line.Goals as goal
 
 pub returns-in_err-named-clause-unknown : goal.returns-in_err-named-clause-unknown
-returns-in_err-named-clause-unknown g c = same_but_then c.from_residual.result c.args.path.now (g.S.Store.files c.args.store.now)
+returns-in_err-named-clause-unknown g c = nothing_written c.from_residual.result c.args.path.now (g.S.Store.files c.args.store.now)
 
 pub returns-in-Ok-clause-added : goal.returns-in-Ok-clause-added
 returns-in-Ok-clause-added g c = λ m told.

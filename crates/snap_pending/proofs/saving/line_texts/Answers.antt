@@ -1,6 +1,4 @@
-use Rattle.std.proofs.Common.{◌∙◌}
-use Rattle.snap_pending.specs.Pending.{pending_of}
-use Rattle.snap_pending.specs.Record.{is_refused, record_line}
+use Rattle.snap_pending.proofs.Prelude.{◌∙◌, pending_of, is_refused, record_line}
 use Rattle.snap_pending.proofs.Lists.{mapped_next, none_more, mapped_all, none_at_all, any_here, refused_in}
 use Rattle.snap_pending.proofs.saving.line_texts.Goals as goal
 

@@ -1,7 +1,4 @@
-use Rattle.std.proofs.Common.{◌≡◌, false, take, map}
-use Rattle.std.specs.List.{list_any}
-use Rattle.snap_pending.specs.Pending.{pending_of}
-use Rattle.snap_pending.specs.Record.{is_refused, record_line}
+use Rattle.snap_pending.proofs.Prelude.{◌≡◌, false, take, map, list_any, pending_of, is_refused, record_line}
 use Rattle.snap_pending.proofs.saving.line_texts.Given as goal
 
 abbrev pub invariant-loop-pending : goal.invariant-loop-pending

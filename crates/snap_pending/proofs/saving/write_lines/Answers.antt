@@ -1,4 +1,4 @@
-use Rattle.std.proofs.Common.{◌∙◌, ap, Some, take}
+use Rattle.snap_pending.proofs.Prelude.{◌∙◌, ap, Some, take}
 use Rattle.snap_pending.proofs.Ends.{at_err}
 use Rattle.snap_pending.proofs.FileLines.{next_line, all_lines, same_but_lines}
 use Rattle.snap_pending.proofs.saving.write_lines.Goals as goal

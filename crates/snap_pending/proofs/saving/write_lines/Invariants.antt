@@ -1,6 +1,4 @@
-use Rattle.std.proofs.Common.{◌≡◌, Some, take}
-use Rattle.snap_outside.specs.Files.{Files}
-use Rattle.snap_pending.specs.Saved.{with_lines}
+use Rattle.snap_pending.proofs.Prelude.{◌≡◌, Some, take, Files, with_lines}
 use Rattle.snap_pending.proofs.saving.write_lines.Given as goal
 
 abbrev pub invariant-loop-line : goal.invariant-loop-line

@@ -1,8 +1,4 @@
-use Rattle.std.proofs.Common.{ap, sym, ◌∙◌, subst}
-use Rattle.snap_content.specs.Plain.{Plain}
-use Rattle.snap_content.specs.View.{pair_trees}
-use Rattle.snap_content.proofs.DictMade.{dict_of}
-use Rattle.snap_pending.specs.Told.{HeldEnd}
+use Rattle.snap_pending.proofs.Prelude.{ap, sym, ◌∙◌, subst, Plain, pair_trees, dict_of, HeldEnd}
 use Rattle.snap_pending.proofs.snapshots.read_snapshot.Goals as goal
 
 pub returns-in-Map : goal.returns-in-Map

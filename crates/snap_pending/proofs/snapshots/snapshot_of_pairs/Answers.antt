@@ -1,7 +1,4 @@
-use Rattle.std.proofs.Common.{refl}
-use Rattle.std.specs.Prelude.{codes}
-use Rattle.snap_store.specs.Fields.{last_value}
-use Rattle.snap_store.specs.Views.{meta_of}
+use Rattle.snap_pending.proofs.Prelude.{refl, codes, last_value, meta_of}
 use Rattle.snap_pending.specs.Told.LacksInHeld.{lacks_metadata, lacks_text}
 use Rattle.snap_pending.proofs.Parts.{metadata_refused, contents_refused, no_metadata_there, no_contents_there, metadata_there, contents_there, named_end}
 use Rattle.snap_pending.proofs.snapshots.snapshot_of_pairs.Goals as goal

@@ -1,7 +1,4 @@
-use Rattle.std.proofs.Common.{◌≡◌, ℕ, List, [], ◌∷◌, ◌++◌, sym, ap, ◌∙◌, subst}
-use Rattle.std.proofs.lemmas.Result.{IfOk-weaker}
-use Rattle.snap_path.specs.Paths.{front_of, IsName}
-use Rattle.snap_path.proofs.Joining.{joined-name}
+use Rattle.snap_place.proofs.Prelude.{◌≡◌, ℕ, List, [], ◌∷◌, ◌++◌, sym, ap, ◌∙◌, subst, IfOk-weaker, front_of, IsName, joined-name}
 use Rattle.snap_place.proofs.below.below_folder.Goals as goal
 
 pub returns-then-is_name : goal.returns-then-is_name

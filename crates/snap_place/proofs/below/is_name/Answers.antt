@@ -1,6 +1,4 @@
-use Rattle.std.proofs.Common.{sym, ◌∙◌}
-use Rattle.std.specs.Str.{chars}
-use Rattle.snap_content.proofs.Booleans.{not_true}
+use Rattle.snap_place.proofs.Prelude.{sym, ◌∙◌, chars, not_true}
 use Rattle.snap_place.proofs.BelowPaths.{name}
 use Rattle.snap_place.proofs.below.is_name.Goals as goal
 

@@ -1,7 +1,5 @@
-use Rattle.std.proofs.Common.{sym, ap, ◌∙◌}
-use Rattle.std.proofs.lemmas.Result.{IfOk-weaker}
+use Rattle.snap_place.proofs.Prelude.{sym, ap, ◌∙◌, IfOk-weaker, joined}
 use Rattle.snap_content.specs.Front.{begins}
-use Rattle.snap_path.specs.Paths.{joined}
 use Rattle.snap_place.proofs.BelowPaths.{seen-below}
 use Rattle.snap_place.proofs.below.seen_below.Goals as goal
 

@@ -1,4 +1,4 @@
-use Rattle.std.specs.Str.{chars}
+use Rattle.snap_place.proofs.Prelude.{chars}
 use Rattle.snap_place.proofs.LastPart.{in_itself}
 use Rattle.snap_place.proofs.file_path.last_part_of.Goals as goal
 

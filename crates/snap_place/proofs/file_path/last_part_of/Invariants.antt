@@ -1,8 +1,4 @@
-use Rattle.std.proofs.Common.{◌≡◌, length, cond}
-use denote.Text.{Utf8}
-use denote.Shadow.{shadow}
-use Rattle.std.specs.Str.{chars}
-use Rattle.snap_place.specs.Place.{holds_slash, last_part}
+use Rattle.snap_place.proofs.Prelude.{◌≡◌, length, cond, Utf8, shadow, chars, holds_slash, last_part}
 use Rattle.snap_place.proofs.file_path.last_part_of.Given as goal
 
 -- the last part is in what is left where that holds a slash, and else it is what was found last

@@ -1,4 +1,4 @@
-use Rattle.std.specs.Str.{chars}
+use Rattle.snap_place.proofs.Prelude.{chars}
 use Rattle.snap_path.proofs.Cuts.{past_mark-stripped}
 use Rattle.snap_place.proofs.front.behind.Goals as goal
 

@@ -1,4 +1,4 @@
-use Rattle.snap_content.proofs.Ascii.{chars-ascii}
+use Rattle.snap_place.proofs.Prelude.{chars-ascii}
 use Rattle.snap_place.proofs.front.behind_ascii.Goals as goal
 
 pub returns : goal.returns

@@ -1,6 +1,4 @@
-use Rattle.std.proofs.Common.{◌∙◌, ap, unwrap_or, [], refl}
-use Rattle.snap_content.proofs.Ascii.{chars-ascii}
-use Rattle.snap_path.specs.Paths.{name_of}
+use Rattle.snap_place.proofs.Prelude.{◌∙◌, ap, unwrap_or, [], refl, chars-ascii, name_of}
 use Rattle.snap_place.proofs.paths.name_of_file.Goals as goal
 
 pub returns-in-None : goal.returns-in-None

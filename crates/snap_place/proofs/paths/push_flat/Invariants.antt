@@ -1,9 +1,4 @@
-use Rattle.std.proofs.Common.{◌≡◌, ◌++◌, length}
-use denote.Text.{Utf8}
-use denote.Shadow.{shadow}
-use Rattle.std.specs.List.{flat_map}
-use Rattle.std.specs.Str.{chars}
-use Rattle.snap_place.specs.SnapshotPath.{flat_character}
+use Rattle.snap_place.proofs.Prelude.{◌≡◌, ◌++◌, length, Utf8, shadow, flat_map, chars, flat_character}
 use Rattle.snap_place.proofs.paths.push_flat.Given as goal
 
 abbrev pub invariant-loop-c : goal.invariant-loop-c

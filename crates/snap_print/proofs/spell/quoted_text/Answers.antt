@@ -1,8 +1,6 @@
-use Rattle.std.proofs.Common.{◌≡◌, ◌∷◌, ◌++◌, [], sym, ap, ◌∙◌, map-id}
+use Rattle.snap_print.proofs.Prelude.{◌≡◌, ◌∷◌, ◌++◌, [], sym, ap, ◌∙◌, map-id, flat_map, escaped}
 use Rattle.std.proofs.lemmas.Iterator.{YieldsList-from_chars}
 use Rattle.std.proofs.lemmas.Iterator.Consumers.{YieldsList-end}
-use Rattle.std.specs.List.{flat_map}
-use Rattle.snap_content.specs.Spell.{escaped}
 use Rattle.snap_print.proofs.spell.quoted_text.Goals as goal
 
 pub returns : goal.returns

@@ -1,6 +1,4 @@
-use Rattle.std.proofs.Common.{◌≡◌, ◌∷◌}
-use Rattle.std.specs.List.{flat_map}
-use Rattle.snap_content.specs.Spell.{escaped}
+use Rattle.snap_print.proofs.Prelude.{◌≡◌, ◌∷◌, flat_map, escaped}
 use Rattle.snap_print.proofs.spell.quoted_text.Given as goal
 
 abbrev pub invariant-loop-c : goal.invariant-loop-c

@@ -1,9 +1,4 @@
-use Rattle.std.proofs.Common.{◌||◌, ◌∙◌, ℕ, List, Bool, not, Result, sym, ap}
-use Rattle.std.specs.Str.{chars}
-use Rattle.snap_token.specs.declared.info.ScanInfo.{ScanInfo}
-use Rattle.snap_token.specs.Folding.{is_nil}
-use Rattle.snap_property.specs.Anchor.{ends_name}
-use Rattle.snap_property.specs.Reading.{Found, found}
+use Rattle.snap_property.proofs.Prelude.{◌||◌, ◌∙◌, ℕ, List, Bool, not, Result, sym, ap, chars, ScanInfo, is_nil, ends_name, Found, found}
 use Rattle.snap_property.proofs.Names.{anchor-refused, anchor-read}
 use Rattle.snap_property.proofs.anchor.scan_anchor.Goals as goal
 

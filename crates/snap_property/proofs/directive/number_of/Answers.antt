@@ -1,8 +1,4 @@
-use Rattle.std.proofs.Common.{◌≡◌, ◌∙◌, sym, ap, Result, ℕ, false, arith}
-use Rattle.std.specs.Str.{chars}
-use Rattle.snap_token.specs.Folding.{is_nil}
-use Rattle.snap_token.specs.declared.info.ScanInfo.{ScanInfo}
-use Rattle.snap_property.specs.Reading.{Found, found}
+use Rattle.snap_property.proofs.Prelude.{◌≡◌, ◌∙◌, sym, ap, Result, ℕ, false, arith, chars, is_nil, ScanInfo, Found, found}
 use Rattle.snap_property.proofs.Digits.{parsed-ok, parsed-err, number-read, number-long}
 use Rattle.snap_property.proofs.directive.number_of.Goals as goal
 

@@ -1,7 +1,4 @@
-use Rattle.std.proofs.Common.{refl, subst, codes}
-use Rattle.snap_token.specs.Causes.{IsRefusedBy}
-use Rattle.snap_token.specs.Mark.{Mark}
-use Rattle.snap_token.proofs.Explained.{explained}
+use Rattle.snap_property.proofs.Prelude.{refl, subst, codes, IsRefusedBy, Mark, explained}
 use Rattle.snap_property.proofs.Names.{explained-answer}
 use Rattle.snap_property.proofs.directive.scan_directive.Goals as goal
 

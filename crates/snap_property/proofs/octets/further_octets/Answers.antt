@@ -1,4 +1,4 @@
-use Rattle.std.proofs.Common.{◌≡◌, arith}
+use Rattle.snap_property.proofs.Prelude.{◌≡◌, arith}
 use Rattle.snap_property.proofs.Spelled.{continues-none, answers-at}
 use Rattle.snap_property.proofs.octets.further_octets.Goals as goal
 

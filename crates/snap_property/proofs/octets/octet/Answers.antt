@@ -1,9 +1,4 @@
-use Rattle.std.proofs.Common.{◌≡◌, ◌*◌, ◌+◌, ◌∙◌, [], ◌∷◌, None, slice_index, sym, ap, subst}
-use Rattle.std.specs.Option.{is_some}
-use Rattle.std.proofs.lemmas.Bool.{and_right}
-use Rattle.snap_token.specs.Place.{Place, skipped}
-use Rattle.snap_token.specs.Quoted.{hexadecimal}
-use Rattle.snap_property.specs.Characters.{Spells}
+use Rattle.snap_property.proofs.Prelude.{◌≡◌, ◌*◌, ◌+◌, ◌∙◌, [], ◌∷◌, None, slice_index, sym, ap, subst, is_some, and_right, Place, skipped, hexadecimal, Spells}
 use Rattle.snap_property.proofs.Spelled.{spells-octet, no-sign, no-digits}
 use Rattle.snap_property.proofs.octets.octet.Goals as goal
 

@@ -1,4 +1,4 @@
-use Rattle.std.proofs.Common.{refl, arith}
+use Rattle.snap_property.proofs.Prelude.{refl, arith}
 use Rattle.snap_property.proofs.Spelled.{breaks-at-one, breaks-at-other}
 use Rattle.snap_property.proofs.octets.one_further.Goals as goal
 

@@ -1,6 +1,4 @@
-use Rattle.std.proofs.Common.{ℕ, refl, sym, subst}
-use Rattle.std.specs.Char.{IsScalar, encode_utf8}
-use Rattle.snap_property.specs.Characters.{Spells}
+use Rattle.snap_property.proofs.Prelude.{ℕ, refl, sym, subst, IsScalar, encode_utf8, Spells}
 use Rattle.snap_property.proofs.Spelled.{character-spelled, no-first, no-further, no-code}
 use Rattle.snap_property.proofs.octets.scan_uri_escapes.Goals as goal
 

@@ -1,4 +1,4 @@
-use Rattle.std.proofs.Common.{◌∙◌}
+use Rattle.snap_property.proofs.Prelude.{◌∙◌}
 use Rattle.snap_token.proofs.Empties.{nil-text}
 use Rattle.snap_property.proofs.runs.is_nil.Goals as goal
 

@@ -1,6 +1,4 @@
-use Rattle.std.proofs.Common.{◌++◌, ◌∙◌, ℕ, List, Bool, refl, sym, ap, take_while}
-use Rattle.snap_token.specs.Characters.{is_of}
-use Rattle.snap_token.specs.Place.{Place}
+use Rattle.snap_property.proofs.Prelude.{◌++◌, ◌∙◌, ℕ, List, Bool, refl, sym, ap, take_while, is_of, Place}
 use Rattle.snap_property.proofs.Taken.{run-split}
 use Rattle.snap_property.proofs.runs.take_run.Goals as goal
 

@@ -1,6 +1,4 @@
-use Rattle.std.proofs.Common.{◌∙◌}
-use Rattle.std.specs.Str.{chars}
-use Rattle.snap_property.specs.Tag.{local, shorthand}
+use Rattle.snap_property.proofs.Prelude.{◌∙◌, chars, local, shorthand}
 use Rattle.snap_property.proofs.Answered.{reads-same}
 use Rattle.snap_property.proofs.Names.{shorthand-local}
 use Rattle.snap_property.proofs.Uris.{headed-name}

@@ -1,7 +1,4 @@
-use Rattle.std.proofs.Common.{◌∙◌, [], sym, ap}
-use Rattle.std.proofs.lemmas.Str.{chars-nil}
-use Rattle.std.specs.Str.{chars}
-use Rattle.snap_token.specs.Folding.{is_nil}
+use Rattle.snap_property.proofs.Prelude.{◌∙◌, [], sym, ap, chars-nil, chars, is_nil}
 use Rattle.snap_property.proofs.Uris.{some-refused, some-empty, some-read}
 use Rattle.snap_property.proofs.tag.scan_some_uri.Goals as goal
 

@@ -1,11 +1,4 @@
-use Rattle.std.proofs.Common.{◌≡◌, ◌==◌, ◌∙◌, ◌++◌, ℕ, List, [], ◌∷◌, Result, Err, true, false, slice_index, sym, ap, subst, arith}
-use Rattle.std.specs.Str.{chars}
-use Rattle.snap_property.specs.Octets.{headed, uri_from}
-use Rattle.std.proofs.lemmas.Bool.{ne_eqb, or_from}
-use Rattle.snap_token.specs.Characters.{is_uri}
-use Rattle.snap_token.specs.Place.{Place}
-use Rattle.snap_token.specs.declared.info.ScanInfo.{ScanInfo}
-use Rattle.snap_property.specs.Reading.{Found}
+use Rattle.snap_property.proofs.Prelude.{◌≡◌, ◌==◌, ◌∙◌, ◌++◌, ℕ, List, [], ◌∷◌, Result, Err, true, false, slice_index, sym, ap, subst, arith, chars, headed, uri_from, ne_eqb, or_from, is_uri, Place, ScanInfo, Found}
 use Rattle.snap_property.proofs.Uris.{headed-refused, headed-end, headed-more, headed-plain}
 use Rattle.snap_property.proofs.tag.scan_tag_uri.Goals as goal
 

@@ -1,7 +1,4 @@
-use Rattle.std.proofs.Common.{◌≡◌, ◌≤◌, ◌+◌, length}
-use Rattle.std.specs.Str.{chars}
-use Rattle.snap_token.specs.Place.{Place, Later}
-use Rattle.snap_property.specs.Octets.{headed, uri_from}
+use Rattle.snap_property.proofs.Prelude.{◌≡◌, ◌≤◌, ◌+◌, length, chars, Place, Later, headed, uri_from}
 use Rattle.snap_property.proofs.tag.scan_tag_uri.Given as goal
 
 abbrev pub invariant-characters : goal.invariant-characters

@@ -1,4 +1,4 @@
-use Rattle.std.proofs.Common.{sym, ◌∙◌, arith}
+use Rattle.snap_request.proofs.Prelude.{sym, ◌∙◌, arith}
 use Rattle.snap_request.proofs.Cutting.{line_place, line_behind, line_ends, line_goes_on, last_line, one_document}
 use Rattle.snap_request.proofs.cut.first_document_end.Goals as goal
 

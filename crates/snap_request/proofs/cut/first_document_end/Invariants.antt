@@ -1,4 +1,4 @@
-use Rattle.std.proofs.Common.{◌≡◌, ◌≤◌, length, drop}
+use Rattle.snap_request.proofs.Prelude.{◌≡◌, ◌≤◌, length, drop}
 use Rattle.snap_request.proofs.Cutting.{IsWithin}
 use Rattle.snap_request.proofs.cut.first_document_end.Given as goal
 

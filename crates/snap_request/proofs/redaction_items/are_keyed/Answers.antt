@@ -1,5 +1,4 @@
-use Rattle.std.proofs.Common.{ap, nat_eq, ◌∙◌}
-use Rattle.snap_request.specs.Requests.{pair_count}
+use Rattle.snap_request.proofs.Prelude.{ap, nat_eq, ◌∙◌, pair_count}
 use Rattle.snap_request.proofs.RequestMade.{as_many}
 use Rattle.snap_request.proofs.redaction_items.are_keyed.Goals as goal
 

@@ -1,4 +1,4 @@
-use Rattle.std.proofs.Common.{Some, ap, ◌∙◌}
+use Rattle.snap_request.proofs.Prelude.{Some, ap, ◌∙◌}
 use Rattle.snap_content.specs.Tree.{Tree}
 use Rattle.snap_select.specs.Replacements.{put_of}
 use Rattle.snap_request.proofs.RedactionsRead.{put_made}

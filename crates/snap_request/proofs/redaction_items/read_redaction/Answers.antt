@@ -1,10 +1,5 @@
-use Rattle.std.proofs.Common.{ap, sym, subst, ◌≡◌, ◌∙◌, IfOk, option_map}
-use Rattle.snap_content.specs.Plain.{Plain}
-use Rattle.snap_content.specs.View.{pair_trees}
-use Rattle.snap_settings.specs.Replaced.{replacement_of}
-use Rattle.snap_request.specs.Requests.{redaction_in}
+use Rattle.snap_request.proofs.Prelude.{ap, sym, subst, ◌≡◌, ◌∙◌, IfOk, option_map, Plain, pair_trees, replacement_of, redaction_in, dict_of}
 use Rattle.snap_request.proofs.redaction_items.read_redaction.Goals as goal
-use Rattle.snap_content.proofs.DictMade.{dict_of}
 
 pub returns-in-Map : goal.returns-in-Map
 returns-in-Map c = λ plain made.

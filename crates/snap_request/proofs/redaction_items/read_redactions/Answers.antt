@@ -1,6 +1,4 @@
-use Rattle.std.proofs.Common.{◌+◌, ◌∷◌, ap, sym, ◌∙◌, drop, option_map}
-use Rattle.std.proofs.lemmas.List.{drop_more, drop_all}
-use Rattle.snap_settings.specs.Replaced.{replacement_of, replacements_of}
+use Rattle.snap_request.proofs.Prelude.{◌+◌, ◌∷◌, ap, sym, ◌∙◌, drop, option_map, drop_more, drop_all, replacement_of, replacements_of}
 use Rattle.snap_request.proofs.RedactionsRead.{reads_on, reads_none, reads_all, one_more_held}
 use Rattle.snap_request.proofs.redaction_items.read_redactions.Goals as goal
 

@@ -1,5 +1,4 @@
-use Rattle.std.proofs.Common.{drop}
-use Rattle.snap_settings.specs.Replaced.{replacements_of}
+use Rattle.snap_request.proofs.Prelude.{drop, replacements_of}
 use Rattle.snap_request.proofs.RedactionsRead.{ReadsOn}
 use Rattle.snap_request.proofs.redaction_items.read_redactions.Given as goal
 

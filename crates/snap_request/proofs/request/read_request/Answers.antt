@@ -1,5 +1,4 @@
-use Rattle.std.proofs.Common.{◌≡◌, ap, sym, ◌∙◌, option_map, IsErrOf, Err}
-use Rattle.snap_request.specs.RequestOf.{request_of}
+use Rattle.snap_request.proofs.Prelude.{◌≡◌, ap, sym, ◌∙◌, option_map, IsErrOf, Err, request_of}
 use Rattle.snap_request.specs.declared.request.Request.{Request}
 use Rattle.snap_request.specs.declared.request.RequestError.{RequestError}
 use Rattle.snap_request.proofs.RequestMade.{spelled, none_spelled, none_parsed}

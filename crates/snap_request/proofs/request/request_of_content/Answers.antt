@@ -1,10 +1,5 @@
-use Rattle.std.proofs.Common.{ap, sym, subst, ◌≡◌, ◌∙◌, IfOk, option_map}
-use Rattle.snap_content.specs.Plain.{Plain}
-use Rattle.snap_content.specs.View.{pair_trees}
-use Rattle.snap_request.specs.RequestOf.{request_of}
-use Rattle.snap_request.specs.Requests.{request_in}
+use Rattle.snap_request.proofs.Prelude.{ap, sym, subst, ◌≡◌, ◌∙◌, IfOk, option_map, Plain, pair_trees, request_of, request_in, dict_of}
 use Rattle.snap_request.proofs.request.request_of_content.Goals as goal
-use Rattle.snap_content.proofs.DictMade.{dict_of}
 
 pub returns : goal.returns
 returns c = λ plain made.

@@ -1,7 +1,4 @@
-use Rattle.std.proofs.Common.{ap, sym, ◌∙◌, Some, option_map}
-use Rattle.snap_content.specs.View.{pair_trees}
-use Rattle.snap_place.specs.Place.{names_file}
-use Rattle.snap_settings.specs.Replaced.{replacements_of}
+use Rattle.snap_request.proofs.Prelude.{ap, sym, ◌∙◌, Some, option_map, pair_trees, names_file, replacements_of}
 use Rattle.snap_request.proofs.RequestMade.{request_made}
 use Rattle.snap_request.proofs.request.request_of_pairs.Goals as goal
 

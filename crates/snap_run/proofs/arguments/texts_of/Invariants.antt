@@ -1,6 +1,5 @@
-use Rattle.std.proofs.Common.{◌≡◌, ◌++◌, Some}
+use Rattle.snap_run.proofs.Prelude.{◌≡◌, ◌++◌, Some, arguments_in, words_given}
 use Rattle.std.specs.Vec.Iter.{into_iter_len}
-use Rattle.snap_run.specs.Arguments.{arguments_in, words_given}
 use Rattle.snap_run.proofs.arguments.texts_of.Given as goal
 
 abbrev pub invariant-arguments : goal.invariant-arguments

@@ -1,5 +1,4 @@
-use Rattle.std.proofs.Common.{◌∙◌, sym, ap, encode_utf8_all, subst, ◌≤◌}
-use Rattle.std.proofs.lemmas.Str.{encodes-chars}
+use Rattle.snap_run.proofs.Prelude.{◌∙◌, sym, ap, encode_utf8_all, subst, ◌≤◌, encodes-chars}
 use Rattle.snap_run.proofs.Messages.{message_is, said}
 use Rattle.snap_run.proofs.command.conclude.Goals as goal
 

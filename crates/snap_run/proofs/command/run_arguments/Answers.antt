@@ -1,6 +1,4 @@
-use Rattle.std.proofs.Common.{◌≡◌, ◌∙◌, inl, subst}
-use Rattle.snap_run.specs.Arguments.{arguments_of, words_given}
-use Rattle.snap_run.specs.Program.{IsRunOf}
+use Rattle.snap_run.proofs.Prelude.{◌≡◌, ◌∙◌, inl, subst, arguments_of, words_given, IsRunOf}
 use Rattle.snap_run.proofs.command.run_arguments.Goals as goal
 
 pub returns-in-Ok : goal.returns-in-Ok

@@ -1,9 +1,7 @@
-use Rattle.std.proofs.Common.{refl, ap, ◌∙◌, Err}
+use Rattle.snap_run.proofs.Prelude.{refl, ap, ◌∙◌, Err, Outcome, words_of}
 use Rattle.snap_request.proofs.Requesting.{file_named}
 use Rattle.snap_run.proofs.DocumentEnds.{unchanged_before, path_is, printed_is, assertion_is, document_answered, refused_stops, refused_count}
-use Rattle.snap_assert.specs.declared.outcome.Outcome.{Outcome}
 use Rattle.snap_request.specs.RequestOf.{request_of}
-use Rattle.snap_run.specs.Runner.{words_of}
 use Rattle.snap_run.proofs.documents.assert_document.Goals as goal
 
 pub returns-in-Err-NoRequest-clause-err : goal.returns-in-Err-NoRequest-clause-err

@@ -1,6 +1,4 @@
-use Rattle.std.proofs.Common.{refl, sym, ◌∙◌, ap, encode_utf8_all}
-use Rattle.std.proofs.lemmas.Str.{encodes-chars}
-use Rattle.snap_run.specs.Runner.{words_of}
+use Rattle.snap_run.proofs.Prelude.{refl, sym, ◌∙◌, ap, encode_utf8_all, encodes-chars, words_of}
 use Rattle.snap_run.proofs.DocumentEnds.{answered_in_work, document_ran, line_fails}
 use Rattle.snap_run.proofs.documents.run_document.Goals as goal
 

@@ -1,4 +1,4 @@
-use Rattle.std.proofs.Common.{refl, ◌∙◌, arith}
+use Rattle.snap_run.proofs.Prelude.{refl, ◌∙◌, arith}
 use Rattle.snap_run.proofs.Stepping.{begins, goes_on, stops, first_is}
 use Rattle.snap_run.proofs.documents.run_documents.Goals as goal
 

@@ -1,6 +1,4 @@
-use Rattle.std.proofs.Common.{◌≡◌, ◌+◌, ◌≤◌, length}
-use Rattle.snap_request.specs.Cut.{documents}
-use Rattle.snap_run.specs.Runner.{words_of}
+use Rattle.snap_run.proofs.Prelude.{◌≡◌, ◌+◌, ◌≤◌, length, documents, words_of}
 use Rattle.snap_run.proofs.Stepping.{IsRun}
 use Rattle.snap_run.proofs.documents.run_documents.Given as goal
 

@@ -1,4 +1,4 @@
-use Rattle.std.proofs.Common.{◌∙◌, true, false}
+use Rattle.snap_run.proofs.Prelude.{◌∙◌, true, false}
 use Rattle.snap_run.proofs.RunEnds.{bad_words, no_memory, read_fault, too_long, finished, stopped}
 use Rattle.snap_run.proofs.running.run_words.Goals as goal
 

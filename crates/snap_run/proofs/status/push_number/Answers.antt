@@ -1,4 +1,4 @@
-use Rattle.std.proofs.Common.{◌<◌, ◌^◌, arith}
+use Rattle.snap_run.proofs.Prelude.{◌<◌, ◌^◌, arith}
 use Rattle.std.proofs.lemmas.Fmt.{IsAscii-decimal_wide}
 use Rattle.snap_content.proofs.Ascii.{list_all-IsAscii}
 use Rattle.snap_run.proofs.status.push_number.Goals as goal

@@ -1,5 +1,4 @@
-use Rattle.std.proofs.Common.{◌≡◌, ◌++◌, map, take, drop}
-use Rattle.snap_scan.specs.Keys.{fresh}
+use Rattle.snap_scan.proofs.Prelude.{◌≡◌, ◌++◌, map, take, drop, fresh}
 use Rattle.snap_scan.proofs.keys.give_up_all_stale.Given as goal
 
 abbrev pub invariant-loop-key : goal.invariant-loop-key

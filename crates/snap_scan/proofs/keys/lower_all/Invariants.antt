@@ -1,5 +1,4 @@
-use Rattle.std.proofs.Common.{◌≡◌, ◌++◌, map, take, drop}
-use Rattle.snap_scan.specs.Keys.{lowered}
+use Rattle.snap_scan.proofs.Prelude.{◌≡◌, ◌++◌, map, take, drop, lowered}
 use Rattle.snap_scan.proofs.keys.lower_all.Given as goal
 
 abbrev pub invariant-loop-key : goal.invariant-loop-key

@@ -1,6 +1,4 @@
-use Rattle.std.proofs.Common.{ℕ, subst, sym, slice_index}
-use Rattle.snap_scan.specs.declared.kind.TokenKind.{TokenKind}
-use Rattle.snap_scan.specs.Kinds.{Begins, kind_of_sign}
+use Rattle.snap_scan.proofs.Prelude.{ℕ, subst, sym, slice_index, TokenKind, Begins, kind_of_sign}
 use Rattle.snap_scan.proofs.Beginnings.{sign-begins}
 use Rattle.snap_scan.proofs.kind.kind_here.Goals as goal
 

@@ -1,7 +1,4 @@
-use Rattle.std.proofs.Common.{◌≡◌, ℕ, List, Option, refl, subst}
-use Rattle.std.specs.Option.{option_map_or}
-use Rattle.std.specs.Prelude.{codes}
-use Rattle.std.specs.Str.{chars}
+use Rattle.snap_select.proofs.Prelude.{◌≡◌, ℕ, List, Option, refl, subst, option_map_or, codes, chars}
 use Rattle.snap_select.proofs.content_path.key_text.Goals as goal
 
 content_chars : chars (codes "<content>") ≡ codes "<content>"

@@ -1,4 +1,4 @@
-use Rattle.std.proofs.Common.{◌≡◌, take}
+use Rattle.snap_select.proofs.Prelude.{◌≡◌, take}
 use Rattle.snap_select.proofs.copies.owned_parts.Given as goal
 
 abbrev pub invariant-loop-part : goal.invariant-loop-part

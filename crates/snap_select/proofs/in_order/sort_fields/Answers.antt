@@ -1,7 +1,4 @@
-use Rattle.std.proofs.Common.{rules}
-use Rattle.std.proofs.lemmas.List.Sorted.{answers_always}
-use Rattle.snap_select.specs.InOrder.{field_cmp}
-use Rattle.snap_content.specs.View.{field_tree}
+use Rattle.snap_select.proofs.Prelude.{rules, answers_always, field_cmp, field_tree}
 use Rattle.snap_select.proofs.ListsInOrder.{field_total}
 use Rattle.snap_select.proofs.StableSorts.{seen_before, seen_weak, one_outcome}
 use Rattle.snap_select.proofs.in_order.sort_fields.Goals as goal

@@ -1,8 +1,4 @@
-use Rattle.std.proofs.Common.{rules}
-use Rattle.std.proofs.lemmas.List.Sorted.{answers_always}
-use Rattle.snap_content.specs.Orders.{tree_cmp}
-use Rattle.snap_content.specs.View.{tree}
-use Rattle.snap_content.specs.TotalOrder.{tree_total}
+use Rattle.snap_select.proofs.Prelude.{rules, answers_always, tree_cmp, tree, tree_total}
 use Rattle.snap_select.proofs.StableSorts.{seen_before, seen_weak, one_outcome}
 use Rattle.snap_select.proofs.in_order.sort_items.Goals as goal
 

@@ -1,7 +1,4 @@
-use Rattle.std.proofs.Common.{rules}
-use Rattle.std.proofs.lemmas.List.Sorted.{answers_always}
-use Rattle.snap_select.specs.InOrder.{pair_cmp}
-use Rattle.snap_content.specs.View.{pair_tree}
+use Rattle.snap_select.proofs.Prelude.{rules, answers_always, pair_cmp, pair_tree}
 use Rattle.snap_select.proofs.ListsInOrder.{pair_total}
 use Rattle.snap_select.proofs.StableSorts.{seen_before, seen_weak, one_outcome}
 use Rattle.snap_select.proofs.in_order.sort_pairs.Goals as goal

@@ -1,5 +1,4 @@
-use Rattle.std.proofs.Common.{◌≡◌, sym, ◌∙◌}
-use Rattle.snap_select.specs.Reading.{selects}
+use Rattle.snap_select.proofs.Prelude.{◌≡◌, sym, ◌∙◌, selects}
 use Rattle.snap_select.proofs.Outcomes.{selector_selects}
 use Rattle.snap_select.proofs.laws.parts_are_unique.Goals as goal
 

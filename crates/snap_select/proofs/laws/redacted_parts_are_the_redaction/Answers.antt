@@ -1,6 +1,4 @@
-use Rattle.std.proofs.Common.{[]}
-use Rattle.snap_select.specs.Redacted.{redacted}
-use Rattle.snap_select.specs.Redacting.{only}
+use Rattle.snap_select.proofs.Prelude.{[], redacted, only}
 use Rattle.snap_select.proofs.OneRedacted.{named_redacted}
 use Rattle.snap_select.proofs.QuietTrees.{quiet_redacted}
 use Rattle.snap_select.proofs.RedactedParts.{redacted_redacts}

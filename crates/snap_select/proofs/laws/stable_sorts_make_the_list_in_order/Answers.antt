@@ -1,6 +1,4 @@
-use Rattle.snap_content.specs.Orders.{tree_cmp}
-use Rattle.snap_content.specs.TotalOrder.{tree_total}
-use Rattle.snap_select.specs.InOrder.{pair_cmp, field_cmp}
+use Rattle.snap_select.proofs.Prelude.{tree_cmp, tree_total, pair_cmp, field_cmp}
 use Rattle.snap_select.proofs.ListsInOrder.{pair_total, field_total}
 use Rattle.snap_select.proofs.StableSorts.{one_order}
 use Rattle.snap_select.proofs.laws.stable_sorts_make_the_list_in_order.Goals as goal

@@ -1,5 +1,4 @@
-use Rattle.std.proofs.Common.{◌≡◌, drop, map}
-use Rattle.snap_select.specs.Matching.{step_of, fit_each}
+use Rattle.snap_select.proofs.Prelude.{◌≡◌, drop, map, step_of, fit_each}
 use Rattle.snap_select.proofs.matching.fit_each.Given as goal
 
 -- what is left fits as the whole does

@@ -1,5 +1,4 @@
-use Rattle.std.proofs.Common.{◌-◌, length, take, drop, map, sym, ap, ◌∙◌}
-use Rattle.snap_select.specs.Matching.{step_of, fit_each, last_of}
+use Rattle.snap_select.proofs.Prelude.{◌-◌, length, take, drop, map, sym, ap, ◌∙◌, step_of, fit_each, last_of}
 use Rattle.snap_select.proofs.Lasts.{last_of-map, rest_of}
 use Rattle.snap_select.proofs.matching.fit_ends.Goals as goal
 

@@ -1,7 +1,4 @@
-use Rattle.std.proofs.Common.{[], sym, ◌∙◌}
-use Rattle.std.proofs.lemmas.Result.{IfErr-weaker}
-use Rattle.std.specs.Str.{chars}
-use Rattle.snap_select.specs.Reading.{ready, first_dot}
+use Rattle.snap_select.proofs.Prelude.{[], sym, ◌∙◌, IfErr-weaker, chars, ready, first_dot}
 use Rattle.snap_select.proofs.Readers.{led_part, part_stop_along}
 use Rattle.snap_select.proofs.parts.read_led.Goals as goal
 

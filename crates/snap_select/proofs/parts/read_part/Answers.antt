@@ -1,8 +1,4 @@
-use Rattle.std.proofs.Common.{length, ap, sym, ◌∙◌, arith}
-use Rattle.std.proofs.lemmas.Result.{IfOk-weaker, IfErr-weaker}
-use Rattle.std.specs.Str.{chars}
-use Rattle.snap_select.specs.Grammar.{is_blank}
-use Rattle.snap_select.specs.Reading.{first_dot, before_part}
+use Rattle.snap_select.proofs.Prelude.{length, ap, sym, ◌∙◌, arith, IfOk-weaker, IfErr-weaker, chars, is_blank, first_dot, before_part}
 use Rattle.snap_select.proofs.Readers.{past_ends, past_shorter, dot_first, start_skipped, part_along, part_stop_along}
 use Rattle.snap_select.proofs.parts.read_part.Goals as goal
 

@@ -1,6 +1,4 @@
-use Rattle.std.proofs.Common.{[]}
-use Rattle.std.specs.Str.{chars}
-use Rattle.snap_select.specs.Reading.{outcome, ready}
+use Rattle.snap_select.proofs.Prelude.{[], chars, outcome, ready}
 use Rattle.snap_select.proofs.Readers.{stop_along}
 use Rattle.snap_select.proofs.parts.read_segments.Goals as goal
 

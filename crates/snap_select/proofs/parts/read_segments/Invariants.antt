@@ -1,9 +1,4 @@
-use Rattle.std.proofs.Common.{◌≡◌, ◌≤◌, [], length}
-use denote.Text.{Utf8}
-use denote.Shadow.{shadow}
-use Rattle.std.specs.Str.{chars}
-use Rattle.snap_select.specs.Parts.{Parts}
-use Rattle.snap_select.specs.Reading.{outcome, ready}
+use Rattle.snap_select.proofs.Prelude.{◌≡◌, ◌≤◌, [], length, Utf8, shadow, chars, Parts, outcome, ready}
 use Rattle.snap_select.proofs.parts.read_segments.Given as goal
 
 -- the segments so far, and what is left, come to what the whole comes to

@@ -1,8 +1,4 @@
-use Rattle.std.proofs.Common.{[], sym, ◌∙◌}
-use Rattle.std.proofs.lemmas.Result.{IfOk-weaker, IfErr-weaker}
-use Rattle.std.specs.Str.{chars}
-use Rattle.snap_select.specs.Parts.{Parts}
-use Rattle.snap_select.specs.Reading.{ready, before_part}
+use Rattle.snap_select.proofs.Prelude.{[], sym, ◌∙◌, IfOk-weaker, IfErr-weaker, chars, Parts, ready, before_part}
 use Rattle.snap_select.proofs.Readers.{unled_part, part_along, part_stop_along}
 use Rattle.snap_select.proofs.parts.read_unled.Goals as goal
 

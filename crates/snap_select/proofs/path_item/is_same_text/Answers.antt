@@ -1,5 +1,4 @@
-use Rattle.std.proofs.Common.{◌∙◌}
-use Rattle.snap_content.proofs.Ends.{same_texts}
+use Rattle.snap_select.proofs.Prelude.{◌∙◌, same_texts}
 use Rattle.snap_select.proofs.path_item.is_same_text.Goals as goal
 
 pub returns : goal.returns

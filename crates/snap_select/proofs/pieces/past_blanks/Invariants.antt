@@ -1,9 +1,4 @@
-use Rattle.std.proofs.Common.{◌≡◌, length}
-use denote.Text.{Utf8}
-use denote.Shadow.{shadow}
-use Rattle.std.specs.Str.{chars}
-use Rattle.snap_select.specs.Pieces.{past}
-use Rattle.snap_select.specs.Grammar.{is_blank}
+use Rattle.snap_select.proofs.Prelude.{◌≡◌, length, Utf8, shadow, chars, past, is_blank}
 use Rattle.snap_select.proofs.pieces.past_blanks.Given as goal
 
 abbrev pub invariant-loop-c : goal.invariant-loop-c

@@ -1,8 +1,4 @@
-use Rattle.std.proofs.Common.{◌≡◌, length}
-use denote.Text.{Utf8}
-use denote.Shadow.{shadow}
-use Rattle.std.specs.Str.{chars}
-use Rattle.snap_select.specs.Pieces.{past, is_decimal}
+use Rattle.snap_select.proofs.Prelude.{◌≡◌, length, Utf8, shadow, chars, past, is_decimal}
 use Rattle.snap_select.proofs.pieces.past_digits.Given as goal
 
 abbrev pub invariant-loop-c : goal.invariant-loop-c

@@ -1,7 +1,4 @@
-use Rattle.std.proofs.Common.{◌∷◌, sym, ◌∙◌}
-use Rattle.std.specs.Str.{chars}
-use Rattle.unicode_ident.specs.Ident.{is_xid_continue}
-use Rattle.snap_select.specs.Pieces.{front}
+use Rattle.snap_select.proofs.Prelude.{◌∷◌, sym, ◌∙◌, chars, is_xid_continue, front}
 use Rattle.snap_select.proofs.PieceFacts.{name_cut, name_then}
 use Rattle.snap_select.proofs.pieces.split_name.Goals as goal
 

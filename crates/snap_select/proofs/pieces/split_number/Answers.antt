@@ -1,6 +1,4 @@
-use Rattle.std.proofs.Common.{◌∷◌, ◌++◌, sym, ◌∙◌}
-use Rattle.std.specs.Str.{chars}
-use Rattle.snap_select.specs.Pieces.{front, is_decimal}
+use Rattle.snap_select.proofs.Prelude.{◌∷◌, ◌++◌, sym, ◌∙◌, chars, front, is_decimal}
 use Rattle.snap_select.proofs.PieceFacts.{minus_front, number_cut, number_then}
 use Rattle.snap_select.proofs.pieces.split_number.Goals as goal
 

@@ -1,10 +1,4 @@
-use Rattle.std.proofs.Common.{◌≡◌, List, [], length, ◌≤◌}
-use denote.Text.{Utf8}
-use denote.Shadow.{shadow}
-use Rattle.std.specs.Str.{chars}
-use Rattle.snap_select.specs.Reading.{outcome, inside, in_quotes}
-use Rattle.snap_select.specs.Parts.{Parts}
-use Rattle.snap_select.specs.declared.segment.Segment.{Segment}
+use Rattle.snap_select.proofs.Prelude.{◌≡◌, List, [], length, ◌≤◌, Utf8, shadow, chars, outcome, inside, in_quotes, Parts, Segment}
 use Rattle.snap_select.proofs.quotes.read_escaped.Given as goal
 
 -- the key so far, and what is left, come to what the whole comes to

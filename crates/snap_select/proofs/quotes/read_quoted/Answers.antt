@@ -1,5 +1,4 @@
-use Rattle.std.proofs.Common.{◌∙◌}
-use Rattle.std.specs.Str.{chars}
+use Rattle.snap_select.proofs.Prelude.{◌∙◌, chars}
 use Rattle.snap_select.proofs.QuotedText.{quoted_key, quoted_shorter}
 use Rattle.snap_select.proofs.quotes.read_quoted.Goals as goal
 

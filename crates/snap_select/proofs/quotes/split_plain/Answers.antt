@@ -1,5 +1,4 @@
-use Rattle.std.specs.Str.{chars}
-use Rattle.snap_select.specs.Pieces.{front, is_plain}
+use Rattle.snap_select.proofs.Prelude.{chars, front, is_plain}
 use Rattle.snap_select.proofs.QuotedText.{plain_cut}
 use Rattle.snap_select.proofs.quotes.split_plain.Goals as goal
 

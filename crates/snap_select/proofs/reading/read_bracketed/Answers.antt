@@ -1,8 +1,4 @@
-use Rattle.std.proofs.Common.{[], length, ap, arith}
-use Rattle.std.proofs.lemmas.Result.{IfOk-weaker, IfErr-weaker}
-use Rattle.std.specs.Str.{chars}
-use Rattle.snap_select.specs.Grammar.{is_blank}
-use Rattle.snap_select.specs.Reading.{bracket, in_quotes}
+use Rattle.snap_select.proofs.Prelude.{[], length, ap, arith, IfOk-weaker, IfErr-weaker, chars, is_blank, bracket, in_quotes}
 use Rattle.snap_select.proofs.Readers.{past_shorter, past_ends, bracket_skipped, bracket_stopped, led_goes, led_stops, quote_opens}
 use Rattle.snap_select.proofs.reading.read_bracketed.Goals as goal
 

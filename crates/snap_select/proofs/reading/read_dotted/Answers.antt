@@ -1,4 +1,4 @@
-use Rattle.std.specs.Str.{chars}
+use Rattle.snap_select.proofs.Prelude.{chars}
 use Rattle.snap_select.proofs.Readers.{wildcard_read, name_read}
 use Rattle.snap_select.proofs.reading.read_dotted.Goals as goal
 

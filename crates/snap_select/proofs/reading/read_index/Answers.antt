@@ -1,10 +1,5 @@
-use Rattle.std.proofs.Common.{refl, sym, ◌∙◌}
-use Rattle.std.proofs.lemmas.Result.{IfOk-weaker, IfErr-weaker}
-use Rattle.std.specs.Str.{chars}
-use Rattle.snap_select.specs.Reading.{bracket}
-use Rattle.snap_select.specs.declared.segment.Segment.TheVariants.{Index}
+use Rattle.snap_select.proofs.Prelude.{refl, sym, ◌∙◌, IfOk-weaker, IfErr-weaker, chars, bracket, Index, number_value}
 use Rattle.snap_select.proofs.Readers.{minus_far, minus_near, index_large, index_goes, plain_numeral, closing_goes, closing_stops, closing_shorter, behind_longer, same_near}
-use Rattle.snap_select.specs.Pieces.{number_value}
 use Rattle.snap_select.proofs.reading.read_index.Goals as goal
 
 pub returns-in-None-clause-stop : goal.returns-in-None-clause-stop

@@ -1,12 +1,4 @@
-use Rattle.std.proofs.Common.{◌≡◌, ◌<◌, [], length, refl, ap, ◌∙◌, List, sym, arith}
-use Rattle.std.proofs.lemmas.Result.{IfOk-weaker, IfErr-weaker}
-use Rattle.std.proofs.lemmas.Str.{chars-nil}
-use Rattle.std.specs.Str.{chars}
-use Rattle.snap_select.specs.Parts.{Parts}
-use Rattle.snap_select.specs.Reading.{outcome, inside, in_quotes, closing, refuses}
-use Rattle.snap_select.specs.declared.fault.SelectFault.TheVariants.{BadToken}
-use Rattle.snap_select.specs.declared.segment.Segment.{Segment}
-use Rattle.snap_select.specs.declared.segment.Segment.TheVariants.{Key}
+use Rattle.snap_select.proofs.Prelude.{◌≡◌, ◌<◌, [], length, refl, ap, ◌∙◌, List, sym, arith, IfOk-weaker, IfErr-weaker, chars-nil, chars, Parts, outcome, inside, in_quotes, closing, refuses, BadToken, Segment, Key}
 use Rattle.snap_select.proofs.Readers.{closing_goes, closing_stops, closing_shorter}
 use Rattle.snap_select.proofs.reading.read_key.Goals as goal
 

@@ -1,10 +1,4 @@
-use mir.Syntax.{w64}
-use mir.Val.{to_z, of_z}
-use Rattle.std.proofs.Common.{Some, length, ap, sym, ◌∙◌, arith}
-use Rattle.std.proofs.lemmas.Result.{IfOk-weaker, IfErr-weaker}
-use Rattle.std.specs.Str.{chars}
-use Rattle.snap_select.specs.Grammar.{is_blank}
-use Rattle.snap_select.specs.Reading.{bracket, colon}
+use Rattle.snap_select.proofs.Prelude.{w64, to_z, of_z, Some, length, ap, sym, ◌∙◌, arith, IfOk-weaker, IfErr-weaker, chars, is_blank, bracket, colon}
 use Rattle.snap_select.proofs.Bounds.{number_colon}
 use Rattle.snap_select.proofs.Readers.{colon_far, led_goes, led_stops, number_longer, past_shorter}
 use Rattle.snap_select.proofs.reading.read_number.Goals as goal

@@ -1,11 +1,4 @@
-use Rattle.std.proofs.Common.{Some, length, refl, ap, sym, ◌∙◌}
-use Rattle.std.proofs.lemmas.Result.{IfOk-weaker, IfErr-weaker}
-use Rattle.std.specs.Str.{chars}
-use Rattle.snap_select.specs.Grammar.{is_blank}
-use Rattle.snap_select.specs.Pieces.{number_value}
-use Rattle.snap_select.specs.Reading.{colon, refuses}
-use Rattle.snap_select.specs.declared.fault.SelectFault.TheVariants.{BadToken}
-use Rattle.snap_select.specs.declared.segment.Segment.TheVariants.{Range}
+use Rattle.snap_select.proofs.Prelude.{Some, length, refl, ap, sym, ◌∙◌, IfOk-weaker, IfErr-weaker, chars, is_blank, number_value, colon, refuses, BadToken, Range}
 use Rattle.snap_select.proofs.Readers.{to_no_number, to_far, to_near, past_stays, closing_goes, closing_stops, closing_shorter, number_longer, same_near}
 use Rattle.snap_select.proofs.PieceFacts.{kept_bound}
 use Rattle.snap_select.proofs.reading.read_second.Goals as goal

@@ -1,5 +1,4 @@
-use Rattle.std.proofs.lemmas.Result.{IfOk-weaker}
-use Rattle.std.specs.Str.{chars}
+use Rattle.snap_select.proofs.Prelude.{IfOk-weaker, chars}
 use Rattle.snap_select.proofs.Readers.{bracketed_read}
 use Rattle.snap_select.proofs.reading.read_segment.Goals as goal
 

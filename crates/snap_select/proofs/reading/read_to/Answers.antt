@@ -1,7 +1,4 @@
-use Rattle.std.proofs.Common.{length, refl, ap, sym, ◌∙◌, arith}
-use Rattle.std.proofs.lemmas.Result.{IfOk-weaker, IfErr-weaker}
-use Rattle.std.specs.Str.{chars}
-use Rattle.snap_select.specs.Grammar.{is_blank}
+use Rattle.snap_select.proofs.Prelude.{length, refl, ap, sym, ◌∙◌, arith, IfOk-weaker, IfErr-weaker, chars, is_blank}
 use Rattle.snap_select.proofs.Readers.{to_closed, past_shorter, past_ends, colon_skipped, colon_stopped}
 use Rattle.snap_select.proofs.reading.read_to.Goals as goal
 

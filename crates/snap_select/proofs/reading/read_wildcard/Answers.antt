@@ -1,4 +1,4 @@
-use Rattle.std.specs.Str.{chars}
+use Rattle.snap_select.proofs.Prelude.{chars}
 use Rattle.snap_select.proofs.Readers.{one_star, two_stars}
 use Rattle.snap_select.proofs.reading.read_wildcard.Goals as goal
 

@@ -1,10 +1,4 @@
-use Rattle.std.proofs.Common.{rules, of_calls, ◌≡◌, ◌≤◌, ◌+◌, map, ap, sym, ◌∙◌, refl, arith, length, drop, length-set}
-use Rattle.snap_content.specs.Count.{count, count_items, count_pairs, count_fields}
-use Rattle.snap_content.specs.View.{tree, item_list, item_trees, pair_list, pair_trees, field_list, field_trees}
-use Rattle.snap_content.proofs.Joined.{left_turn, count_left, count_pairs_left, count_fields_left}
-use Rattle.snap_select.specs.Matching.{step_of, into_field, path_match}
-use Rattle.snap_select.specs.Reaching.{reaches}
-use Rattle.snap_select.specs.Selectors.{parts_of}
+use Rattle.snap_select.proofs.Prelude.{rules, of_calls, ◌≡◌, ◌≤◌, ◌+◌, map, ap, sym, ◌∙◌, refl, arith, length, drop, length-set, count, count_items, count_pairs, count_fields, tree, item_list, item_trees, pair_list, pair_trees, field_list, field_trees, left_turn, count_left, count_pairs_left, count_fields_left, step_of, into_field, path_match, reaches, parts_of}
 use Rattle.snap_select.proofs.Reached.{stays}
 use Rattle.snap_select.proofs.RedactedLists.{items_begin, items_turn, items_end, pairs_begin, pairs_turn, pairs_end, fields_begin, fields_turn, fields_end}
 use Rattle.snap_select.proofs.redact.+redact.Goals as goal

@@ -1,8 +1,4 @@
-use Rattle.std.proofs.Common.{◌≡◌, ◌+◌, ◌*◌, map, codes, drop, length}
-use Rattle.snap_content.specs.Count.{count, count_items, count_pairs, count_fields}
-use Rattle.snap_content.specs.View.{tree, item_list, item_trees, pair_list, pair_trees, field_list, field_trees}
-use Rattle.snap_select.specs.Matching.{step_of, into_field}
-use Rattle.snap_select.specs.Selectors.{parts_of}
+use Rattle.snap_select.proofs.Prelude.{◌≡◌, ◌+◌, ◌*◌, map, codes, drop, length, count, count_items, count_pairs, count_fields, tree, item_list, item_trees, pair_list, pair_trees, field_list, field_trees, step_of, into_field, parts_of}
 use Rattle.snap_select.proofs.RedactedLists.{ItemsSoFar, PairsSoFar, FieldsSoFar}
 use Rattle.snap_select.proofs.redact.+redact.Given as goal
 

@@ -1,6 +1,4 @@
-use Rattle.std.proofs.lemmas.Result.{IfOk-weaker}
-use Rattle.snap_content.specs.View.{tree}
-use Rattle.snap_select.specs.Selectors.{parts_of}
+use Rattle.snap_select.proofs.Prelude.{IfOk-weaker, tree, parts_of}
 use Rattle.snap_select.proofs.RedactedLists.{from_root}
 use Rattle.snap_select.proofs.redact.redact_tree.Goals as goal
 

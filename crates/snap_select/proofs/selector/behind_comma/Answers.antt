@@ -1,6 +1,4 @@
-use Rattle.std.proofs.Common.{length, ap, sym, ◌∙◌, arith}
-use Rattle.std.specs.Str.{chars}
-use Rattle.snap_select.specs.Grammar.{is_blank}
+use Rattle.snap_select.proofs.Prelude.{length, ap, sym, ◌∙◌, arith, chars, is_blank}
 use Rattle.snap_select.proofs.Readers.{comma_on, part_end, no_comma, none_left, some_left, past_shorter}
 use Rattle.snap_select.proofs.selector.behind_comma.Goals as goal
 

@@ -1,5 +1,4 @@
-use Rattle.std.proofs.Common.{rules}
-use Rattle.std.proofs.lemmas.Str.{chars_from_encodes}
+use Rattle.snap_select.proofs.Prelude.{rules, chars_from_encodes}
 use Rattle.snap_select.proofs.selector.characters.Goals as goal
 
 pub returns-clause-count : goal.returns-clause-count

@@ -1,6 +1,4 @@
-use Rattle.std.proofs.Common.{[], ◌∷◌, ◌++◌, ◌∙◌}
-use Rattle.std.specs.Str.{chars}
-use Rattle.snap_select.specs.Reading.{outcome, before_part, behind_part}
+use Rattle.snap_select.proofs.Prelude.{[], ◌∷◌, ◌++◌, ◌∙◌, chars, outcome, before_part, behind_part}
 use Rattle.snap_select.proofs.Readers.{stop_along}
 use Rattle.snap_select.proofs.selector.read_parts.Goals as goal
 

@@ -1,8 +1,4 @@
-use Rattle.std.proofs.Common.{◌≡◌, [], length}
-use denote.Text.{Utf8}
-use denote.Shadow.{shadow}
-use Rattle.std.specs.Str.{chars}
-use Rattle.snap_select.specs.Reading.{outcome, before_part}
+use Rattle.snap_select.proofs.Prelude.{◌≡◌, [], length, Utf8, shadow, chars, outcome, before_part}
 use Rattle.snap_select.proofs.selector.read_parts.Given as goal
 
 -- the parts so far, and what is left, come to what the whole comes to

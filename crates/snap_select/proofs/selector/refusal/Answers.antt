@@ -1,8 +1,4 @@
-use Rattle.std.proofs.Common.{[], length, subst}
-use Rattle.std.specs.Str.{chars}
-use Rattle.snap_select.specs.Reading.{outcome, before_part}
-use Rattle.snap_select.specs.Stops.{IsStop}
-use Rattle.snap_select.specs.declared.stop.Stop.{Stop}
+use Rattle.snap_select.proofs.Prelude.{[], length, subst, chars, outcome, before_part, IsStop, Stop}
 use Rattle.snap_select.proofs.LeastFaults.{fault_of, left_within}
 use Rattle.snap_select.proofs.selector.refusal.Goals as goal
 

@@ -1,7 +1,5 @@
-use Rattle.std.proofs.Common.{ap, sym, ◌∙◌}
-use Rattle.snap_content.specs.View.{tree}
+use Rattle.snap_settings.proofs.Prelude.{ap, sym, ◌∙◌, tree, sorted_where}
 use Rattle.snap_select.proofs.SortedTrees.{tree_is}
-use Rattle.snap_settings.specs.Settings.{sorted_where}
 use Rattle.snap_settings.proofs.settings.sorted_where.Goals as goal
 
 pub returns : goal.returns

@@ -1,4 +1,4 @@
-use Rattle.std.proofs.Common.{◌∙◌}
+use Rattle.snap_store.proofs.Prelude.{◌∙◌}
 use Rattle.snap_store.proofs.TreesMade.{value-made}
 use Rattle.snap_store.proofs.fields.value_named.Goals as goal
 

@@ -1,5 +1,4 @@
-use Rattle.std.proofs.Common.{ap, ◌∙◌}
-use Rattle.snap_content.specs.Plain.{plain}
+use Rattle.snap_store.proofs.Prelude.{ap, ◌∙◌, plain}
 use Rattle.snap_content.specs.Tree.{map}
 use Rattle.snap_store.proofs.Headers.{tree-pairs, in_front-none, plain-meta_tree}
 use Rattle.snap_store.proofs.header.header_content.Goals as goal

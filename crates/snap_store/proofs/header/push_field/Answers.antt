@@ -1,4 +1,4 @@
-use Rattle.std.proofs.Common.{refl}
+use Rattle.snap_store.proofs.Prelude.{refl}
 use Rattle.snap_store.proofs.Headers.{in_front-named}
 use Rattle.snap_store.proofs.header.push_field.Goals as goal
 

@@ -1,9 +1,4 @@
-use Rattle.std.proofs.Common.{◌≡◌, length, map}
-use denote.Text.{Utf8}
-use denote.Shadow.{shadow}
-use Rattle.std.specs.Str.{chars}
-use Rattle.snap_str.specs.Lines.{ended_lines}
-use Rattle.snap_store.specs.FileSplit.{line_of, past_blank}
+use Rattle.snap_store.proofs.Prelude.{◌≡◌, length, map, Utf8, shadow, chars, ended_lines, line_of, past_blank}
 use Rattle.snap_store.proofs.legacy.behind_blank.Given as goal
 
 abbrev pub invariant-loop-piece : goal.invariant-loop-piece

@@ -1,5 +1,4 @@
-use Rattle.std.proofs.Common.{◌∙◌}
-use Rattle.std.specs.Str.{chars}
+use Rattle.snap_store.proofs.Prelude.{◌∙◌, chars}
 use Rattle.snap_store.proofs.LegacyFields.{colon_behind}
 use Rattle.snap_store.proofs.legacy.behind_name.Goals as goal
 

@@ -1,8 +1,4 @@
-use Rattle.std.proofs.Common.{◌≡◌, length}
-use denote.Text.{Utf8}
-use denote.Shadow.{shadow}
-use Rattle.std.specs.Str.{chars}
-use Rattle.snap_store.specs.FileSplit.{behind_name}
+use Rattle.snap_store.proofs.Prelude.{◌≡◌, length, Utf8, shadow, chars, behind_name}
 use Rattle.snap_store.proofs.legacy.behind_name.Given as goal
 
 abbrev pub invariant-loop-letter : goal.invariant-loop-letter

@@ -1,11 +1,4 @@
-use Rattle.std.proofs.Common.{◌≡◌, length, map}
-use denote.Text.{Utf8}
-use denote.Shadow.{shadow}
-use Rattle.std.specs.Prelude.{option_map}
-use Rattle.std.specs.Option.{option_or}
-use Rattle.std.specs.Str.{chars}
-use Rattle.snap_str.specs.Lines.{ended_lines}
-use Rattle.snap_store.specs.FileSplit.{line_of, before_blank, legacy_field}
+use Rattle.snap_store.proofs.Prelude.{◌≡◌, length, map, Utf8, shadow, option_map, option_or, chars, ended_lines, line_of, before_blank, legacy_field}
 use Rattle.snap_store.proofs.legacy.last_field.Given as goal
 
 -- what the lines that are left tell, else what was found

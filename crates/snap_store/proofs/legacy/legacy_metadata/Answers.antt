@@ -1,7 +1,5 @@
-use Rattle.std.proofs.Common.{refl, codes}
-use Rattle.std.specs.Str.{chars}
+use Rattle.snap_store.proofs.Prelude.{refl, codes, chars, meta_of}
 use Rattle.snap_content.proofs.Ascii.{chars-ascii}
-use Rattle.snap_store.specs.Views.{meta_of}
 use Rattle.snap_store.proofs.LegacyFields.{field_told, both_told}
 use Rattle.snap_store.proofs.legacy.legacy_metadata.Goals as goal
 

@@ -1,8 +1,4 @@
-use Rattle.std.proofs.Common.{◌≡◌, length}
-use denote.Text.{Utf8}
-use denote.Shadow.{shadow}
-use Rattle.std.specs.Str.{chars}
-use Rattle.snap_store.specs.FileSplit.{trimmed_front}
+use Rattle.snap_store.proofs.Prelude.{◌≡◌, length, Utf8, shadow, chars, trimmed_front}
 use Rattle.snap_store.proofs.legacy.trimmed_front.Given as goal
 
 abbrev pub invariant-loop-first : goal.invariant-loop-first

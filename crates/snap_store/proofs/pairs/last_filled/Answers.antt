@@ -1,4 +1,4 @@
-use Rattle.std.proofs.Common.{sym, ◌∙◌}
+use Rattle.snap_store.proofs.Prelude.{sym, ◌∙◌}
 use Rattle.snap_store.proofs.Lookups.{filled, of_trees, value_found, new_found, none_found, all_seen}
 use Rattle.snap_store.proofs.pairs.last_filled.Goals as goal
 use Rattle.snap_store.proofs.pairs.last_filled.Goals.{then-is_filled, else-is_filled}

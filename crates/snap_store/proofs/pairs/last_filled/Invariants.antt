@@ -1,6 +1,4 @@
-use Rattle.std.proofs.Common.{◌≡◌, take}
-use Rattle.std.specs.Prelude.{option_map}
-use Rattle.snap_content.specs.View.{tree}
+use Rattle.snap_store.proofs.Prelude.{◌≡◌, take, option_map, tree}
 use Rattle.snap_store.proofs.Lookups.{last_where, of_trees, filled}
 use Rattle.snap_store.proofs.pairs.last_filled.Given as goal
 

@@ -1,4 +1,4 @@
-use Rattle.std.proofs.Common.{sym, ◌∙◌}
+use Rattle.snap_store.proofs.Prelude.{sym, ◌∙◌}
 use Rattle.snap_store.proofs.Lookups.{named, last_pushed}
 use Rattle.snap_store.proofs.pairs.last_taken.Goals as goal
 

@@ -1,6 +1,4 @@
-use Rattle.std.proofs.Common.{◌≡◌, length}
-use Rattle.snap_content.specs.View.{pair_trees}
-use Rattle.snap_store.specs.TreeFields.{last_in}
+use Rattle.snap_store.proofs.Prelude.{◌≡◌, length, pair_trees, last_in}
 use Rattle.snap_store.proofs.pairs.last_taken.Given as goal
 
 abbrev pub invariant-loop-pair : goal.invariant-loop-pair

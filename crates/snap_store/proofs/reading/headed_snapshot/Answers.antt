@@ -1,4 +1,4 @@
-use Rattle.std.proofs.Common.{sym, ◌∙◌}
+use Rattle.snap_store.proofs.Prelude.{sym, ◌∙◌}
 use Rattle.snap_store.proofs.Outcomes.{header_read, number_kept, refused_fields, fields_no_fault, read_as}
 use Rattle.snap_store.proofs.reading.headed_snapshot.Goals as goal
 

@@ -1,4 +1,4 @@
-use Rattle.std.specs.Str.{chars}
+use Rattle.snap_store.proofs.Prelude.{chars}
 use Rattle.snap_store.proofs.reading.snapshot_of_text.Goals as goal
 
 pub returns-in-Some-clause-end : goal.returns-in-Some-clause-end

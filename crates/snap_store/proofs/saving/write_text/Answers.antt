@@ -1,4 +1,4 @@
-use Rattle.std.proofs.Common.{refl}
+use Rattle.snap_store.proofs.Prelude.{refl}
 use Rattle.snap_store.proofs.Written.{text_written, nothing_written}
 use Rattle.snap_store.proofs.saving.write_text.Goals as goal
 

@@ -1,9 +1,4 @@
-use Rattle.std.proofs.Common.{◌≡◌, length}
-use denote.Text.{Utf8}
-use denote.Shadow.{shadow}
-use Rattle.std.specs.Str.{chars}
-use Rattle.snap_str.specs.Lines.{ended_lines}
-use Rattle.snap_store.specs.FileSplit.{past_fence}
+use Rattle.snap_store.proofs.Prelude.{◌≡◌, length, Utf8, shadow, chars, ended_lines, past_fence}
 use Rattle.snap_store.proofs.split.behind_fence.Given as goal
 
 abbrev pub invariant-loop-piece : goal.invariant-loop-piece

@@ -1,6 +1,4 @@
-use Rattle.std.proofs.Common.{◌≡◌, [], ◌++◌, rules}
-use Rattle.std.specs.Str.{chars}
-use Rattle.snap_store.specs.FileSplit.{line_of}
+use Rattle.snap_store.proofs.Prelude.{◌≡◌, [], ◌++◌, rules, chars, line_of}
 use Rattle.snap_store.proofs.Pieces.{body_first}
 use Rattle.snap_store.proofs.split.body_text.Goals as goal
 

@@ -1,10 +1,4 @@
-use Rattle.std.proofs.Common.{◌≡◌, ◌++◌, length, map}
-use denote.Text.{Utf8}
-use denote.Shadow.{shadow}
-use Rattle.std.specs.List.{flat_map}
-use Rattle.std.specs.Str.{chars}
-use Rattle.snap_str.specs.Lines.{ended_lines}
-use Rattle.snap_store.specs.FileSplit.{line_of, lines_text}
+use Rattle.snap_store.proofs.Prelude.{◌≡◌, ◌++◌, length, map, Utf8, shadow, flat_map, chars, ended_lines, line_of, lines_text}
 use Rattle.snap_store.proofs.Pieces.{behind_break}
 use Rattle.snap_store.proofs.split.body_text.Given as goal
 

@@ -1,6 +1,4 @@
-use Rattle.std.proofs.Common.{[], ◌∷◌, ◌++◌, sym, ap, ◌∙◌}
-use Rattle.std.specs.Str.{chars}
-use Rattle.snap_store.specs.FileSplit.{line_of}
+use Rattle.snap_store.proofs.Prelude.{[], ◌∷◌, ◌++◌, sym, ap, ◌∙◌, chars, line_of}
 use Rattle.snap_store.proofs.LineEnds.{unended, ended_by_feed, ended_by_both}
 use Rattle.snap_store.proofs.split.line_text.Goals as goal
 

@@ -1,10 +1,4 @@
-use Rattle.std.proofs.Common.{◌≡◌, ◌++◌, length}
-use denote.Text.{Utf8}
-use denote.Shadow.{shadow}
-use Rattle.std.specs.List.{concat}
-use Rattle.std.specs.Str.{chars}
-use Rattle.snap_str.specs.Lines.{ended_lines}
-use Rattle.snap_store.specs.FileSplit.{up_to_fence}
+use Rattle.snap_store.proofs.Prelude.{◌≡◌, ◌++◌, length, Utf8, shadow, concat, chars, ended_lines, up_to_fence}
 use Rattle.snap_store.proofs.split.push_header.Given as goal
 
 -- the header so far, and what is left of it

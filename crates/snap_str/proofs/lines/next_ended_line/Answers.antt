@@ -1,6 +1,4 @@
-use Rattle.std.proofs.Common.{length, sym, ◌∙◌}
-use Rattle.std.proofs.lemmas.Bool.{eqb-true, eqb-false}
-use Rattle.std.specs.Str.{chars}
+use Rattle.snap_str.proofs.Prelude.{length, sym, ◌∙◌, eqb-true, eqb-false, chars}
 use Rattle.snap_str.proofs.Cuts.{lacks}
 use Rattle.snap_str.proofs.LineTexts.{SplitsLine, splits_line, last_ended_is, last_shorter, some_bytes, no_bytes}
 use Rattle.snap_str.proofs.lines.next_ended_line.Goals as goal

@@ -1,4 +1,4 @@
-use Rattle.std.specs.Str.{chars}
+use Rattle.snap_str.proofs.Prelude.{chars}
 use Rattle.snap_str.proofs.LineTexts.{past_return, no_return, one_return}
 use Rattle.snap_str.proofs.lines.without_return.Goals as goal
 

@@ -1,4 +1,4 @@
-use Rattle.std.proofs.Common.{refl, sym, ◌∙◌}
+use Rattle.snap_text.proofs.Prelude.{refl, sym, ◌∙◌}
 use Rattle.snap_text.proofs.laws.matches_latest_is_an_equivalence.Goals as goal
 
 pub returns : goal.returns

@@ -1,7 +1,5 @@
-use Rattle.std.proofs.Common.{◌≡◌, ℕ, List, take, slice_index, ap, ◌∙◌, arith, length, refl}
-use Rattle.std.proofs.lemmas.List.{get_or_past}
+use Rattle.snap_token.proofs.Prelude.{◌≡◌, ℕ, List, take, slice_index, ap, ◌∙◌, arith, length, refl, get_or_past, chars}
 use Rattle.std.proofs.lemmas.Grind.{common_steps}
-use Rattle.std.specs.Str.{chars}
 use Rattle.snap_token.proofs.Cuts.{cut}
 use Rattle.snap_token.proofs.characters.before_nul.Goals as goal
 use Rattle.snap_token.proofs.characters.before_nul.Goals.{then-loop-end-test+else-bytes-end-ne0, else-loop-end-test}

@@ -1,7 +1,4 @@
-use Rattle.std.proofs.Common.{◌≡◌, ◌≤◌, ◌<◌, ◌+◌, ◌-◌, ◌^◌, ℕ, List, length}
-use Rattle.snap_token.specs.Pieces.{EndsIn}
-use Rattle.snap_token.specs.Place.{Place, Later}
-use Rattle.snap_token.specs.Quoted.{digits}
+use Rattle.snap_token.proofs.Prelude.{◌≡◌, ◌≤◌, ◌<◌, ◌+◌, ◌-◌, ◌^◌, ℕ, List, length, EndsIn, Place, Later, digits}
 use Rattle.snap_token.proofs.escapes.scan_code.Given as goal
 
 abbrev pub invariant-digits : goal.invariant-digits

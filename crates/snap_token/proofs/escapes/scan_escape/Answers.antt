@@ -1,7 +1,4 @@
-use Rattle.std.proofs.Common.{◌≡◌, ◌∙◌, ℕ, Some, None, false, slice_index}
-use Rattle.snap_token.specs.Characters.{is_break}
-use Rattle.snap_token.specs.Place.{Place}
-use Rattle.snap_token.specs.Quoted.{escaped, further_digits}
+use Rattle.snap_token.proofs.Prelude.{◌≡◌, ◌∙◌, ℕ, Some, None, false, slice_index, is_break, Place, escaped, further_digits}
 use Rattle.snap_token.proofs.Backslashes.{escape-code}
 use Rattle.snap_token.proofs.escapes.scan_escape.Goals as goal
 

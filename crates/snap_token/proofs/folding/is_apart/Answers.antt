@@ -1,4 +1,4 @@
-use Rattle.std.proofs.Common.{ap, not}
+use Rattle.snap_token.proofs.Prelude.{ap, not}
 use Rattle.snap_token.proofs.Empties.{same-length}
 use Rattle.snap_token.proofs.folding.is_apart.Goals as goal
 

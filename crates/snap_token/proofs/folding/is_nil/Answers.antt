@@ -1,6 +1,5 @@
-use Rattle.std.proofs.Common.{ap, ◌∙◌}
+use Rattle.snap_token.proofs.Prelude.{ap, ◌∙◌, is_nil}
 use Rattle.snap_token.proofs.Empties.{nil-text}
-use Rattle.snap_token.specs.Folding.{is_nil}
 use Rattle.snap_token.proofs.folding.is_nil.Goals as goal
 
 pub returns : goal.returns

@@ -1,14 +1,4 @@
-use Rattle.std.proofs.Common.{◌≡◌, ◌≤◌, ◌+◌, ◌∙◌, ◌++◌, ℕ, List, Option, true, false, slice_index, length, arith, rules, subst, sym, ap, refl, Ok, Err, None}
-use Rattle.std.specs.Str.{chars}
-use Rattle.snap_token.specs.declared.info.ScanError.TheVariants.{Syntax}
-use Rattle.snap_token.specs.declared.info.ScanInfo.TheVariants.{S34}
-use Rattle.snap_token.specs.Characters.{is_blank, is_break, is_of}
-use Rattle.snap_token.specs.declared.characters.Kind.TheVariants.{Word}
-use Rattle.snap_token.specs.declared.folding.Gap.{Gap}
-use Rattle.snap_token.specs.Folding.{gap_of, with_break, no_gap, joined}
-use Rattle.snap_token.specs.Pieces.{Piece, before, EndsIn}
-use Rattle.snap_token.specs.Place.{Place, skipped, skipped_while}
-use Rattle.snap_token.specs.Plain.{Plain, plain, plain_end, plain_from, ends_plain, is_bad_tab, ReadsPlain}
+use Rattle.snap_token.proofs.Prelude.{◌≡◌, ◌≤◌, ◌+◌, ◌∙◌, ◌++◌, ℕ, List, Option, true, false, slice_index, length, arith, rules, subst, sym, ap, refl, Ok, Err, None, chars, Syntax, S34, is_blank, is_break, is_of, Word, Gap, gap_of, with_break, no_gap, joined, Piece, before, EndsIn, Place, skipped, skipped_while, Plain, plain, plain_end, plain_from, ends_plain, is_bad_tab, ReadsPlain}
 use Rattle.snap_token.proofs.Plains.{plain-blank, plain-break, plain-ended, plain-word, plain-tab}
 use Rattle.snap_token.proofs.Pieces.{ends-same}
 use Rattle.snap_token.proofs.plain.scan_plain_scalar.Goals as goal

@@ -1,8 +1,4 @@
-use Rattle.std.proofs.Common.{◌≡◌, ◌≤◌, ◌+◌, length}
-use Rattle.snap_token.specs.Folding.{gap_of}
-use Rattle.snap_token.specs.Pieces.{before, EndsIn}
-use Rattle.snap_token.specs.Place.{Place, Later}
-use Rattle.snap_token.specs.Plain.{plain, plain_from}
+use Rattle.snap_token.proofs.Prelude.{◌≡◌, ◌≤◌, ◌+◌, length, gap_of, before, EndsIn, Place, Later, plain, plain_from}
 use Rattle.snap_token.proofs.plain.scan_plain_scalar.Given as goal
 
 abbrev pub invariant-characters : goal.invariant-characters

@@ -1,16 +1,4 @@
-use Rattle.std.proofs.Common.{◌≡◌, ◌≢◌, ◌≤◌, ◌+◌, ◌∙◌, ◌||◌, ◌==◌, ◌++◌, ℕ, List, [], ◌∷◌, Option, true, false, slice_index, length, arith, rules, subst, sym, ap, refl, Ok, Err, None, codes}
-use Rattle.std.specs.Str.{chars}
-use Rattle.snap_token.specs.declared.info.ScanError.{ScanError}
-use Rattle.snap_token.specs.declared.info.ScanError.TheVariants.{Syntax}
-use Rattle.snap_token.specs.declared.info.ScanInfo.TheVariants.{S29, S30}
-use Rattle.snap_token.specs.Causes.{IsExplained, IsRefusedBy}
-use Rattle.snap_token.specs.Characters.{is_blank, is_break, is_of, is_document_indicator}
-use Rattle.snap_token.specs.declared.folding.Gap.{Gap}
-use Rattle.snap_token.specs.Folding.{with_break, no_gap}
-use Rattle.snap_token.specs.Mark.{Mark}
-use Rattle.snap_token.specs.Pieces.{Piece, EndsIn}
-use Rattle.snap_token.specs.Place.{Place, mark_of}
-use Rattle.snap_token.specs.Quoted.{Quoted, double_at, double_from, ReadsQuoted}
+use Rattle.snap_token.proofs.Prelude.{◌≡◌, ◌≢◌, ◌≤◌, ◌+◌, ◌∙◌, ◌||◌, ◌==◌, ◌++◌, ℕ, List, [], ◌∷◌, Option, true, false, slice_index, length, arith, rules, subst, sym, ap, refl, Ok, Err, None, codes, chars, ScanError, Syntax, S29, S30, IsExplained, IsRefusedBy, is_blank, is_break, is_of, is_document_indicator, Gap, with_break, no_gap, Mark, Piece, EndsIn, Place, mark_of, Quoted, double_at, double_from, ReadsQuoted}
 use Rattle.snap_token.proofs.Doubles.{double-blank, double-break, double-refused, double-word}
 use Rattle.snap_token.proofs.Pieces.{ends-same}
 use Rattle.snap_token.proofs.Explained.{explained}

@@ -1,7 +1,4 @@
-use Rattle.std.proofs.Common.{◌≡◌, ◌≤◌, ◌+◌, length}
-use Rattle.snap_token.specs.Pieces.{EndsIn}
-use Rattle.snap_token.specs.Place.{Place, Later}
-use Rattle.snap_token.specs.Quoted.{double_at, double_from}
+use Rattle.snap_token.proofs.Prelude.{◌≡◌, ◌≤◌, ◌+◌, length, EndsIn, Place, Later, double_at, double_from}
 use Rattle.snap_token.proofs.quoted.scan_double_quoted.Given as goal
 
 abbrev pub invariant-characters : goal.invariant-characters

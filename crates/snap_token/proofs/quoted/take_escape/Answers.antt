@@ -1,10 +1,4 @@
-use Rattle.std.proofs.Common.{◌≡◌, ◌∙◌, ◌++◌, ℕ, List, [], ◌∷◌, rules, subst, sym, ap, refl}
-use Rattle.std.specs.Str.{chars}
-use Rattle.snap_token.specs.declared.folding.Gap.{Gap}
-use Rattle.snap_token.specs.Folding.{gap_of, no_gap, joined}
-use Rattle.snap_token.specs.Pieces.{Piece, before}
-use Rattle.snap_token.specs.Place.{Place}
-use Rattle.snap_token.specs.Quoted.{double, double_at, escape}
+use Rattle.snap_token.proofs.Prelude.{◌≡◌, ◌∙◌, ◌++◌, ℕ, List, [], ◌∷◌, rules, subst, sym, ap, refl, chars, Gap, gap_of, no_gap, joined, Piece, before, Place, double, double_at, escape}
 use Rattle.snap_token.proofs.Doubles.{double-none, double-escape}
 use Rattle.snap_token.proofs.quoted.take_escape.Goals as goal
 

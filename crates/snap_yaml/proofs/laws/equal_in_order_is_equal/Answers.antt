@@ -1,7 +1,4 @@
-use Rattle.std.proofs.Common.{ap, ◌∙◌}
-use Rattle.std.proofs.lemmas.Cmp.{tied_itself}
-use Rattle.snap_yaml.specs.Orders.{value_cmp}
-use Rattle.snap_yaml.specs.TotalOrder.{value_total}
+use Rattle.snap_yaml.proofs.Prelude.{ap, ◌∙◌, tied_itself, value_cmp, value_total}
 use Rattle.snap_yaml.proofs.SameValues.{same_value}
 use Rattle.snap_yaml.proofs.laws.equal_in_order_is_equal.Goals as goal
 

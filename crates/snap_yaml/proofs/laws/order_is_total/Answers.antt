@@ -1,4 +1,4 @@
-use Rattle.snap_yaml.specs.TotalOrder.{value_total}
+use Rattle.snap_yaml.proofs.Prelude.{value_total}
 use Rattle.snap_yaml.proofs.laws.order_is_total.Goals as goal
 
 pub returns : goal.returns

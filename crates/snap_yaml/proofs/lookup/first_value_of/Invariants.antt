@@ -1,6 +1,4 @@
-use Rattle.std.proofs.Common.{◌≡◌, drop}
-use Rattle.snap_yaml.specs.View.{hash_list, hash_values}
-use Rattle.snap_yaml.specs.Lookup.{first_value}
+use Rattle.snap_yaml.proofs.Prelude.{◌≡◌, drop, hash_list, hash_values, first_value}
 use Rattle.snap_yaml.specs.Keys.{is_key}
 use Rattle.snap_yaml.proofs.lookup.first_value_of.Given as goal
 

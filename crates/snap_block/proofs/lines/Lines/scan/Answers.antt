@@ -1,14 +1,4 @@
-use Rattle.std.proofs.Common.{◌≡◌, ◌≢◌, ◌==◌, ◌||◌, ◌∙◌, ℕ, Bool, true, false, not, slice_index, refl, sym, ap, subst, arith, Option, Some, None, Ok, Err}
-use Rattle.snap_token.specs.declared.characters.Kind.TheVariants.{InLine}
-use Rattle.snap_token.specs.declared.info.ScanError.{ScanError}
-use Rattle.snap_token.specs.declared.info.ScanError.TheVariants.{OutOfMemory, Syntax}
-use Rattle.snap_token.specs.Characters.{is_break, is_of}
-use Rattle.snap_token.specs.Mark.{Mark}
-use Rattle.snap_token.specs.Place.{Place}
-use Rattle.snap_block.specs.declared.lines.Lines.{Lines}
-use Rattle.snap_block.specs.Block.{Read, stop}
-use Rattle.snap_block.specs.Lines.{with_breaks, ended}
-use Rattle.snap_block.specs.Steps.{IsRefusedLine, ReadsLines}
+use Rattle.snap_block.proofs.Prelude.{◌≡◌, ◌≢◌, ◌==◌, ◌||◌, ◌∙◌, ℕ, Bool, true, false, not, slice_index, refl, sym, ap, subst, arith, Option, Some, None, Ok, Err, InLine, ScanError, OutOfMemory, Syntax, is_break, is_of, Mark, Place, Lines, Read, stop, with_breaks, ended, IsRefusedLine, ReadsLines}
 use Rattle.snap_block.proofs.Between.{between_at, within_at, between-stop, between-line, within-end, within-break}
 use Rattle.snap_block.proofs.lines.Lines.scan.Goals as goal
 use Rattle.snap_block.proofs.lines.Lines.scan.Goals.{then-lines-test+else-col-indentation, else-lines-test}

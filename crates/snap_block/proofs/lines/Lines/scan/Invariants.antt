@@ -1,7 +1,4 @@
-use Rattle.std.proofs.Common.{◌≡◌, ◌≤◌, ◌+◌, true, length}
-use Rattle.snap_token.specs.Place.{Place, Later}
-use Rattle.snap_block.specs.Block.{between}
-use Rattle.snap_block.specs.Steps.{is_open}
+use Rattle.snap_block.proofs.Prelude.{◌≡◌, ◌≤◌, ◌+◌, true, length, Place, Later, between, is_open}
 use Rattle.snap_block.proofs.lines.Lines.scan.Given as goal
 
 abbrev pub invariant-lines : goal.invariant-lines

@@ -1,9 +1,7 @@
 -- The loop goes down the wrappers. What each turn lends follows the lender. Assumes `Logic`.
-use Rattle.std.proofs.Common.{◌≡◌, ℕ, ◌<◌, List, [], ◌∷◌, refl, sym, ap, ◌∙◌, Bool, true, false, Box, Global, MutBor}
-use Rattle.std.specs.Prelude.{⊤}
+use Rattle.snap_content.proofs.Prelude.{◌≡◌, ℕ, ◌<◌, List, [], ◌∷◌, refl, sym, ap, ◌∙◌, Bool, true, false, Box, Global, MutBor, ⊤, with_value, named, place, Val, vptr, tree, resolved, wraps, rewrapped, LendsTree, box_row, with_wrapped, Content}
 use Rattle.std.proofs.raw_atomic.Walks.{proved}
 use Rattle.std.proofs.VecSteps.Shapes.{after}
-use Rattle.std.specs.Box.{with_value}
 use mathlib.Core.WellFounded.InvImage
 use seplogic.Ra.Ura.{Ura}
 use lib.Dec.{T}
@@ -12,8 +10,6 @@ use lib.WfN.{lt-wf_rel}
 use base.Fraction.{full_share}
 use base.Logic.{SProp, ent, sep, emp, id⊢}
 use base.Fml.{Lft, Share, GName, Fml, ftrue, flft, flent}
-use mir.Syntax.{named, place}
-use mir.Val.{Val, vptr}
 use prog.Model.{Model}
 use prog.Wired.{Wired}
 use prog.Wp.{Env, Out, Wp, WpFn, at_return, after_seq, after_block, after_turn}
@@ -43,10 +39,6 @@ use denote.Triple.Entry.{on_entry}
 use denote.Triple.Spec.{triple_of}
 use denote.Triple.Table.{framed}
 use denote.Triple.Walked.{Stays, stay_dropped, walk_of, says, ends_at, Goes-spent_ref}
-use Rattle.snap_content.specs.View.{tree}
-use Rattle.snap_content.specs.Access.{resolved, wraps, rewrapped}
-use Rattle.snap_content.specs.Lending.{LendsTree, box_row, with_wrapped}
-use Rattle.snap_content.specs.declared.content.Content.{Content}
 use Rattle.snap_content.specs.contracts.content.Content.{the_row as R}
 use Rattle.snap_content.specs.contracts.content.Content.resolve_inner_mut as f
 use Rattle.snap_content.specs.contracts.content.Content.is_wrapper as tests

@@ -1,4 +1,4 @@
-use Rattle.std.proofs.Common.{◌∙◌}
+use Rattle.snap_content.proofs.Prelude.{◌∙◌}
 use Rattle.snap_content.proofs.Ends.{same_texts}
 use Rattle.snap_content.proofs.lent.LentPartialEq.eq.Goals as goal
 

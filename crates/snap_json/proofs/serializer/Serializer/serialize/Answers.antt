@@ -1,7 +1,4 @@
-use Rattle.snap_content.specs.View.{tree}
-use Rattle.snap_json.specs.JsonPlain.{json_plain}
-use Rattle.snap_json.specs.Written.{written}
-use Rattle.snap_json.specs.declared.format.Format.TheVariants.{Condensed}
+use Rattle.snap_json.proofs.Prelude.{tree, json_plain, written, Condensed}
 use Rattle.snap_json.proofs.Calls.{on_ok, on_accepted, on_begun, on_refused, on_key, wrote_from}
 use Rattle.snap_json.proofs.serializer.Serializer.serialize.Goals as goal
 

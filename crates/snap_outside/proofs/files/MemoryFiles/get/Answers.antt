@@ -1,5 +1,4 @@
-use Rattle.std.proofs.Common.{ap, sym, ◌∙◌}
-use Rattle.std.specs.FinMap.{get}
+use Rattle.snap_outside.proofs.Prelude.{ap, sym, ◌∙◌, get}
 use Rattle.snap_outside.proofs.Entries.{get-entries}
 use Rattle.snap_outside.proofs.files.MemoryFiles.get.Goals as goal
 

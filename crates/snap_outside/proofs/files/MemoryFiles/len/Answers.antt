@@ -1,5 +1,4 @@
-use Rattle.std.proofs.Common.{ap, sym, ◌∙◌}
-use Rattle.std.specs.FinMap.{len}
+use Rattle.snap_outside.proofs.Prelude.{ap, sym, ◌∙◌, len}
 use Rattle.snap_outside.proofs.Entries.{len-entries}
 use Rattle.snap_outside.proofs.files.MemoryFiles.len.Goals as goal
 

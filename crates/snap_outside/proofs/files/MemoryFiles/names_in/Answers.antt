@@ -1,5 +1,4 @@
-use Rattle.std.proofs.Common.{subst}
-use Rattle.snap_outside.specs.Listed.{AreNames}
+use Rattle.snap_outside.proofs.Prelude.{subst, AreNames}
 use Rattle.snap_outside.proofs.Folders.{name_next, no_next, all_named}
 use Rattle.snap_outside.proofs.files.MemoryFiles.names_in.Goals as goal
 

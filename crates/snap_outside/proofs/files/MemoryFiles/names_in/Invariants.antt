@@ -1,4 +1,4 @@
-use Rattle.std.proofs.Common.{◌≡◌, ◌++◌}
+use Rattle.snap_outside.proofs.Prelude.{◌≡◌, ◌++◌}
 use Rattle.snap_outside.proofs.Folders.{names_after}
 use Rattle.snap_outside.proofs.files.MemoryFiles.names_in.Given as goal
 

@@ -1,5 +1,4 @@
-use Rattle.std.proofs.Common.{ap, ◌∙◌}
-use Rattle.std.specs.FinMap.{insert}
+use Rattle.snap_outside.proofs.Prelude.{ap, ◌∙◌, insert}
 use Rattle.snap_outside.proofs.Entries.{inserted}
 use Rattle.snap_outside.proofs.files.MemoryFiles.put.Goals as goal
 

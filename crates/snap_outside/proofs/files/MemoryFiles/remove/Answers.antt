@@ -1,5 +1,4 @@
-use Rattle.std.proofs.Common.{ap, ◌∙◌}
-use Rattle.std.specs.FinMap.{remove}
+use Rattle.snap_outside.proofs.Prelude.{ap, ◌∙◌, remove}
 use Rattle.snap_outside.proofs.Entries.{removed}
 use Rattle.snap_outside.proofs.files.MemoryFiles.remove.Goals as goal
 

@@ -1,5 +1,4 @@
-use Rattle.std.proofs.Common.{ap, rules, encode_utf8_all}
-use Rattle.std.proofs.lemmas.Str.{encodes-chars}
+use Rattle.snap_outside.proofs.Prelude.{ap, rules, encode_utf8_all, encodes-chars}
 use Rattle.snap_outside.proofs.folder.FolderStoreStore.read.Goals as goal
 
 pub returns-clause-asked : goal.returns-clause-asked

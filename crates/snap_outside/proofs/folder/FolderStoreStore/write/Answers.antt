@@ -1,7 +1,5 @@
-use Rattle.std.proofs.Common.{encode_utf8_all, sym, ap, ◌∙◌, subst}
-use Rattle.std.proofs.lemmas.Str.{encodes-chars}
+use Rattle.snap_outside.proofs.Prelude.{encode_utf8_all, sym, ap, ◌∙◌, subst, encodes-chars, FileWritten}
 use Rattle.snap_outside.specs.Adapters.{store_asked}
-use Rattle.snap_outside.specs.Writing.{FileWritten}
 use Rattle.snap_outside.proofs.folder.FolderStoreStore.write.Goals as goal
 
 pub returns-clause-asked : goal.returns-clause-asked

@@ -1,11 +1,6 @@
-use Rattle.std.proofs.Common.{◌≡◌, [], Bool, ap, ◌∙◌, refl}
-use Rattle.std.specs.Str.{chars}
+use Rattle.snap_parse.proofs.Prelude.{◌≡◌, [], Bool, ap, ◌∙◌, refl, chars, Parsing, meaning, json_node, node_of, scan_error}
 use Rattle.snap_event.specs.Meaning.{ahead, is_inside}
 use Rattle.snap_parser.specs.declared.error.LoadError.TheVariants.{OutOfMemory}
-use Rattle.snap_parser.specs.Parsing.{Parsing, meaning}
-use Rattle.snap_owed_json.specs.Nodes.{json_node}
-use Rattle.snap_parse.specs.PrintedEvents.{node_of}
-use Rattle.snap_parse.specs.Loaded.{scan_error}
 use Rattle.snap_parse.proofs.Loading.{made, made-one, printed-given, json-given}
 use Rattle.snap_parse.proofs.load.YamlLoader.load_from_str.Goals as goal
 

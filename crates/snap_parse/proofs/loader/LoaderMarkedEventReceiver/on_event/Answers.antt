@@ -1,5 +1,4 @@
-use Rattle.std.proofs.Common.{sym, ◌∙◌, ap}
-use Rattle.snap_parse.specs.Steps.{LoadState, step, start}
+use Rattle.snap_parse.proofs.Prelude.{sym, ◌∙◌, ap, LoadState, step, start}
 use Rattle.snap_parse.proofs.Folds.{steps-more}
 use Rattle.snap_parse.proofs.loader.LoaderMarkedEventReceiver.on_event.Goals as goal
 

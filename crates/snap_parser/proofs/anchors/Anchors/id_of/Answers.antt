@@ -1,5 +1,4 @@
-use Rattle.std.proofs.Common.{◌∙◌, ap, ℕ, Option}
-use Rattle.snap_parser.specs.Names.{Names, id_of}
+use Rattle.snap_parser.proofs.Prelude.{◌∙◌, ap, ℕ, Option, Names, id_of}
 use Rattle.snap_parser.proofs.Naming.{known-is}
 use Rattle.snap_parser.proofs.anchors.Anchors.id_of.Goals as goal
 

@@ -1,4 +1,4 @@
-use Rattle.std.proofs.Common.{rules}
+use Rattle.snap_parser.proofs.Prelude.{rules}
 use Rattle.snap_parser.proofs.Naming.{registers}
 use Rattle.snap_parser.proofs.anchors.Anchors.register.Goals as goal
 

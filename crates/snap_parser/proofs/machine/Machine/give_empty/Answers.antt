@@ -1,6 +1,5 @@
-use Rattle.std.proofs.Common.{List, ℕ, None, ap}
+use Rattle.snap_parser.proofs.Prelude.{List, ℕ, None, ap, Event}
 use Rattle.snap_token.specs.declared.token.TScalarStyle.TheVariants as style
-use Rattle.snap_event.specs.declared.event.Event.{Event}
 use Rattle.snap_event.specs.declared.event.Event.TheVariants as e
 use Rattle.snap_parser.proofs.machine.Machine.give_empty.Goals as goal
 

@@ -1,4 +1,4 @@
-use Rattle.std.proofs.Common.{◌≡◌, rules}
+use Rattle.snap_parser.proofs.Prelude.{◌≡◌, rules}
 use Rattle.snap_token.specs.declared.token.TokenType.TheVariants as k
 use Rattle.snap_parser.proofs.Openings.{alias-founded, behind-alias}
 use Rattle.snap_parser.proofs.machine.Machine.parse_node_from.Goals as goal

@@ -1,5 +1,4 @@
-use Rattle.std.proofs.Common.{◌≡◌, rules}
-use Rattle.snap_parser.specs.declared.error.LoadError.TheVariants.{OutOfMemory}
+use Rattle.snap_parser.proofs.Prelude.{◌≡◌, rules, OutOfMemory}
 use Rattle.snap_parser.proofs.parser.Parser.hand_on.Goals as goal
 
 pub returns-in_err-event-clause-memory : goal.returns-in_err-event-clause-memory

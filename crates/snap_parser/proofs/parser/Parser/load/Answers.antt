@@ -1,5 +1,4 @@
-use Rattle.std.proofs.Common.{◌≡◌, refl, sym, ◌∙◌, rules}
-use Rattle.snap_parser.specs.declared.error.LoadError.TheVariants.{OutOfMemory}
+use Rattle.snap_parser.proofs.Prelude.{◌≡◌, refl, sym, ◌∙◌, rules, OutOfMemory}
 use Rattle.snap_parser.proofs.Following.{loads-known, passing-refused}
 use Rattle.snap_parser.proofs.Running.{passing-start, passing-more, passing-stop, loads-stream}
 use Rattle.snap_parser.proofs.parser.Parser.load.Goals as goal

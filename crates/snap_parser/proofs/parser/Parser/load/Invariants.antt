@@ -1,6 +1,4 @@
-use Rattle.std.proofs.Common.{◌≡◌}
-use Rattle.snap_parser.specs.Parsing.{source, events_left}
-use Rattle.snap_parser.specs.Runs.{Passing}
+use Rattle.snap_parser.proofs.Prelude.{◌≡◌, source, events_left, Passing}
 use Rattle.snap_parser.proofs.parser.Parser.load.Given as goal
 
 abbrev pub invariant-events : goal.invariant-events

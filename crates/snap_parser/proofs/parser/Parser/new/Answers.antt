@@ -1,6 +1,6 @@
+use Rattle.snap_parser.proofs.Prelude.{spot_of}
 use Rattle.std.specs.Str.{chars}
 use Rattle.snap_token.specs.Place.{before_nul}
-use Rattle.snap_parser.specs.Machine.{spot_of}
 use Rattle.snap_parser.proofs.Giving.{new-gives}
 use Rattle.snap_parser.proofs.parser.Parser.new.Goals as goal
 

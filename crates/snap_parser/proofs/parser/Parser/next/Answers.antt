@@ -1,4 +1,4 @@
-use Rattle.std.proofs.Common.{◌≡◌, None, ◌∙◌, rules}
+use Rattle.snap_parser.proofs.Prelude.{◌≡◌, None, ◌∙◌, rules}
 use Rattle.snap_parser.proofs.Giving.{next-event, next-refused}
 use Rattle.snap_parser.proofs.parser.Parser.next.Goals as goal
 

@@ -1,4 +1,4 @@
-use Rattle.std.proofs.Common.{◌≡◌, rules}
+use Rattle.snap_parser.proofs.Prelude.{◌≡◌, rules}
 use Rattle.snap_token.specs.declared.info.ScanError.TheVariants.{OutOfMemory}
 use Rattle.snap_parser.proofs.parser.Parser.next_forgetting.Goals as goal
 

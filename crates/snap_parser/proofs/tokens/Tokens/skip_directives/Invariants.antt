@@ -1,8 +1,4 @@
-use Rattle.std.proofs.Common.{◌≡◌, ◌≤◌, ℕ, List, ◌∷◌, false}
-use Rattle.snap_token.specs.declared.token.TokenType.{TokenType}
-use Rattle.snap_parser.specs.Ends.{is_directive}
-use Rattle.snap_parser.specs.Feed.{tokens_left, Feeds}
-use Rattle.snap_parser.specs.Taking.{WillTake}
+use Rattle.snap_parser.proofs.Prelude.{◌≡◌, ◌≤◌, ℕ, List, ◌∷◌, false, TokenType, is_directive, tokens_left, Feeds, WillTake}
 use Rattle.snap_parser.proofs.tokens.Tokens.skip_directives.Given as goal
 
 abbrev pub invariant-directives : goal.invariant-directives

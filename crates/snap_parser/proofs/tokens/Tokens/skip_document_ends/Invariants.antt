@@ -1,8 +1,4 @@
-use Rattle.std.proofs.Common.{◌≡◌, ◌≤◌, ℕ, List, ◌∷◌, false}
-use Rattle.snap_token.specs.declared.token.TokenType.{TokenType}
-use Rattle.snap_parser.specs.Ends.{is_document_end}
-use Rattle.snap_parser.specs.Feed.{tokens_left, Feeds}
-use Rattle.snap_parser.specs.Taking.{WillTake}
+use Rattle.snap_parser.proofs.Prelude.{◌≡◌, ◌≤◌, ℕ, List, ◌∷◌, false, TokenType, is_document_end, tokens_left, Feeds, WillTake}
 use Rattle.snap_parser.proofs.tokens.Tokens.skip_document_ends.Given as goal
 
 abbrev pub invariant-ends : goal.invariant-ends

@@ -1,4 +1,4 @@
-use Rattle.std.proofs.Common.{rules, ◌≡◌, None}
+use Rattle.snap_parser.proofs.Prelude.{rules, ◌≡◌, None}
 use Rattle.std.proofs.lemmas.Result.{err_from_is_err_and}
 use Rattle.snap_parser.proofs.Taken.{taken-some, taken-not}
 use Rattle.snap_parser.proofs.tokens.Tokens.take.Goals as goal

@@ -1,9 +1,5 @@
-use Rattle.std.proofs.Common.{◌-◌, length, map, ap, ◌∙◌, rules}
+use Rattle.snap_pending.proofs.Prelude.{◌-◌, length, map, ap, ◌∙◌, rules, slice_get, bytes_eq, items_in, pending_of}
 use Rattle.std.proofs.lemmas.Fn.{filter_same}
-use Rattle.std.specs.List.{slice_get}
-use Rattle.std.specs.Str.{bytes_eq}
-use Rattle.snap_pending.specs.Batches.{items_in}
-use Rattle.snap_pending.specs.Pending.{pending_of}
 use Rattle.snap_pending.proofs.LastRun.{kept}
 use Rattle.snap_pending.proofs.batch.Batch.keep_last_run.Goals as goal
 

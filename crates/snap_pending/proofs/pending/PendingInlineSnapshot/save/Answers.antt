@@ -1,7 +1,5 @@
-use Rattle.std.proofs.Common.{◌∙◌, ap, Some}
-use Rattle.std.specs.Prelude.{encode_utf8_all}
-use Rattle.snap_outside.specs.Files.{appended}
-use Rattle.snap_pending.proofs.Ends.{saved, unprinted, print_fault, no_key, same_but, at_ok}
+use Rattle.snap_pending.proofs.Prelude.{◌∙◌, ap, Some, encode_utf8_all, appended, same_but}
+use Rattle.snap_pending.proofs.Ends.{saved, unprinted, print_fault, no_key, at_ok}
 use Rattle.snap_pending.proofs.pending.PendingInlineSnapshot.save.Goals as goal
 
 pub returns-in-Ok-clause-added : goal.returns-in-Ok-clause-added

@@ -1,6 +1,5 @@
-use Rattle.std.proofs.Common.{◌∙◌, ap, Some}
-use Rattle.snap_pending.specs.Saved.{with_lines}
-use Rattle.snap_pending.proofs.Ends.{saved, unprinted, print_fault, no_key, same_but, at_ok}
+use Rattle.snap_pending.proofs.Prelude.{◌∙◌, ap, Some, with_lines, same_but}
+use Rattle.snap_pending.proofs.Ends.{saved, unprinted, print_fault, no_key, at_ok}
 use Rattle.snap_pending.proofs.pending.PendingInlineSnapshot.save_batch.Goals as goal
 
 pub returns-in-Ok-clause-written : goal.returns-in-Ok-clause-written

@@ -1,4 +1,4 @@
-use Rattle.std.proofs.Common.{◌≡◌, ◌++◌, List, ℕ, ap, ◌∙◌, append_assoc, codes}
+use Rattle.snap_run.proofs.Prelude.{◌≡◌, ◌++◌, List, ℕ, ap, ◌∙◌, append_assoc, codes}
 use Rattle.std.specs.Fmt.{decimal}
 use Rattle.snap_run.proofs.status.Status.describe.Goals as goal
 

@@ -1,9 +1,5 @@
-use Rattle.std.proofs.Common.{ap, ◌∙◌}
-use Rattle.snap_token.specs.Mark.{Mark}
-use Rattle.snap_token.specs.Place.{here}
-use Rattle.snap_token.specs.Quoted.{double_from}
+use Rattle.snap_scan.proofs.Prelude.{ap, ◌∙◌, Mark, here, double_from, state_of}
 use Rattle.snap_token.specs.declared.token.TScalarStyle.TheVariants as style
-use Rattle.snap_scan.specs.State.{state_of}
 use Rattle.snap_scan.proofs.Reading.{does-quoted}
 use Rattle.snap_scan.proofs.fetcher.Fetcher.fetch_double_quoted.Goals as goal
 

@@ -1,8 +1,6 @@
-use Rattle.std.proofs.Common.{refl, true}
-use Rattle.snap_token.specs.Place.{here}
+use Rattle.snap_scan.proofs.Prelude.{refl, true, here, state_of}
 use Rattle.snap_token.specs.declared.token.TokenType.TheVariants as t
 use Rattle.snap_token.specs.declared.token.TScalarStyle.TheVariants as style
-use Rattle.snap_scan.specs.State.{state_of}
 use Rattle.snap_scan.specs.declared.kind.TokenKind.TheVariants as k
 use Rattle.snap_scan.proofs.Reading.{does-read-key}
 use Rattle.snap_scan.proofs.fetcher.Fetcher.fetch_folded.Goals as goal

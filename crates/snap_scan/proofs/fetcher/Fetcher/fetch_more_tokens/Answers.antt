@@ -1,6 +1,4 @@
-use Rattle.std.proofs.Common.{arith}
-use Rattle.std.proofs.lemmas.Result.{err_from_is_err_and}
-use Rattle.snap_scan.specs.State.{state_of}
+use Rattle.snap_scan.proofs.Prelude.{arith, err_from_is_err_and, state_of}
 use Rattle.snap_scan.proofs.Ending.{holding}
 use Rattle.snap_scan.proofs.Founding.{sound-step, founded-fetch}
 use Rattle.snap_scan.proofs.Owing.{owed-fetch, owed-fails}

@@ -1,8 +1,4 @@
-use Rattle.std.proofs.Common.{◌≡◌, ◌≤◌, ℕ, List, Bool, false}
-use Rattle.snap_scan.specs.Owed.{Owes}
-use Rattle.snap_scan.specs.State.{state_of, work, left_of, has_ended}
-use Rattle.snap_token.specs.declared.token.TokenType.{TokenType}
-use Rattle.snap_scan.specs.Sound.{IsSound}
+use Rattle.snap_scan.proofs.Prelude.{◌≡◌, ◌≤◌, ℕ, List, Bool, false, Owes, state_of, work, left_of, has_ended, TokenType, IsSound}
 use Rattle.snap_scan.proofs.fetcher.Fetcher.fetch_more_tokens.Given as goal
 
 abbrev pub invariant-fetching : goal.invariant-fetching

@@ -1,5 +1,4 @@
-use Rattle.std.proofs.Common.{◌≡◌, true}
-use Rattle.snap_scan.specs.State.{state_of}
+use Rattle.snap_scan.proofs.Prelude.{◌≡◌, true, state_of}
 use Rattle.snap_scan.proofs.Growing.{more-held}
 use Rattle.snap_scan.proofs.Stepping.{does-step}
 use Rattle.snap_scan.proofs.fetcher.Fetcher.fetch_next_token.Goals as goal

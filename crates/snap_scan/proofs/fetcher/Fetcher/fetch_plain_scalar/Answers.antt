@@ -1,5 +1,4 @@
-use Rattle.snap_token.specs.Place.{here}
-use Rattle.snap_scan.specs.State.{state_of}
+use Rattle.snap_scan.proofs.Prelude.{here, state_of}
 use Rattle.snap_scan.proofs.Reading.{does-plain, innermost-is}
 use Rattle.snap_scan.proofs.fetcher.Fetcher.fetch_plain_scalar.Goals as goal
 

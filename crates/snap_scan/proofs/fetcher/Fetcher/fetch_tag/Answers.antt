@@ -1,7 +1,5 @@
-use Rattle.std.proofs.Common.{false}
-use Rattle.snap_token.specs.Place.{here}
+use Rattle.snap_scan.proofs.Prelude.{false, here, state_of}
 use Rattle.snap_token.specs.declared.token.TokenType.TheVariants as t
-use Rattle.snap_scan.specs.State.{state_of}
 use Rattle.snap_scan.specs.declared.kind.TokenKind.TheVariants as k
 use Rattle.snap_scan.proofs.Reading.{does-read-here}
 use Rattle.snap_scan.proofs.fetcher.Fetcher.fetch_tag.Goals as goal

@@ -1,6 +1,4 @@
-use Rattle.std.proofs.Common.{ap, ◌∙◌}
-use Rattle.snap_token.specs.Mark.{Mark}
-use Rattle.snap_scan.specs.State.{state_of}
+use Rattle.snap_scan.proofs.Prelude.{ap, ◌∙◌, Mark, state_of}
 use Rattle.snap_scan.proofs.Stepping.{does-token}
 use Rattle.snap_scan.proofs.fetcher.Fetcher.fetch_token.Goals as goal
 

@@ -1,7 +1,4 @@
-use Rattle.std.proofs.Common.{sym, subst}
-use Rattle.std.proofs.lemmas.Result.{err_from_is_err_and}
-use Rattle.snap_scan.specs.Owed.{Owes}
-use Rattle.snap_scan.specs.State.{State, state_of}
+use Rattle.snap_scan.proofs.Prelude.{sym, subst, err_from_is_err_and, Owes, State, state_of}
 use Rattle.snap_scan.proofs.Founding.{sound-fresh, founded-stale}
 use Rattle.snap_scan.proofs.Owing.{owes-timely, owes-stale}
 use Rattle.snap_scan.proofs.fetcher.Fetcher.is_ready.Goals as goal

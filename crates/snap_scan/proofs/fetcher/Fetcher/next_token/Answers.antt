@@ -1,5 +1,4 @@
-use Rattle.std.proofs.lemmas.Result.{err_from_is_err_and}
-use Rattle.snap_scan.specs.State.{state_of}
+use Rattle.snap_scan.proofs.Prelude.{err_from_is_err_and, state_of}
 use Rattle.snap_scan.proofs.Ending.{gives-at-end, pays}
 use Rattle.snap_scan.proofs.Order.{gives-sound}
 use Rattle.snap_scan.proofs.Owing.{gives-first}

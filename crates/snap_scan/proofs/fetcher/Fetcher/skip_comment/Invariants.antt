@@ -1,5 +1,4 @@
-use Rattle.std.proofs.Common.{◌≡◌, ◌≤◌, length}
-use Rattle.snap_scan.specs.State.{state_of, spent, work, past_comment}
+use Rattle.snap_scan.proofs.Prelude.{◌≡◌, ◌≤◌, length, state_of, spent, work, past_comment}
 use Rattle.snap_scan.proofs.fetcher.Fetcher.skip_comment.Given as goal
 
 abbrev pub invariant-characters : goal.invariant-characters

@@ -1,5 +1,4 @@
-use Rattle.std.proofs.Common.{◌≡◌, ◌≤◌}
-use Rattle.snap_scan.specs.State.{state_of, spent, work, to_next}
+use Rattle.snap_scan.proofs.Prelude.{◌≡◌, ◌≤◌, state_of, spent, work, to_next}
 use Rattle.snap_scan.proofs.fetcher.Fetcher.skip_to_next_token.Given as goal
 
 abbrev pub invariant-characters : goal.invariant-characters

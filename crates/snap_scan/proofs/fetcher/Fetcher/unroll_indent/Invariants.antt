@@ -1,5 +1,4 @@
-use Rattle.std.proofs.Common.{◌≡◌, length}
-use Rattle.snap_scan.specs.State.{state_of, spent, work, unrolled}
+use Rattle.snap_scan.proofs.Prelude.{◌≡◌, length, state_of, spent, work, unrolled}
 use Rattle.snap_scan.proofs.fetcher.Fetcher.unroll_indent.Given as goal
 
 abbrev pub invariant-loop-column : goal.invariant-loop-column

@@ -1,10 +1,4 @@
-use Rattle.std.proofs.Common.{◌≡◌, subst, sym}
-use Rattle.std.specs.Str.{chars}
-use Rattle.snap_token.specs.Place.{before_nul}
-use Rattle.snap_token.specs.declared.info.ScanError.{ScanError}
-use Rattle.snap_scan.specs.State.{state_of, has_ended}
-use Rattle.snap_scan.specs.Sound.{IsFounded, is_start_ahead}
-use Rattle.snap_scan.specs.Scan.{Scan}
+use Rattle.snap_scan.proofs.Prelude.{◌≡◌, subst, sym, chars, before_nul, ScanError, state_of, has_ended, IsFounded, is_start_ahead, Scan}
 use Rattle.snap_scan.proofs.Founding.{sound-step, founded-fetch}
 use Rattle.snap_scan.proofs.Order.{ahead-is, step-ended, whole-sound, whole-open, whole-failed}
 use Rattle.snap_scan.proofs.scanner.Scanner.fetch_next_token.Goals as goal

@@ -1,5 +1,4 @@
-use Rattle.std.proofs.Common.{◌∙◌, ap, Some, Option, inr}
-use Rattle.snap_token.specs.declared.info.ScanError.{ScanError}
+use Rattle.snap_scan.proofs.Prelude.{◌∙◌, ap, Some, Option, inr, ScanError}
 use Rattle.snap_scan.proofs.Owing.{next-owed}
 use Rattle.snap_scan.proofs.scanner.Scanner.next.Goals as goal
 

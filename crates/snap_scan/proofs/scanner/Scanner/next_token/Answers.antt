@@ -1,13 +1,4 @@
-use Rattle.std.proofs.Common.{◌≡◌, ◌∙◌, subst, sym, Ok, None, List}
-use Rattle.std.specs.Str.{chars}
-use Rattle.snap_token.specs.Place.{before_nul}
-use Rattle.snap_token.specs.declared.info.ScanError.{ScanError}
-use Rattle.snap_token.specs.declared.info.ScanError.TheVariants.{OutOfMemory}
-use Rattle.snap_token.specs.declared.token.TokenType.{TokenType}
-use Rattle.snap_scan.specs.Owed.{Owes, GivesFirst}
-use Rattle.snap_scan.specs.State.{state_of}
-use Rattle.snap_scan.specs.Sound.{IsFounded, is_start_ahead}
-use Rattle.snap_scan.specs.Scan.{Scan, GivesNext}
+use Rattle.snap_scan.proofs.Prelude.{◌≡◌, ◌∙◌, subst, sym, Ok, None, List, chars, before_nul, ScanError, OutOfMemory, TokenType, Owes, GivesFirst, state_of, IsFounded, is_start_ahead, Scan, GivesNext}
 use Rattle.snap_scan.proofs.Order.{gives-next, sound-after, whole-sound, whole-open, whole-failed}
 use Rattle.snap_scan.proofs.scanner.Scanner.next_token.Goals as goal
 

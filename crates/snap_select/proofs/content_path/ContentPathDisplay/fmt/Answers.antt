@@ -1,9 +1,4 @@
-use Rattle.std.proofs.Common.{◌+◌, ◌∷◌, [], take, rules}
-use Rattle.std.specs.Prelude.{map}
-use Rattle.std.specs.Fmt.{HasWritten}
-use Rattle.snap_select.specs.Matching.{step_of}
-use Rattle.snap_select.specs.PathText.{step_text}
-use Rattle.snap_select.specs.Paths.{items_of}
+use Rattle.snap_select.proofs.Prelude.{◌+◌, ◌∷◌, [], take, rules, map, HasWritten, step_of, step_text, items_of}
 use Rattle.snap_select.proofs.ShownPaths.{shown_more, items_more}
 use Rattle.snap_select.proofs.content_path.ContentPathDisplay.fmt.Goals as goal
 

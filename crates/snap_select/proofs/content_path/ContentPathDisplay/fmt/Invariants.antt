@@ -1,9 +1,4 @@
-use Rattle.std.proofs.Common.{take}
-use Rattle.std.specs.Fmt.{HasWritten, IsPlainFormatter}
-use Rattle.std.specs.Prelude.{map}
-use Rattle.snap_select.specs.Matching.{step_of}
-use Rattle.snap_select.specs.PathText.{path_text}
-use Rattle.snap_select.specs.Paths.{items_of}
+use Rattle.snap_select.proofs.Prelude.{take, HasWritten, IsPlainFormatter, map, step_of, path_text, items_of}
 use Rattle.snap_select.proofs.content_path.ContentPathDisplay.fmt.Given as goal
 
 abbrev pub invariant-loop-item : goal.invariant-loop-item

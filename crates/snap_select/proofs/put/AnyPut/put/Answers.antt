@@ -1,4 +1,4 @@
-use Rattle.std.proofs.Common.{refl}
+use Rattle.snap_select.proofs.Prelude.{refl}
 use Rattle.snap_select.proofs.Answered.{if_ok}
 use Rattle.snap_select.proofs.put.AnyPut.put.Goals as goal
 

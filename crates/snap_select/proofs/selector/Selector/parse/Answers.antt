@@ -1,4 +1,4 @@
-use Rattle.std.specs.Str.{chars}
+use Rattle.snap_select.proofs.Prelude.{chars}
 use Rattle.snap_select.proofs.Outcomes.{selects_selector}
 use Rattle.snap_select.proofs.selector.Selector.parse.Goals as goal
 

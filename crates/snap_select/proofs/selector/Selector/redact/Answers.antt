@@ -1,7 +1,4 @@
-use Rattle.std.proofs.lemmas.Result.{IfOk-weaker}
-use Rattle.snap_content.specs.View.{tree}
-use Rattle.snap_select.specs.Put.{Puts}
-use Rattle.snap_select.specs.Selectors.{parts_of}
+use Rattle.snap_select.proofs.Prelude.{IfOk-weaker, tree, Puts, parts_of}
 use Rattle.snap_select.proofs.Answered.{moved}
 use Rattle.snap_select.proofs.OneRedacted.{weaker_redacted}
 use Rattle.snap_select.proofs.QuietTrees.{quiet_redacted}

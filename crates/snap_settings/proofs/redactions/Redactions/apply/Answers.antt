@@ -1,4 +1,4 @@
-use Rattle.snap_content.specs.View.{tree}
+use Rattle.snap_settings.proofs.Prelude.{tree}
 use Rattle.snap_settings.proofs.RedactionLists.{one_more}
 use Rattle.snap_settings.proofs.redactions.Redactions.apply.Goals as goal
 

@@ -1,6 +1,4 @@
-use Rattle.std.proofs.Common.{map, take}
-use Rattle.snap_content.specs.View.{tree}
-use Rattle.snap_settings.specs.Redactions.{redaction_of, RedactedBy}
+use Rattle.snap_settings.proofs.Prelude.{map, take, tree, redaction_of, RedactedBy}
 use Rattle.snap_settings.proofs.redactions.Redactions.apply.Given as goal
 
 abbrev pub invariant-loop-selector : goal.invariant-loop-selector

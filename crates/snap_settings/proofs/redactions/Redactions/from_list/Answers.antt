@@ -1,6 +1,4 @@
-use Rattle.std.proofs.Common.{◌≡◌, [], sym, ◌∙◌, subst}
-use Rattle.std.specs.Vec.Iter.{into_iter_items}
-use Rattle.snap_settings.specs.Redactions.{redactions_of, AreRedactions}
+use Rattle.snap_settings.proofs.Prelude.{◌≡◌, [], sym, ◌∙◌, subst, into_iter_items, redactions_of, AreRedactions}
 use Rattle.snap_settings.proofs.RedactionLists.{all_made, nothing_left}
 use Rattle.snap_settings.proofs.redactions.Redactions.from_list.Goals as goal
 

@@ -1,6 +1,4 @@
-use Rattle.std.proofs.Common.{◌≡◌, length}
-use Rattle.std.specs.Vec.Iter.{into_iter_items, into_iter_len}
-use Rattle.snap_settings.specs.Redactions.{redactions_of}
+use Rattle.snap_settings.proofs.Prelude.{◌≡◌, length, into_iter_items, into_iter_len, redactions_of}
 use Rattle.snap_settings.proofs.RedactionLists.{GoesOn}
 use Rattle.snap_settings.proofs.redactions.Redactions.from_list.Given as goal
 

@@ -1,7 +1,4 @@
-use Rattle.std.proofs.Common.{◌≡◌, ◌++◌, length, map}
-use Rattle.std.specs.Vec.Iter.{into_iter_items, into_iter_len}
-use Rattle.snap_settings.specs.Redactions.{redactions_of}
-use Rattle.snap_settings.specs.Replaced.{redaction_for}
+use Rattle.snap_settings.proofs.Prelude.{◌≡◌, ◌++◌, length, map, into_iter_items, into_iter_len, redactions_of, redaction_for}
 use Rattle.snap_settings.proofs.redactions.Redactions.from_replacements.Given as goal
 
 abbrev pub invariant-loop-selector : goal.invariant-loop-selector

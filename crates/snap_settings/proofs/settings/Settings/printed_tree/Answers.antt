@@ -1,8 +1,5 @@
-use Rattle.std.proofs.Common.{subst}
+use Rattle.snap_settings.proofs.Prelude.{subst, tree, RedactedBy, redactions_in}
 use Rattle.std.proofs.lemmas.Result.{IfOk-weaker}
-use Rattle.snap_content.specs.View.{tree}
-use Rattle.snap_settings.specs.Redactions.{RedactedBy}
-use Rattle.snap_settings.specs.Settings.{redactions_in}
 use Rattle.snap_settings.proofs.settings.Settings.printed_tree.Goals as goal
 
 pub returns : goal.returns

@@ -1,8 +1,5 @@
-use Rattle.std.proofs.Common.{ap, sym, ◌∙◌}
-use Rattle.snap_content.specs.View.{tree, pair_list, pair_trees}
+use Rattle.snap_store.proofs.Prelude.{ap, sym, ◌∙◌, tree, pair_list, pair_trees, tree-Map, kind_told, fields_told}
 use Rattle.snap_content.proofs.DictMade.{dict_of}
-use Rattle.snap_content.proofs.Views.{tree-Map}
-use Rattle.snap_store.specs.TreeFields.{kind_told, fields_told}
 use Rattle.snap_store.proofs.MetaTrees.{tells}
 use Rattle.snap_store.proofs.TreesMade.{kind-made, fields-made}
 use Rattle.snap_store.proofs.metadata.MetaData.from_content.Goals as goal

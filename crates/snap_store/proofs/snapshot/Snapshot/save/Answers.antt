@@ -1,4 +1,4 @@
-use Rattle.std.proofs.Common.{refl}
+use Rattle.snap_store.proofs.Prelude.{refl}
 use Rattle.snap_store.proofs.Written.{nothing_written, at_ok, saved_as}
 use Rattle.snap_store.proofs.snapshot.Snapshot.save.Goals as goal
 

@@ -1,5 +1,5 @@
 use Rattle.snap_store.proofs.Written.{nothing_written, at_err, same_but_at}
-use Rattle.snap_store.specs.Image.{pending_path}
+use Rattle.snap_store.proofs.Prelude.{pending_path}
 use Rattle.snap_store.proofs.snapshot.Snapshot.save_new.Goals as goal
 
 pub returns-in_err-pending-clause-unknown : goal.returns-in_err-pending-clause-unknown

@@ -1,9 +1,4 @@
-use Rattle.std.proofs.Common.{◌≡◌, [], ◌∷◌, rules, ap, ◌∙◌}
-use Rattle.std.specs.Fmt.{HasWritten}
-use Rattle.std.specs.Str.{chars}
-use Rattle.snap_literal.specs.Inline.{written}
-use Rattle.snap_literal.specs.Normal.{trimmed}
-use Rattle.snap_text.specs.Contents.{raw_of, kind_of, normal_of}
+use Rattle.snap_text.proofs.Prelude.{◌≡◌, [], ◌∷◌, rules, ap, ◌∙◌, HasWritten, chars, written, trimmed, raw_of, kind_of, normal_of}
 use Rattle.snap_text.proofs.Shown.{shown_line, shown_last, written-as}
 use Rattle.snap_text.proofs.contents.TextSnapshotContentsDisplay.fmt.Goals as goal
 

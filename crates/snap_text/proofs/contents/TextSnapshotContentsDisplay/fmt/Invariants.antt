@@ -1,9 +1,6 @@
-use Rattle.std.proofs.Common.{length}
+use Rattle.snap_text.proofs.Prelude.{length, IsPlainFormatter, chars, normal_of}
 use denote.Text.{Utf8}
 use denote.Shadow.{shadow}
-use Rattle.std.specs.Fmt.{IsPlainFormatter}
-use Rattle.std.specs.Str.{chars}
-use Rattle.snap_text.specs.Contents.{normal_of}
 use Rattle.snap_text.proofs.Shown.{IsShown}
 use Rattle.snap_text.proofs.contents.TextSnapshotContentsDisplay.fmt.Given as goal
 

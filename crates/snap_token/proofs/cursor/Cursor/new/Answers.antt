@@ -1,6 +1,4 @@
-use Rattle.std.proofs.Common.{arith, ap, length}
-use Rattle.std.proofs.lemmas.Str.{length-le-encodes, encodes-chars}
-use Rattle.std.specs.Str.{chars}
+use Rattle.snap_token.proofs.Prelude.{arith, ap, length, length-le-encodes, encodes-chars, chars}
 use Rattle.snap_token.proofs.cursor.Cursor.new.Goals as goal
 
 pub invariant_of-result : goal.invariant_of-result

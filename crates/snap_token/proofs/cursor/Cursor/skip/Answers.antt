@@ -1,5 +1,4 @@
-use Rattle.std.proofs.Common.{ap, arith, rules, length, ◌≡◌, ◌∷◌}
-use Rattle.std.specs.Str.{chars}
+use Rattle.snap_token.proofs.Prelude.{ap, arith, rules, length, ◌≡◌, ◌∷◌, chars}
 use Rattle.snap_token.proofs.Places.{later-next}
 use Rattle.snap_token.proofs.cursor.Cursor.skip.Goals as goal
 

@@ -1,7 +1,4 @@
-use Rattle.std.proofs.Common.{◌≡◌, ◌≤◌, ◌+◌, ℕ, List, length}
-use Rattle.snap_token.specs.Place.{Place, Later, skipped_while}
-use Rattle.snap_token.specs.Characters.{is_of}
-use Rattle.snap_token.specs.Pieces.{EndsIn}
+use Rattle.snap_token.proofs.Prelude.{◌≡◌, ◌≤◌, ◌+◌, ℕ, List, length, Place, Later, skipped_while, is_of, EndsIn}
 use Rattle.snap_token.proofs.cursor.Cursor.skip_while.Given as goal
 
 abbrev pub invariant-characters : goal.invariant-characters

@@ -1,7 +1,5 @@
-use Rattle.std.proofs.Common.{◌≡◌, ℕ, List, [], ◌++◌, sym, ap, ◌∙◌}
-use Rattle.std.specs.Str.{chars}
+use Rattle.snap_token.proofs.Prelude.{◌≡◌, ℕ, List, [], ◌++◌, sym, ap, ◌∙◌, chars, Piece, before}
 use Rattle.snap_token.proofs.Empties.{nil-is}
-use Rattle.snap_token.specs.Pieces.{Piece, before}
 use Rattle.snap_token.proofs.folding.Gathered.finish.Goals as goal
 
 pub returns-then-is_nil : goal.returns-then-is_nil

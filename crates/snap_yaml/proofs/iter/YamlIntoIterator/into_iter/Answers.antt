@@ -1,5 +1,4 @@
-use Rattle.std.proofs.Common.{◌∙◌}
-use Rattle.snap_yaml.specs.View.{value_of, array_list}
+use Rattle.snap_yaml.proofs.Prelude.{◌∙◌, value_of, array_list}
 use Rattle.snap_yaml.proofs.Views.{items-kept}
 use Rattle.snap_yaml.proofs.iter.YamlIntoIterator.into_iter.Goals as goal
 

@@ -1,7 +1,4 @@
-use Rattle.std.proofs.Common.{Option, sym, ap, ◌∙◌}
-use Rattle.snap_yaml.specs.Value.{Value}
-use Rattle.snap_yaml.specs.View.{value_of, array_list}
-use Rattle.snap_yaml.specs.Lookup.{value_at_index}
+use Rattle.snap_yaml.proofs.Prelude.{Option, sym, ap, ◌∙◌, Value, value_of, array_list, value_at_index}
 use Rattle.snap_yaml.proofs.Views.{value-Array, item-found}
 use Rattle.snap_yaml.proofs.yaml.Yaml.get_at.Goals as goal
 

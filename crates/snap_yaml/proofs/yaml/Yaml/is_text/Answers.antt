@@ -1,9 +1,4 @@
-use Rattle.std.proofs.Common.{List, ℕ, Bool, sym, ap, ◌∙◌}
-use Rattle.std.specs.Str.{chars, bytes_eq}
-use Rattle.snap_content.proofs.Ends.{same_texts}
-use Rattle.snap_yaml.specs.Value.{Value}
-use Rattle.snap_yaml.specs.View.{value_of}
-use Rattle.snap_yaml.specs.Lookup.{is_text}
+use Rattle.snap_yaml.proofs.Prelude.{List, ℕ, Bool, sym, ap, ◌∙◌, chars, bytes_eq, same_texts, Value, value_of, is_text}
 use Rattle.snap_yaml.proofs.Views.{value-String}
 use Rattle.snap_yaml.proofs.yaml.Yaml.is_text.Goals as goal
 

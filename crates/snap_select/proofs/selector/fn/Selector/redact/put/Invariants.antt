@@ -1,7 +1,4 @@
-use Rattle.std.proofs.Common.{IfOk, map}
-use Rattle.snap_content.specs.View.{tree}
-use Rattle.snap_select.specs.Matching.{step_of}
-use Rattle.snap_select.specs.Put.{Puts}
+use Rattle.snap_select.proofs.Prelude.{IfOk, map, tree, step_of, Puts}
 use Rattle.snap_select.proofs.selector.fn.Selector.redact.put.Given as goal
 
 -- what `put` of a redaction ensures

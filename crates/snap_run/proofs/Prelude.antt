@@ -1,0 +1,27 @@
+-- The words that the proofs of this crate speak in: those of the library, of the crates below, and of its own definitions.
+pub use Rattle.std.proofs.Common.{◌≡◌, ℕ, List, [], ◌∷◌, ◌++◌, Option, inl, inr, subst, arith, ◌⊎◌, ◌&&◌, not, map, Some, refl, sym, ap, ◌∙◌, Result, Ok, Err, encode_utf8_all, ◌≤◌, ◌<◌, ◌+◌, ◌-◌, ◌^◌, min, length, take, OnOk, OnErr, Bool, true, false, None, ◌||◌, drop, append_assoc, length-append, codes}
+pub use Rattle.std.proofs.lemmas.List.{append-nil, take_all}
+pub use Rattle.std.proofs.lemmas.Str.{encodes-chars}
+pub use Rattle.std.specs.FinMap.{empty, get}
+pub use Rattle.snap_assert.proofs.Keeping.{step_keeps, gone_after}
+pub use Rattle.snap_assert.specs.Kept.{KeptBy, IsOwn, FaultIsOwn, Keeps, IsKeptOrGone, is_written, may_change}
+pub use Rattle.snap_assert.specs.Steps.{asked_path, verdict_of, is_failure}
+pub use Rattle.snap_assert.specs.declared.outcome.Outcome.{Outcome}
+pub use Rattle.snap_outside.specs.Causes.{Rose, HasCause}
+pub use Rattle.snap_outside.specs.Files.{Files}
+pub use Rattle.snap_outside.specs.Streams.{HoldsFront}
+pub use Rattle.snap_request.specs.Cut.{documents}
+pub use Rattle.snap_request.specs.Requests.{RequestView, Spells, ReadsAs, Reads}
+pub use Rattle.snap_settings.specs.declared.config.Update.{Update}
+pub use Rattle.snap_run.specs.Answers.{RunWords, place_by, settings_by, printed_by, asked_by, assertion_by, line_text, line_of, words_mean, Answer, requests_of, step_of, files_after, some_fails, AreAllowed, lines_of, answer_fails}
+pub use Rattle.snap_run.specs.Arguments.{arguments_in, words_given, arguments_of}
+pub use Rattle.snap_run.specs.Program.{message, IsSaid, IsRunOf}
+pub use Rattle.snap_run.specs.Runner.{words_of}
+pub use Rattle.snap_run.specs.Runs.{StopsAt, Ran, AssertionStops, IsInWork, MemoryFails, LineFails, IsDocumentAnswered, StoreCount, Stops, RanOne}
+pub use Rattle.snap_run.specs.Status.{RunsTo, AreSpelled, IsSteady, EndsWell, RunCause, Ended, RunsBy, RunsFrom, LengthCause, SourceCause, SinkCause, StoreCause}
+pub use Rattle.snap_run.specs.StatusOf.{status_at, status_of}
+pub use Rattle.snap_run.specs.declared.documents.DocumentError.{DocumentError}
+pub use Rattle.snap_run.specs.declared.documents.Stop.{Stop}
+pub use Rattle.snap_run.specs.declared.runner.Runner.{Runner}
+pub use Rattle.snap_run.specs.declared.status.Status.{Status}
+pub use Rattle.snap_run.specs.declared.status.Status.TheVariants.{AllPassed, SomeFailed, BadWords, BadRequest, Refused, ReadFault, OutOfMemory, InputTooLong}
