@@ -1,8 +1,6 @@
 -- What the bytes of a text tell of its characters.
-use Rattle.snap_emitter.proofs.Prelude.{◌≡◌, ◌==◌, ℕ, suc, ◌<◌, ◌≤◌, List, [], ◌∷◌, ◌++◌, Bool, true, false, ◌||◌, ◌&&◌, ◌⊎◌, inl, inr, length, get_or, refl, sym, ap, ◌∙◌, arith, nat_le, cases_lt, or_from, nat_tests, append-nil, encodes-chars, encode_ascii, inside_one, IsTrue, codes, is_ascii, list_any, list_all, chars, IsUtf8, is_special}
-use Rattle.std.proofs.lemmas.List.Folds.{list_any-append}
-use lib.Utf8.{encode, encodes}
-use Rattle.snap_content.proofs.Booleans.{or_nothing}
+use Rattle.snap_emitter.proofs.Prelude.{◌≡◌, ◌==◌, ℕ, ◌≤◌, List, [], ◌∷◌, Bool, true, false, ◌||◌, ◌&&◌, refl, arith, nat_le, or_from, nat_tests, IsTrue, codes, is_ascii, list_any, list_all, chars, IsUtf8, is_special}
+use Rattle.snap_content.proofs.AsciiBytes.{any_of_bytes}
 
 -- a wide character is none of a list of ASCII characters
 none_of : (c : ℕ) (ks : List ℕ) → 128 ≤ c → IsTrue (list_all is_ascii ks) → list_any (λ k. c == k) ks ≡ false
@@ -27,38 +25,6 @@ wide-special c wide =
     (grind (arith, nat_tests)))
     (grind (arith, nat_tests))
 
-not_small : (b : ℕ) → (b < 128 → ⊥) → 128 ≤ b
-not_small b h = by (cases_lt b 128)
-  where
-    by : (b < 128) ⊎ (128 ≤ b) → 128 ≤ b
-    by (inl small) = absurd (h small)
-    by (inr wide) = wide
-
--- bytes none of which is ASCII
-nowhere : (bs : List ℕ) → ((k : ℕ) → k < length bs → get_or bs k 0 < 128 → ⊥) → list_any is_special bs ≡ false
-nowhere [] h = refl
-nowhere (b ∷ bs) h =
-    or_from (is_special b) (list_any is_special bs) (wide-special b (not_small b (h 0 (omega arith))))
-    (nowhere bs (λ k less. h (suc k) (omega (arith, less))))
-
--- the bytes of a character are special where it is
-one : (c : ℕ) → list_any is_special (encode c) ≡ is_special c
-one c = by (cases_lt c 128)
-  where
-    wide-bytes : 128 ≤ c → list_any is_special (encode c) ≡ false
-    wide-bytes wide = nowhere (encode c) (λ k less small. omega (arith, wide, small, inside_one c [] (encode c) k (sym (append-nil (encode c))) less small))
-
-    by : (c < 128) ⊎ (128 ≤ c) → list_any is_special (encode c) ≡ is_special c
-    by (inl small) = ap (list_any is_special) (encode_ascii c small) ∙ or_nothing (is_special c)
-    by (inr wide) = wide-bytes wide ∙ sym (wide-special c wide)
-
-all : (cs : List ℕ) → list_any is_special (encodes cs) ≡ list_any is_special cs
-all [] = refl
-all (c ∷ cs) =
-    list_any-append is_special (encode c) (encodes cs)
-    ∙ ap (λ b. b || list_any is_special (encodes cs)) (one c) ∙ ap (λ b. is_special c || b) (all cs)
-
 -- special characters are special bytes
 pub special_bytes : (bytes text : List ℕ) → IsUtf8 text → bytes ≡ text → list_any is_special bytes ≡ list_any is_special (chars text)
-special_bytes bytes text utf8 same =
-    ap (list_any is_special) (same ∙ sym (encodes-chars text utf8)) ∙ all (chars text)
+special_bytes = any_of_bytes is_special wide-special

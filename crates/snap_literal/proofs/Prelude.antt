@@ -22,8 +22,8 @@ pub use Rattle.snap_str.specs.Lines.{onto, lines, without_return, begins_line_en
 pub use Rattle.snap_literal.specs.Frame.{sign, space_front, last_line, is_framed, framed_text, onto_front, at_byte, given, breaks_frame}
 pub use Rattle.snap_literal.specs.Hashes.{past_hashes, past_end, has_end, run, required, hashes}
 pub use Rattle.snap_literal.specs.Inline.{shortest, indentation_of, from_byte, joined_from, is_short, normalized, inline_normal, lead, behind_end, inline_width, written_lines, written}
-pub use Rattle.snap_literal.specs.Lines.{is_line_end, IsUnbroken, IsLineThen, before_return, without_returns}
-pub use Rattle.snap_literal.specs.Literal.{Inside, is_return, literal_reads, IsQuoted, IsRaw, IsBody}
+pub use Rattle.snap_literal.specs.Lines.{is_line_end, IsUnbroken, IsLineThen, before_return, without_returns, is_return}
+pub use Rattle.snap_literal.specs.Literal.{Inside, literal_reads, IsQuoted, IsRaw, IsBody}
 pub use Rattle.snap_literal.specs.Literal.Inside.{ends, goes_on}
 pub use Rattle.snap_literal.specs.Normal.{trimmed, unreturned, normal, before_trimmed}
 pub use Rattle.snap_literal.specs.Spelled.{escaped_char, is_control, digits, line_parts, framed_line, shown, is_indent, is_hidden, spelled, meant, IsIndentation, is_marked, escaped_form, raw_form, plain_form}

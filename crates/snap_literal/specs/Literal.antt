@@ -1,16 +1,14 @@
 -- The grammar of string literals: which text a source reads as. It knows nothing of how literals are written.
-use Rattle.std.specs.Prelude.{◌≡◌, ℕ, List, [], ◌∷◌, ◌++◌, ◌⊎◌, ◌==◌, Bool, false, Some}
+use Rattle.std.specs.Prelude.{◌≡◌, ℕ, List, [], ◌∷◌, ◌++◌, ◌⊎◌, Bool, false, Some}
 use Rattle.std.specs.List.{list_any}
 use Rattle.snap_literal.specs.Units.{unit_of}
 use Rattle.snap_literal.specs.Hashes.{hashes, has_end}
+use Rattle.snap_literal.specs.Lines.{is_return}
 
 -- from behind the first quote: units, and the last quote
 pub data Inside : List ℕ → List ℕ → Type 0 where
   ends : {source text : List ℕ} → source ≡ 34 ∷ [] → text ≡ [] → Inside source text
   goes_on : {source text : List ℕ} (given rest more : List ℕ) → unit_of source ≡ Some (given, rest) → text ≡ given ++ more → Inside rest more → Inside source text
-
-abbrev pub is_return : ℕ → Bool
-is_return c = c == 13
 
 -- from behind the first quote of a raw literal with so many `#`: the text as it stands, the last quote, the `#`
 pub record IsBody (count : ℕ) (body text : List ℕ) : Type 0 where

@@ -1,5 +1,5 @@
 //! What a text holds.
-ghost use Rattle.std.specs.Prelude.{◌≡◌, true, false};
+ghost use Rattle.std.specs.Prelude.{◌≡◌, not};
 ghost use Rattle.std.specs.List.{list_any};
 ghost use Rattle.std.specs.Str.{chars};
 ghost use Rattle.snap_literal.specs.Lines.{is_line_end, is_return};
@@ -44,10 +44,7 @@ pub fn holds_line_end(text: &str) -> bool
 
 /// Whether no return stands in the text.
 pub fn is_free_of_returns(text: &str) -> bool
-    ensures { result ≡ true → list_any is_return (chars text.now) ≡ false }
+    ensures { result ≡ not (list_any is_return (chars text.now)) }
 {
-    match memchr(b'\r', text.as_bytes()) {
-        None => true,
-        Some(_) => false,
-    }
+    memchr(b'\r', text.as_bytes()).is_none()
 }
