@@ -2,7 +2,7 @@
 ghost use Rattle.std.specs.Prelude.{◌≡◌, Some, IfOk, map};
 ghost use Rattle.std.specs.List.{filter};
 ghost use Rattle.std.specs.Str.{chars};
-ghost use Rattle.snap_outside.specs.Causes.{StoreCause};
+ghost use Rattle.snap_outside.specs.Causes.{Counted, is_failed};
 ghost use Rattle.snap_outside.specs.Files.{Files};
 ghost use Rattle.snap_path.specs.Paths.{joined, parent_of};
 ghost use Rattle.snap_assert.specs.Steps.{is_stray};
@@ -64,7 +64,7 @@ pub fn stray_paths<S: Store>(
     ensures all { IfOk result (λ strays. IsFilePath path.now → folder.now ≡ parent_of path.now
         → AllStray path.now strays.items) }
     ensures same { S.files store.new ≡ S.files store.old }
-    ensures cause { StoreCause (S.faults store.old) (S.faults store.new) result }
+    ensures cause { Counted is_failed (S.faults store.old) (S.faults store.new) result }
 {
     let Some(file) = path_name(path) else {
         return Ok(Vec::new(alloc));

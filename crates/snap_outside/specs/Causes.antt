@@ -1,5 +1,6 @@
 -- When a call of the outside may say that it failed.
-use Rattle.std.specs.Prelude.{◌≡◌, ℕ, ◌+◌, ◌-◌, ◌^◌, ◌≤◌, min, Result, Ok, Err}
+use Rattle.std.specs.Prelude.{◌≡◌, ℕ, ◌+◌, ◌-◌, ◌^◌, ◌≤◌, min, Bool, true, false, Result, Ok, Err}
+use Rattle.snap_outside.specs.declared.outside.Fault.{Fault}
 use Rattle.snap_outside.specs.declared.outside.StoreError.{StoreError}
 use Rattle.snap_outside.specs.declared.outside.StoreError.TheVariants.{Failed, OutOfMemory}
 
@@ -8,28 +9,34 @@ pub record Rose (before now : ℕ) : Type 0 where
   pub later : before ≤ now
   pub rose : min (before + 1) (2 ^ 64 - 1) ≤ now
 
--- a source or a sink fails only where its count rose, and else leaves it
-abbrev pub HasCause : {T E : Type 0} → ℕ → ℕ → Result T E → Type 0
-HasCause before now (Ok value) = now ≡ before
-HasCause before now (Err fault) = Rose before now
+-- a count rises where there is a fault, and stands where there is none
+abbrev pub CountedIf : Bool → ℕ → ℕ → Type 0
+CountedIf true before now = Rose before now
+CountedIf false before now = now ≡ before
 
--- a store says that it failed only where its count rose, and any other answer leaves it
-abbrev pub StoreCause : {T : Type 0} → ℕ → ℕ → Result T StoreError → Type 0
-StoreCause before now (Ok value) = now ≡ before
-StoreCause before now (Err Failed) = Rose before now
-StoreCause before now (Err OutOfMemory) = now ≡ before
+-- an answer tells of a fault only where the count rose, and any other answer leaves it
+abbrev pub Counted : {T E : Type 0} → (E → Bool) → ℕ → ℕ → Result T E → Type 0
+Counted is_fault before now (Ok value) = now ≡ before
+Counted is_fault before now (Err error) = CountedIf (is_fault error) before now
 
 -- the next count, up to the largest
 abbrev pub one_more : ℕ → ℕ
 one_more count = min (count + 1) (2 ^ 64 - 1)
 
--- where a source or a sink fails its count rises by one
-abbrev pub FailsOnce : {T E : Type 0} → ℕ → ℕ → Result T E → Type 0
-FailsOnce before now (Ok value) = now ≡ before
-FailsOnce before now (Err fault) = now ≡ one_more before
+abbrev pub CountedOnceIf : Bool → ℕ → ℕ → Type 0
+CountedOnceIf true before now = now ≡ one_more before
+CountedOnceIf false before now = now ≡ before
 
--- where a store fails its count rises by one
-abbrev pub StoreFailsOnce : {T : Type 0} → ℕ → ℕ → Result T StoreError → Type 0
-StoreFailsOnce before now (Ok value) = now ≡ before
-StoreFailsOnce before now (Err Failed) = now ≡ one_more before
-StoreFailsOnce before now (Err OutOfMemory) = now ≡ before
+-- where an answer tells of a fault the count rises by one
+abbrev pub CountedOnce : {T E : Type 0} → (E → Bool) → ℕ → ℕ → Result T E → Type 0
+CountedOnce is_fault before now (Ok value) = now ≡ before
+CountedOnce is_fault before now (Err error) = CountedOnceIf (is_fault error) before now
+
+-- a source or a sink has no other error
+abbrev pub is_fault : Fault → Bool
+is_fault fault = true
+
+-- a store may also want memory
+abbrev pub is_failed : StoreError → Bool
+is_failed Failed = true
+is_failed OutOfMemory = false

@@ -2,7 +2,7 @@
 //! and how what it answers follows from what was answered there.
 ghost use Rattle.std.specs.Prelude.{◌≡◌, [], None, encode_utf8_all};
 ghost use Rattle.snap_outside.specs.Adapters.{store_asked, store_faults};
-ghost use Rattle.snap_outside.specs.Causes.{StoreCause, StoreFailsOnce};
+ghost use Rattle.snap_outside.specs.Causes.{Counted, CountedOnce, is_failed};
 ghost use Rattle.snap_outside.specs.Disks.{asked_of};
 ghost use Rattle.snap_outside.specs.Listing.{FolderListed};
 ghost use Rattle.snap_outside.specs.Operations.{FileRead, FileAppended, FileRemoved};
@@ -44,8 +44,8 @@ impl<R: Files + Alloc + Clone + Drop> FolderStore<R> {
     fn counted<T>(&mut self, answer: Result<T, StoreError>) -> Result<T, StoreError>
         ensures same { result ≡ answer }
         ensures asked { store_asked self.new ≡ store_asked self.old }
-        ensures cause { StoreCause (store_faults self.old) (store_faults self.new) result }
-        ensures once { StoreFailsOnce (store_faults self.old) (store_faults self.new) result }
+        ensures cause { Counted is_failed (store_faults self.old) (store_faults self.new) result }
+        ensures once { CountedOnce is_failed (store_faults self.old) (store_faults self.new) result }
     {
         if let Err(StoreError::Failed) = &answer {
             self.faults = self.faults.saturating_add(1);
@@ -62,8 +62,8 @@ impl<R: Files + Alloc + Clone + Drop> Store for FolderStore<R> {
     fn read(&mut self, alloc: Global, path: &Text) -> Result<Option<Blob>, StoreError>
         ensures asked { FileRead (encode_utf8_all path.now) result (store_asked self.old)
             (store_asked self.new) }
-        ensures cause { StoreCause (store_faults self.old) (store_faults self.new) result }
-        ensures once { StoreFailsOnce (store_faults self.old) (store_faults self.new) result }
+        ensures cause { Counted is_failed (store_faults self.old) (store_faults self.new) result }
+        ensures once { CountedOnce is_failed (store_faults self.old) (store_faults self.new) result }
     {
         let answer = read_file(&mut self.disk, alloc, path.as_str());
         self.counted(answer)
@@ -72,8 +72,8 @@ impl<R: Files + Alloc + Clone + Drop> Store for FolderStore<R> {
     fn write(&mut self, path: &Text, bytes: &[u8]) -> Result<(), StoreError>
         ensures asked { FileWritten (encode_utf8_all path.now) bytes.now result
             (store_asked self.old) (store_asked self.new) }
-        ensures cause { StoreCause (store_faults self.old) (store_faults self.new) result }
-        ensures once { StoreFailsOnce (store_faults self.old) (store_faults self.new) result }
+        ensures cause { Counted is_failed (store_faults self.old) (store_faults self.new) result }
+        ensures once { CountedOnce is_failed (store_faults self.old) (store_faults self.new) result }
     {
         let answer = write_file(&mut self.disk, path.as_str(), bytes);
         self.counted(answer)
@@ -82,8 +82,8 @@ impl<R: Files + Alloc + Clone + Drop> Store for FolderStore<R> {
     fn append(&mut self, path: &Text, bytes: &[u8]) -> Result<(), StoreError>
         ensures asked { FileAppended (encode_utf8_all path.now) bytes.now result
             (store_asked self.old) (store_asked self.new) }
-        ensures cause { StoreCause (store_faults self.old) (store_faults self.new) result }
-        ensures once { StoreFailsOnce (store_faults self.old) (store_faults self.new) result }
+        ensures cause { Counted is_failed (store_faults self.old) (store_faults self.new) result }
+        ensures once { CountedOnce is_failed (store_faults self.old) (store_faults self.new) result }
     {
         let answer = append_file(&mut self.disk, path.as_str(), bytes);
         self.counted(answer)
@@ -92,8 +92,8 @@ impl<R: Files + Alloc + Clone + Drop> Store for FolderStore<R> {
     fn remove(&mut self, path: &Text) -> Result<bool, StoreError>
         ensures asked { FileRemoved (encode_utf8_all path.now) result (store_asked self.old)
             (store_asked self.new) }
-        ensures cause { StoreCause (store_faults self.old) (store_faults self.new) result }
-        ensures once { StoreFailsOnce (store_faults self.old) (store_faults self.new) result }
+        ensures cause { Counted is_failed (store_faults self.old) (store_faults self.new) result }
+        ensures once { CountedOnce is_failed (store_faults self.old) (store_faults self.new) result }
     {
         let answer = remove_file(&mut self.disk, path.as_str());
         self.counted(answer)
@@ -102,8 +102,8 @@ impl<R: Files + Alloc + Clone + Drop> Store for FolderStore<R> {
     fn list(&mut self, alloc: Global, folder: &Text) -> Result<Names, StoreError>
         ensures asked { FolderListed (encode_utf8_all folder.now) result (store_asked self.old)
             (store_asked self.new) }
-        ensures cause { StoreCause (store_faults self.old) (store_faults self.new) result }
-        ensures once { StoreFailsOnce (store_faults self.old) (store_faults self.new) result }
+        ensures cause { Counted is_failed (store_faults self.old) (store_faults self.new) result }
+        ensures once { CountedOnce is_failed (store_faults self.old) (store_faults self.new) result }
     {
         let answer = list_folder(&mut self.disk, alloc, folder.as_str(), MAX_NAMES);
         self.counted(answer)

@@ -2,7 +2,7 @@
 ghost use Rattle.std.specs.Prelude.{◌≡◌, ◌<◌, ◌↔◌, ◌++◌, [], List, ℕ, Some, false, length, take, IfOk, OnOk, OnErr, IsTrue, IsSome, is_err, option_map};
 ghost use Rattle.std.specs.FinMap.{empty, insert, remove, get, len};
 ghost use Rattle.std.specs.Io.{ReadsAtMost, WritesAtMost};
-ghost use Rattle.snap_outside.specs.Causes.{HasCause, StoreCause, FailsOnce, StoreFailsOnce};
+ghost use Rattle.snap_outside.specs.Causes.{Counted, CountedOnce, is_failed, is_fault};
 ghost use Rattle.snap_outside.specs.Files.{Files, SameBut, MayBeGone, appended};
 ghost use Rattle.snap_outside.specs.Held.{files_in, left_in, piece_of, count_given, written_in, store_calls, source_calls, sink_calls};
 ghost use Rattle.snap_outside.specs.Listed.{AreNames};
@@ -86,9 +86,9 @@ impl Store for MemoryStore {
     fn read(&mut self, alloc: Global, path: &Text) -> Result<Option<Blob>, StoreError>
         ensures found { IfOk result (λ found. found ≡ get (files_in self.old) path.now) }
         ensures same { files_in self.new ≡ files_in self.old }
-        ensures cause { StoreCause (faults_so_far (store_calls self.old))
+        ensures cause { Counted is_failed (faults_so_far (store_calls self.old))
             (faults_so_far (store_calls self.new)) result }
-        ensures once { StoreFailsOnce (faults_so_far (store_calls self.old))
+        ensures once { CountedOnce is_failed (faults_so_far (store_calls self.old))
             (faults_so_far (store_calls self.new)) result }
         ensures listed { FailsAsListed (fails_next (store_calls self.old)) result }
         ensures counts { Counts (store_calls self.old) (store_calls self.new) }
@@ -108,9 +108,9 @@ impl Store for MemoryStore {
         ensures kept { OnErr result (files_in self.new ≡ files_in self.old) }
         ensures unknown { OnErr result ((m : Files) → Some (files_in self.old) ≡ Some m
             → SameBut path.now m (Some (files_in self.new))) }
-        ensures cause { StoreCause (faults_so_far (store_calls self.old))
+        ensures cause { Counted is_failed (faults_so_far (store_calls self.old))
             (faults_so_far (store_calls self.new)) result }
-        ensures once { StoreFailsOnce (faults_so_far (store_calls self.old))
+        ensures once { CountedOnce is_failed (faults_so_far (store_calls self.old))
             (faults_so_far (store_calls self.new)) result }
         ensures listed { FailsAsListed (fails_next (store_calls self.old)) result }
         ensures counts { Counts (store_calls self.old) (store_calls self.new) }
@@ -130,9 +130,9 @@ impl Store for MemoryStore {
         ensures kept { OnErr result (files_in self.new ≡ files_in self.old) }
         ensures unknown { OnErr result ((m : Files) → Some (files_in self.old) ≡ Some m
             → SameBut path.now m (Some (files_in self.new))) }
-        ensures cause { StoreCause (faults_so_far (store_calls self.old))
+        ensures cause { Counted is_failed (faults_so_far (store_calls self.old))
             (faults_so_far (store_calls self.new)) result }
-        ensures once { StoreFailsOnce (faults_so_far (store_calls self.old))
+        ensures once { CountedOnce is_failed (faults_so_far (store_calls self.old))
             (faults_so_far (store_calls self.new)) result }
         ensures listed { FailsAsListed (fails_next (store_calls self.old)) result }
         ensures counts { Counts (store_calls self.old) (store_calls self.new) }
@@ -153,9 +153,9 @@ impl Store for MemoryStore {
         ensures kept { OnErr result (files_in self.new ≡ files_in self.old) }
         ensures stopped { OnErr result ((m : Files) → Some (files_in self.old) ≡ Some m
             → MayBeGone path.now m (Some (files_in self.new))) }
-        ensures cause { StoreCause (faults_so_far (store_calls self.old))
+        ensures cause { Counted is_failed (faults_so_far (store_calls self.old))
             (faults_so_far (store_calls self.new)) result }
-        ensures once { StoreFailsOnce (faults_so_far (store_calls self.old))
+        ensures once { CountedOnce is_failed (faults_so_far (store_calls self.old))
             (faults_so_far (store_calls self.new)) result }
         ensures listed { FailsAsListed (fails_next (store_calls self.old)) result }
         ensures counts { Counts (store_calls self.old) (store_calls self.new) }
@@ -171,9 +171,9 @@ impl Store for MemoryStore {
     fn list(&mut self, alloc: Global, folder: &Text) -> Result<Names, StoreError>
         ensures names { IfOk result (λ names. AreNames (files_in self.old) folder.now names) }
         ensures same { files_in self.new ≡ files_in self.old }
-        ensures cause { StoreCause (faults_so_far (store_calls self.old))
+        ensures cause { Counted is_failed (faults_so_far (store_calls self.old))
             (faults_so_far (store_calls self.new)) result }
-        ensures once { StoreFailsOnce (faults_so_far (store_calls self.old))
+        ensures once { CountedOnce is_failed (faults_so_far (store_calls self.old))
             (faults_so_far (store_calls self.new)) result }
         ensures listed { FailsAsListed (fails_next (store_calls self.old)) result }
         ensures counts { Counts (store_calls self.old) (store_calls self.new) }
@@ -232,9 +232,9 @@ impl Source for MemorySource {
         ensures end { IfOk result (λ count. count ≡ 0 → 0 < length buffer.new → (xs : List ℕ)
             → Some (left_in self.old) ≡ Some xs → xs ≡ []) }
         ensures kept { OnErr result (left_in self.new ≡ left_in self.old) }
-        ensures cause { HasCause (faults_so_far (source_calls self.old))
+        ensures cause { Counted is_fault (faults_so_far (source_calls self.old))
             (faults_so_far (source_calls self.new)) result }
-        ensures once { FailsOnce (faults_so_far (source_calls self.old))
+        ensures once { CountedOnce is_fault (faults_so_far (source_calls self.old))
             (faults_so_far (source_calls self.new)) result }
         ensures listed { IsTrue (is_err result) ↔ IsTrue (fails_next (source_calls self.old)) }
         ensures counts { Counts (source_calls self.old) (source_calls self.new) }
@@ -292,9 +292,9 @@ impl Sink for MemorySink {
         ensures bytes { IfOk result (λ count. written_in self.new
             ≡ written_in self.old ++ take count bytes.now) }
         ensures kept { OnErr result (written_in self.new ≡ written_in self.old) }
-        ensures cause { HasCause (faults_so_far (sink_calls self.old))
+        ensures cause { Counted is_fault (faults_so_far (sink_calls self.old))
             (faults_so_far (sink_calls self.new)) result }
-        ensures once { FailsOnce (faults_so_far (sink_calls self.old))
+        ensures once { CountedOnce is_fault (faults_so_far (sink_calls self.old))
             (faults_so_far (sink_calls self.new)) result }
         ensures listed { IfOk result (λ _. fails_next (sink_calls self.old) ≡ false) }
         ensures counts { Counts (sink_calls self.old) (sink_calls self.new) }

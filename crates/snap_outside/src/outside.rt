@@ -3,7 +3,7 @@
 ghost use Rattle.std.specs.Prelude.{◌≡◌, ◌<◌, ◌↔◌, ◌++◌, [], List, ℕ, Option, Some, length, take, IfOk, OnOk, OnErr, IsTrue, IsSome};
 ghost use Rattle.std.specs.FinMap.{get, insert, remove};
 ghost use Rattle.std.specs.Io.{ReadsAtMost, WritesAtMost};
-ghost use Rattle.snap_outside.specs.Causes.{HasCause, StoreCause};
+ghost use Rattle.snap_outside.specs.Causes.{Counted, is_failed, is_fault};
 ghost use Rattle.snap_outside.specs.Files.{Files, SameBut, MayBeGone, appended};
 ghost use Rattle.snap_outside.specs.Listed.{AreNames};
 ghost use Rattle.snap_outside.specs.Streams.{GivesFront};
@@ -89,7 +89,7 @@ pub trait Source {
         ensures end { IfOk result (λ count. count ≡ 0 → 0 < length buffer.new → (xs : List ℕ)
             → left self.old ≡ Some xs → xs ≡ []) }
         ensures kept { OnErr result (left self.new ≡ left self.old) }
-        ensures cause { HasCause (faults self.old) (faults self.new) result };
+        ensures cause { Counted is_fault (faults self.old) (faults self.new) result };
 }
 
 /// Where bytes go. The caller writes what is left of its bytes until all were taken.
@@ -108,7 +108,7 @@ pub trait Sink {
         ensures bytes { IfOk result (λ count. (w : List ℕ) → written self.old ≡ Some w
             → written self.new ≡ Some (w ++ take count bytes.now)) }
         ensures kept { OnErr result (written self.new ≡ written self.old) }
-        ensures cause { HasCause (faults self.old) (faults self.new) result };
+        ensures cause { Counted is_fault (faults self.old) (faults self.new) result };
 }
 
 /// Files by their paths. Paths are texts, and two texts name two files.
@@ -126,7 +126,7 @@ pub trait Store {
         ensures found { IfOk result (λ found. (m : Files) → files self.old ≡ Some m
             → found ≡ get m path.now) }
         ensures same { files self.new ≡ files self.old }
-        ensures cause { StoreCause (faults self.old) (faults self.new) result };
+        ensures cause { Counted is_failed (faults self.old) (faults self.new) result };
 
     /// Makes these the bytes of the file; missing folders are made.
     fn write(&mut self, path: &Text, bytes: &[u8]) -> Result<(), StoreError>
@@ -134,7 +134,7 @@ pub trait Store {
             → files self.new ≡ Some (insert m path.now bytes.now)) }
         ensures unknown { OnErr result ((m : Files) → files self.old ≡ Some m
             → SameBut path.now m (files self.new)) }
-        ensures cause { StoreCause (faults self.old) (faults self.new) result };
+        ensures cause { Counted is_failed (faults self.old) (faults self.new) result };
 
     /// Adds these bytes behind those of the file, or makes them a file where there is none; missing folders are made.
     fn append(&mut self, path: &Text, bytes: &[u8]) -> Result<(), StoreError>
@@ -142,7 +142,7 @@ pub trait Store {
             → files self.new ≡ Some (appended m path.now bytes.now)) }
         ensures unknown { OnErr result ((m : Files) → files self.old ≡ Some m
             → SameBut path.now m (files self.new)) }
-        ensures cause { StoreCause (faults self.old) (faults self.new) result };
+        ensures cause { Counted is_failed (faults self.old) (faults self.new) result };
 
     /// Takes the file away. Whether it was there.
     fn remove(&mut self, path: &Text) -> Result<bool, StoreError>
@@ -152,12 +152,12 @@ pub trait Store {
             → files self.new ≡ Some (remove m path.now)) }
         ensures stopped { OnErr result ((m : Files) → files self.old ≡ Some m
             → MayBeGone path.now m (files self.new)) }
-        ensures cause { StoreCause (faults self.old) (faults self.new) result };
+        ensures cause { Counted is_failed (faults self.old) (faults self.new) result };
 
     /// The names of the files in a folder; none for a missing folder.
     fn list(&mut self, alloc: Global, folder: &Text) -> Result<Names, StoreError>
         ensures names { IfOk result (λ names. (m : Files) → files self.old ≡ Some m
             → AreNames m folder.now names) }
         ensures same { files self.new ≡ files self.old }
-        ensures cause { StoreCause (faults self.old) (faults self.new) result };
+        ensures cause { Counted is_failed (faults self.old) (faults self.new) result };
 }

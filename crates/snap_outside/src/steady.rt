@@ -2,7 +2,7 @@
 ghost use Rattle.std.specs.Prelude.{◌≡◌, ◌<◌, ◌++◌, [], List, ℕ, Some, length, take, IfOk, OnOk, OnErr, option_map};
 ghost use Rattle.std.specs.FinMap.{empty, insert, get, len};
 ghost use Rattle.std.specs.Io.{ReadsAtMost, WritesAtMost};
-ghost use Rattle.snap_outside.specs.Causes.{HasCause, FailsOnce};
+ghost use Rattle.snap_outside.specs.Causes.{Counted, CountedOnce, is_fault};
 ghost use Rattle.snap_outside.specs.Held.{steady_files, steady_left, steady_piece, count_given, steady_written, steady_faults};
 
 use crate::files::MemoryFiles;
@@ -126,7 +126,7 @@ impl Source for SteadySource {
         ensures end { IfOk result (λ count. count ≡ 0 → 0 < length buffer.new → (xs : List ℕ)
             → Some (steady_left self.old) ≡ Some xs → xs ≡ []) }
         ensures kept { OnErr result (steady_left self.new ≡ steady_left self.old) }
-        ensures cause { HasCause 0 0 result }
+        ensures cause { Counted is_fault 0 0 result }
     {
         Ok(self.pieces.take(self.piece.max(1), buffer))
     }
@@ -168,8 +168,8 @@ impl Sink for SteadySink {
         ensures bytes { IfOk result (λ count. steady_written self.new
             ≡ steady_written self.old ++ take count bytes.now) }
         ensures kept { OnErr result (steady_written self.new ≡ steady_written self.old) }
-        ensures cause { HasCause (steady_faults self.old) (steady_faults self.new) result }
-        ensures once { FailsOnce (steady_faults self.old) (steady_faults self.new) result }
+        ensures cause { Counted is_fault (steady_faults self.old) (steady_faults self.new) result }
+        ensures once { CountedOnce is_fault (steady_faults self.old) (steady_faults self.new) result }
     {
         if self.bytes.extend_from_slice(bytes).is_err() {
             self.faults = self.faults.saturating_add(1);

@@ -4,7 +4,7 @@ ghost use Rattle.std.specs.Io.{ReadsAtMost, WritesAtMost};
 ghost use Rattle.std.specs.Io.KnownBytes.{ReadConsumes, Appends, Keeps};
 ghost use Rattle.snap_outside.specs.Adapters.{source_faults, sink_faults, reader_of, writer_of, sink_asked};
 ghost use Rattle.snap_outside.specs.Calls.{flushes, put_call, done_or_failed, SinkWritten};
-ghost use Rattle.snap_outside.specs.Causes.{HasCause, FailsOnce, Rose, one_more};
+ghost use Rattle.snap_outside.specs.Causes.{Counted, CountedOnce, Rose, is_fault, one_more};
 
 use crate::call::{Answer, Asked};
 use crate::outside::{Fault, Sink, Source};
@@ -35,8 +35,8 @@ impl<R: Read + Drop> Source for StreamSource<R> {
         ensures bound { ReadsAtMost result buffer.new }
         ensures given { ReadConsumes (R.Read.remaining (reader_of self.old))
             (R.Read.remaining (reader_of self.new)) result buffer.new }
-        ensures cause { HasCause (source_faults self.old) (source_faults self.new) result }
-        ensures once { FailsOnce (source_faults self.old) (source_faults self.new) result }
+        ensures cause { Counted is_fault (source_faults self.old) (source_faults self.new) result }
+        ensures once { CountedOnce is_fault (source_faults self.old) (source_faults self.new) result }
     {
         match self.reader.read(buffer) {
             Ok(count) => Ok(count),
@@ -140,8 +140,8 @@ impl<W: Write + Drop> Sink for StreamSink<W> {
             Appends (W.Write.contents (writer_of self.old)) (W.Write.contents (writer_of self.new))
             (take count bytes.now)) }
         ensures asked { SinkWritten bytes.now result (sink_asked self.old) (sink_asked self.new) }
-        ensures cause { HasCause (sink_faults self.old) (sink_faults self.new) result }
-        ensures once { FailsOnce (sink_faults self.old) (sink_faults self.new) result }
+        ensures cause { Counted is_fault (sink_faults self.old) (sink_faults self.new) result }
+        ensures once { CountedOnce is_fault (sink_faults self.old) (sink_faults self.new) result }
     {
         let count = match self.put(bytes) {
             Ok(0) if !bytes.is_empty() => return Err(self.fault()),

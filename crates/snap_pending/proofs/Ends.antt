@@ -1,6 +1,7 @@
 -- The ends of saving, exit by exit.
 use Rattle.snap_pending.proofs.Prelude.{◌≡◌, ℕ, Bool, false, List, Option, Some, Result, Ok, Err, refl, ap, sym, ◌∙◌, subst, OnOk, OnErr, IsErrOf, encodes-chars, encode_utf8_all, IsUtf8, chars, Error, FailedParsingYaml, UnexpectedDataType, MissingField, FileIo, FloatText, JsonKey, NotText, NoFile, OutOfMemory, Files, SameBut, appended, SaveEnd, SavingEnd, SavingRefused, PrintRefused, same_but, nothing_written}
-use Rattle.snap_store.specs.Causes.{ErrorCause}
+use Rattle.snap_outside.specs.Causes.{CountedIf}
+use Rattle.snap_store.specs.Causes.{is_file_fault}
 
 -- what was printed was written, or failed
 pub saved : {T : Type 0} → (path : List ℕ) (refused : Bool) (result : Result T Error) → refused ≡ false → SaveEnd path result → SavingEnd path refused result
@@ -27,7 +28,7 @@ unprinted path refused (FloatText named) end = absurd end
 unprinted path refused (NotText named) end = absurd end
 unprinted path refused (NoFile named) end = absurd end
 
-pub print_fault : (refused : Bool) (error : Error) (count : ℕ) → PrintRefused refused error → ErrorCause count count error
+pub print_fault : (refused : Bool) (error : Error) (count : ℕ) → PrintRefused refused error → CountedIf (is_file_fault error) count count
 print_fault refused JsonKey count end = refl
 print_fault refused OutOfMemory count end = refl
 print_fault refused (FileIo named) count end = absurd end

@@ -1,7 +1,8 @@
 //! Reading the records of a file.
 ghost use Rattle.std.specs.Prelude.{◌≡◌, ℕ, List, Option};
 ghost use Rattle.std.specs.Str.{chars};
-ghost use Rattle.snap_store.specs.Causes.{FileCause};
+ghost use Rattle.snap_outside.specs.Causes.{Counted};
+ghost use Rattle.snap_store.specs.Causes.{is_file_fault};
 ghost use Rattle.snap_store.specs.Reading.{IsTextFile};
 ghost use Rattle.snap_str.specs.Lines.{lines};
 ghost use Rattle.snap_pending.specs.Loaded.{LoadEnd, LinesEnd, IsLoadedFrom};
@@ -21,7 +22,7 @@ impl PendingInlineSnapshot {
     pub fn load_batch<S: Store>(alloc: Global, store: &mut S, path: &Text) -> Result<Batch, Error>
         ensures end { IsLoadedFrom path.now (S.files store.old) result }
         ensures same { S.files store.new ≡ S.files store.old }
-        ensures cause { FileCause (S.faults store.old) (S.faults store.new) result }
+        ensures cause { Counted is_file_fault (S.faults store.old) (S.faults store.new) result }
     {
         let named = path.try_clone(alloc)?;
         match store.read(alloc, path) {
@@ -35,7 +36,7 @@ impl PendingInlineSnapshot {
 /// The records that the bytes of a file are, or why there are none.
 fn batch_of_file(alloc: Global, file: Option<Blob>, path: Text) -> Result<Batch, Error>
     ensures end { LoadEnd path file result }
-    ensures no_fault { (count : ℕ) → FileCause count count result }
+    ensures no_fault { (count : ℕ) → Counted is_file_fault count count result }
 {
     let Some(bytes) = file else {
         return Err(Error::NoFile(path));
@@ -49,7 +50,7 @@ fn batch_of_file(alloc: Global, file: Option<Blob>, path: Text) -> Result<Batch,
 fn batch_of_text(alloc: Global, text: &str, path: &Text) -> Result<Batch, Error>
     ensures end { (file : Option (List ℕ)) → IsTextFile file (chars text.now)
         → LoadEnd path.now file result }
-    ensures no_fault { (count : ℕ) → FileCause count count result }
+    ensures no_fault { (count : ℕ) → Counted is_file_fault count count result }
 {
     let mut records = match read_lines(alloc, text, path) {
         Ok(records) => records,

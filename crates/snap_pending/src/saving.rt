@@ -4,7 +4,8 @@ ghost use Rattle.std.specs.FinMap.{remove};
 ghost use Rattle.std.specs.List.{list_any};
 ghost use Rattle.snap_content.specs.declared.error.Error.TheVariants.{JsonKey};
 ghost use Rattle.snap_outside.specs.Files.{Files, SameBut, appended};
-ghost use Rattle.snap_store.specs.Causes.{FileCause};
+ghost use Rattle.snap_outside.specs.Causes.{Counted};
+ghost use Rattle.snap_store.specs.Causes.{is_file_fault};
 ghost use Rattle.snap_store.specs.Reading.{SaveEnd};
 ghost use Rattle.snap_pending.specs.Pending.{pending_of};
 ghost use Rattle.snap_pending.specs.Record.{is_refused, record_line};
@@ -27,7 +28,7 @@ impl PendingInlineSnapshot {
         ensures same { IsErrOf result JsonKey → S.files store.new ≡ S.files store.old }
         ensures unknown { OnErr result ((m : Files) → S.files store.old ≡ Some m
             → SameBut path.now m (S.files store.new)) }
-        ensures cause { FileCause (S.faults store.old) (S.faults store.new) result }
+        ensures cause { Counted is_file_fault (S.faults store.old) (S.faults store.new) result }
     {
         match line_text(alloc, self) {
             Ok(line) => append_line(alloc, store, path, &line),
@@ -51,7 +52,7 @@ impl PendingInlineSnapshot {
         ensures same { IsErrOf result JsonKey → S.files store.new ≡ S.files store.old }
         ensures unknown { OnErr result ((m : Files) → S.files store.old ≡ Some m
             → SameBut path.now m (S.files store.new)) }
-        ensures cause { FileCause (S.faults store.old) (S.faults store.new) result }
+        ensures cause { Counted is_file_fault (S.faults store.old) (S.faults store.new) result }
     {
         match line_texts(alloc, batch) {
             Ok(lines) => write_lines(alloc, store, path, lines.as_slice()),
@@ -97,7 +98,7 @@ fn write_lines<S: Store>(
     ensures unknown { OnErr result ((m : Files) → S.files store.old ≡ Some m
         → SameBut path.now m (S.files store.new)) }
     ensures error { SaveEnd path.now result }
-    ensures cause { FileCause (S.faults store.old) (S.faults store.new) result }
+    ensures cause { Counted is_file_fault (S.faults store.old) (S.faults store.new) result }
 {
     remove_file(alloc, store, path)?;
     for line in lines {
@@ -113,7 +114,7 @@ fn remove_file<S: Store>(alloc: Global, store: &mut S, path: &Text) -> Result<()
     ensures unknown { OnErr result ((m : Files) → S.files store.old ≡ Some m
         → SameBut path.now m (S.files store.new)) }
     ensures error { SaveEnd path.now result }
-    ensures cause { FileCause (S.faults store.old) (S.faults store.new) result }
+    ensures cause { Counted is_file_fault (S.faults store.old) (S.faults store.new) result }
 {
     let named = path.try_clone(alloc)?;
     match store.remove(path) {
@@ -135,7 +136,7 @@ fn append_line<S: Store>(
     ensures unknown { OnErr result ((m : Files) → S.files store.old ≡ Some m
         → SameBut path.now m (S.files store.new)) }
     ensures error { SaveEnd path.now result }
-    ensures cause { FileCause (S.faults store.old) (S.faults store.new) result }
+    ensures cause { Counted is_file_fault (S.faults store.old) (S.faults store.new) result }
 {
     let named = path.try_clone(alloc)?;
     match store.append(path, line.as_str().as_bytes()) {

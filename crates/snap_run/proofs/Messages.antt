@@ -1,7 +1,8 @@
 -- What standard error is told.
-use Rattle.snap_run.proofs.Prelude.{◌≡◌, ◌⊎◌, inl, inr, ◌≤◌, ◌<◌, ◌+◌, ◌-◌, ◌^◌, min, ℕ, List, [], ◌∷◌, ◌++◌, length, take, Option, Some, Result, Ok, Err, OnOk, OnErr, refl, sym, ◌∙◌, ap, subst, arith, encode_utf8_all, take_all, HasCause, Rose, HoldsFront, IsSteady, Status, message, IsSaid}
+use Rattle.snap_run.proofs.Prelude.{◌≡◌, ◌⊎◌, inl, inr, ◌≤◌, ◌<◌, ◌+◌, ◌-◌, ◌^◌, min, ℕ, List, [], ◌∷◌, ◌++◌, length, take, Option, Some, Result, Ok, Err, OnOk, OnErr, refl, sym, ◌∙◌, ap, subst, arith, encode_utf8_all, take_all, Counted, is_fault, Rose, HoldsFront, IsSteady, Status, message, IsSaid}
 use Rattle.snap_run.specs.Describe.{code_of, description}
 use Rattle.snap_run.specs.declared.status.Status.TheVariants as status
+use Rattle.snap_outside.specs.declared.outside.Fault.{Fault}
 
 pub message_is : (end : Status) → 2 ≤ code_of end → message end ≡ encode_utf8_all (description end ++ 10 ∷ [])
 message_is status.AllPassed h = absurd (omega arith)
@@ -18,9 +19,9 @@ message_is status.InputTooLong h = refl
 steady_or_rose : (before now : ℕ) → IsSteady before now → Rose before now → ⊥
 steady_or_rose before now steady rose = omega (arith, steady.same, steady.below_last, rose.rose)
 
-pub said : {E : Type 0} → (end : Status) (bytes : List ℕ) (result : Result (Unit {0}) E) (before now : ℕ) (written written' : Option (List ℕ)) → bytes ≡ message end
+pub said : (end : Status) (bytes : List ℕ) (result : Result (Unit {0}) Fault) (before now : ℕ) (written written' : Option (List ℕ)) → bytes ≡ message end
     → OnOk result ((w : List ℕ) → written ≡ Some w → written' ≡ Some (w ++ bytes)) → OnErr result ((w : List ℕ) → written ≡ Some w → HoldsFront bytes w written')
-    → HasCause before now result → IsSaid end before now written written'
+    → Counted is_fault before now result → IsSaid end before now written written'
 said end bytes (Ok done) before now written written' is all part cause = record {
   front = λ w told. record {
     count = length (message end);

@@ -7,7 +7,7 @@ pub use Rattle.snap_assert.proofs.Keeping.{step_keeps, gone_after}
 pub use Rattle.snap_assert.specs.Kept.{KeptBy, IsOwn, FaultIsOwn, Keeps, IsKeptOrGone, is_written, may_change}
 pub use Rattle.snap_assert.specs.Steps.{asked_path, verdict_of, is_failure}
 pub use Rattle.snap_assert.specs.declared.outcome.Outcome.{Outcome}
-pub use Rattle.snap_outside.specs.Causes.{Rose, HasCause}
+pub use Rattle.snap_outside.specs.Causes.{Rose, Counted, is_fault}
 pub use Rattle.snap_outside.specs.Files.{Files}
 pub use Rattle.snap_outside.specs.Streams.{HoldsFront}
 pub use Rattle.snap_request.specs.Cut.{documents}

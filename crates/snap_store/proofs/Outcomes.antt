@@ -2,7 +2,8 @@
 use Rattle.snap_store.proofs.Prelude.{◌≡◌, ℕ, Bool, true, false, List, Option, Result, Ok, Err, refl, ap, sym, ◌∙◌, subst, IsErrAnd, document_of, Plain, dict, Entries, content_of, IsWithin, tree, Content, Error, headed_body, body_of, FieldsEnd, HasFields, Meta, meta_of, meta_in, contents_in, legacy_in, number_text_in, SnapshotContents, SnapshotKind}
 use Rattle.snap_content.specs.declared.error.Error.TheVariants.{FailedParsingYaml, UnexpectedDataType, MissingField, FileIo, FloatText, JsonKey, NotText, NoFile, OutOfMemory}
 use Rattle.snap_emit.specs.Parsed.{IsReadFrom}
-use Rattle.snap_store.specs.Causes.{ErrorCause}
+use Rattle.snap_outside.specs.Causes.{CountedIf}
+use Rattle.snap_store.specs.Causes.{is_file_fault}
 use Rattle.snap_store.specs.Reading.{IsTextFile, ReadsHeader, HasUnprintedHeader, HoldsBody, IsRefused, FileEnd, IsReadAs, Tells}
 use Rattle.snap_store.specs.Split.{IsSplit}
 use Rattle.snap_store.specs.declared.metadata.MetaData.{MetaData}
@@ -49,7 +50,7 @@ refused_fields text path file plain (NotText named) there has h = absurd h
 refused_fields text path file plain (NoFile named) there has h = absurd h
 refused_fields text path file plain OutOfMemory there has h = tt
 
-pub fields_no_fault : (plain : Plain) (e : Error) (n : ℕ) → FieldsEnd plain (Err e) → ErrorCause n n e
+pub fields_no_fault : (plain : Plain) (e : Error) (n : ℕ) → FieldsEnd plain (Err e) → CountedIf (is_file_fault e) n n
 fields_no_fault plain (FailedParsingYaml named) n h = absurd h
 fields_no_fault plain UnexpectedDataType n h = refl
 fields_no_fault plain MissingField n h = refl

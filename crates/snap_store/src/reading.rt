@@ -2,7 +2,8 @@
 ghost use Rattle.std.specs.Prelude.{◌≡◌, ℕ, false, List, Option, IfOk};
 ghost use Rattle.snap_store.specs.Named.{HasNames};
 ghost use Rattle.std.specs.Str.{chars};
-ghost use Rattle.snap_store.specs.Causes.{FileCause};
+ghost use Rattle.snap_outside.specs.Causes.{Counted};
+ghost use Rattle.snap_store.specs.Causes.{is_file_fault};
 ghost use Rattle.snap_store.specs.FileSplit.{is_headed};
 ghost use Rattle.snap_store.specs.Reading.{IsTextFile, HoldsBody, FileEnd, IsReadAs, IsReadFrom};
 ghost use Rattle.snap_store.specs.Split.{IsSplit};
@@ -26,7 +27,7 @@ impl Snapshot {
         ensures end { IsReadFrom path.now (S.files store.old) result }
         ensures names { IfOk result (λ snapshot. HasNames path.now snapshot) }
         ensures same { S.files store.new ≡ S.files store.old }
-        ensures cause { FileCause (S.faults store.old) (S.faults store.new) result }
+        ensures cause { Counted is_file_fault (S.faults store.old) (S.faults store.new) result }
     {
         let named = path.try_clone(alloc)?;
         match store.read(alloc, path) {
@@ -41,7 +42,7 @@ impl Snapshot {
 fn snapshot_of_file(alloc: Global, file: Option<Blob>, path: Text) -> Result<Snapshot, Error>
     ensures end { FileEnd path file result }
     ensures names { IfOk result (λ snapshot. HasNames path snapshot) }
-    ensures no_fault { (count : ℕ) → FileCause count count result }
+    ensures no_fault { (count : ℕ) → Counted is_file_fault count count result }
 {
     let Some(bytes) = file else {
         return Err(Error::NoFile(path));
@@ -56,7 +57,7 @@ fn snapshot_of_text(alloc: Global, text: &str, path: Text) -> Result<Snapshot, E
     ensures end { (file : Option (List ℕ)) → IsTextFile file (chars text.now)
         → FileEnd path file result }
     ensures names { IfOk result (λ snapshot. HasNames path snapshot) }
-    ensures no_fault { (count : ℕ) → FileCause count count result }
+    ensures no_fault { (count : ℕ) → Counted is_file_fault count count result }
 {
     match split_file(alloc, text)? {
         Some(headed) => headed_snapshot(alloc, headed, path),
@@ -69,7 +70,7 @@ fn headed_snapshot(alloc: Global, headed: Headed, path: Text) -> Result<Snapshot
     ensures end { (file : Option (List ℕ)) → (text : List ℕ) → IsTextFile file text
         → IsSplit headed text → FileEnd path file result }
     ensures names { IfOk result (λ snapshot. HasNames path snapshot) }
-    ensures no_fault { (count : ℕ) → FileCause count count result }
+    ensures no_fault { (count : ℕ) → Counted is_file_fault count count result }
 {
     let Headed { header, body } = headed;
     let header = match parse_header(alloc, header.as_str(), &path) {

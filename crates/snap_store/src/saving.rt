@@ -2,7 +2,8 @@
 ghost use Rattle.std.specs.Prelude.{◌≡◌, List, ℕ, Some, IsSome, IfOk, OnOk, OnErr, encode_utf8_all};
 ghost use Rattle.std.specs.FinMap.{insert};
 ghost use Rattle.snap_outside.specs.Files.{Files, SameBut};
-ghost use Rattle.snap_store.specs.Causes.{FileCause};
+ghost use Rattle.snap_outside.specs.Causes.{Counted};
+ghost use Rattle.snap_store.specs.Causes.{is_file_fault};
 ghost use Rattle.snap_store.specs.Image.{text_under, saved_text, pending_path};
 ghost use Rattle.snap_store.specs.Reading.{SaveEnd};
 ghost use Rattle.snap_store.specs.Meta.{Meta, header_tree};
@@ -30,7 +31,7 @@ impl Snapshot {
         ensures unknown { OnErr result ((m : Files) → S.files store.old ≡ Some m
             → SameBut path.now m (S.files store.new)) }
         ensures error { SaveEnd path.now result }
-        ensures cause { FileCause (S.faults store.old) (S.faults store.new) result }
+        ensures cause { Counted is_file_fault (S.faults store.old) (S.faults store.new) result }
     {
         let text = file_text(alloc, self, None)?;
         write_text(alloc, store, path, &text)
@@ -53,7 +54,7 @@ impl Snapshot {
         ensures unknown { OnErr result ((m : Files) → S.files store.old ≡ Some m
             → SameBut (pending_path path.now) m (S.files store.new)) }
         ensures error { SaveEnd (pending_path path.now) result }
-        ensures cause { FileCause (S.faults store.old) (S.faults store.new) result }
+        ensures cause { Counted is_file_fault (S.faults store.old) (S.faults store.new) result }
     {
         let pending = pending_text(alloc, path)?;
         let text = file_text(alloc, self, self.metadata().assertion_line())?;
@@ -78,7 +79,7 @@ fn write_text<S: Store>(alloc: Global, store: &mut S, path: &Text, text: &Text) 
     ensures unknown { OnErr result ((m : Files) → S.files store.old ≡ Some m
         → SameBut path.now m (S.files store.new)) }
     ensures error { SaveEnd path.now result }
-    ensures cause { FileCause (S.faults store.old) (S.faults store.new) result }
+    ensures cause { Counted is_file_fault (S.faults store.old) (S.faults store.new) result }
 {
     let named = path.try_clone(alloc)?;
     match store.write(path, text.as_str().as_bytes()) {

@@ -1,6 +1,5 @@
 -- Reading a whole input.
-use Rattle.std.specs.Prelude.{◌≡◌, ◌≤◌, ℕ, List, ◌++◌, length, Option, Some, Result, Ok, Err}
-use Rattle.snap_outside.specs.Causes.{Rose}
+use Rattle.std.specs.Prelude.{◌≡◌, ◌≤◌, ℕ, List, ◌++◌, length, Bool, true, false, Option, Some}
 use Rattle.snap_outside.specs.Streams.{GivesFront}
 use Rattle.snap_stream.specs.declared.streams.ReadError.{ReadError}
 use Rattle.snap_stream.specs.declared.streams.ReadError.TheVariants.{Fault, TooLong, OutOfMemory}
@@ -9,12 +8,11 @@ use Rattle.snap_stream.specs.declared.streams.ReadError.TheVariants.{Fault, TooL
 abbrev pub input_limit : ℕ
 input_limit = 67108864
 
--- a read fault comes only where the source's count rose, and any other answer leaves it
-abbrev pub ReadCause : {T : Type 0} → ℕ → ℕ → Result T ReadError → Type 0
-ReadCause before now (Ok v) = now ≡ before
-ReadCause before now (Err Fault) = Rose before now
-ReadCause before now (Err TooLong) = now ≡ before
-ReadCause before now (Err OutOfMemory) = now ≡ before
+-- whether an input was not read since its source failed
+abbrev pub is_read_fault : ReadError → Bool
+is_read_fault Fault = true
+is_read_fault TooLong = false
+is_read_fault OutOfMemory = false
 
 -- so many bytes were taken off the front of what was left, and added
 pub record TakesPiece (count : ℕ) (bytes bytes' : List ℕ) (left left' : Option (List ℕ)) : Type 0 where

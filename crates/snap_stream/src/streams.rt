@@ -1,8 +1,8 @@
 //! Whole inputs and whole lines, over a source and a sink.
 ghost use Rattle.std.specs.Prelude.{◌≡◌, ◌<◌, ◌≤◌, ◌+◌, ◌++◌, [], List, ℕ, Some, length, take, IfOk, OnOk, OnErr, IsErrOf};
-ghost use Rattle.snap_outside.specs.Causes.{HasCause};
+ghost use Rattle.snap_outside.specs.Causes.{Counted, is_fault};
 ghost use Rattle.snap_outside.specs.Streams.{HoldsFront};
-ghost use Rattle.snap_stream.specs.Streams.{ReadCause, TakesPiece, TakesAtMost, TakesExactly, input_limit};
+ghost use Rattle.snap_stream.specs.Streams.{is_read_fault, TakesPiece, TakesAtMost, TakesExactly, input_limit};
 
 use snap_outside::{Fault, Sink, Source};
 use std::alloc::Global;
@@ -34,7 +34,7 @@ fn read_piece<S: Source>(
     ensures taken { TakesAtMost (length buffer.old) (S.left source.old) (S.left source.new) }
     ensures kept { IsErrOf result ReadError.Fault → S.left source.new ≡ S.left source.old }
     ensures not_long { IsErrOf result ReadError.TooLong → ⊥ }
-    ensures cause { ReadCause (S.faults source.old) (S.faults source.new) result }
+    ensures cause { Counted is_read_fault (S.faults source.old) (S.faults source.new) result }
 {
     match source.read(buffer) {
         Ok(count) => {
@@ -61,7 +61,7 @@ pub fn read_all<S: Source>(alloc: Global, source: &mut S) -> Result<Vec<u8>, Rea
         → TakesAtMost input_limit (S.left source.old) (S.left source.new) }
     ensures too_long { IsErrOf result ReadError.TooLong
         → TakesExactly (input_limit + 1) (S.left source.old) (S.left source.new) }
-    ensures cause { ReadCause (S.faults source.old) (S.faults source.new) result }
+    ensures cause { Counted is_read_fault (S.faults source.old) (S.faults source.new) result }
 {
     let mut bytes = Vec::new(alloc);
     let mut buffer = [0u8; PIECE];
@@ -85,7 +85,7 @@ pub fn write_all<K: Sink>(sink: &mut K, bytes: &[u8]) -> Result<(), Fault>
         → K.written sink.new ≡ Some (w ++ bytes.now)) }
     ensures part { OnErr result ((w : List ℕ) → K.written sink.old ≡ Some w
         → HoldsFront bytes.now w (K.written sink.new)) }
-    ensures cause { HasCause (K.faults sink.old) (K.faults sink.new) result }
+    ensures cause { Counted is_fault (K.faults sink.old) (K.faults sink.new) result }
 {
     let mut done = 0;
     while done < bytes.len() {
