@@ -1,5 +1,5 @@
 //! Assertions under the name `one`.
-use crate::columns::add_column;
+use row_lines::add_text_column;
 use snap_assert::{
     AssertError, BadPlace, Config, Outcome, Place, Session, Settings, Update, assert_content,
 };
@@ -68,8 +68,8 @@ fn add_file(
     path: &Text,
 ) -> Result<(), OutOfMemory> {
     match store.get(path) {
-        None => add_column(alloc, line, "! no file"),
-        Some(bytes) => add_column(alloc, line, str::from_utf8(bytes).unwrap_or("! no text")),
+        None => add_text_column(alloc, line, "! no file"),
+        Some(bytes) => add_text_column(alloc, line, str::from_utf8(bytes).unwrap_or("! no text")),
     }
 }
 

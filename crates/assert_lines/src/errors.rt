@@ -1,6 +1,5 @@
 //! What is written of errors.
-use crate::columns::cut;
-use row_lines::text_of;
+use row_lines::{first_column, text_of};
 use snap_assert::{AssertError, DuplicateKey};
 use snap_content::{OutOfMemory, Text};
 use snap_store::SnapshotContents;
@@ -21,7 +20,7 @@ fn plain_error(name: &str) -> AssertError {
 
 /// The error of two binary snapshots of this module and this name.
 fn duplicate(alloc: Global, columns: &str) -> Result<AssertError, OutOfMemory> {
-    let (module, name) = cut(columns);
+    let (module, name) = first_column(columns);
     let module = text_of(alloc, module)?;
     let name = text_of(alloc, name)?;
     Ok(AssertError::DuplicateDiffers {
@@ -42,7 +41,7 @@ fn error_named(alloc: Global, name: &str, rest: &str) -> Result<AssertError, Out
 
 /// What is written of an error.
 pub fn error_line(alloc: Global, columns: &str) -> Result<Text, anyhow::Error> {
-    let (name, rest) = cut(columns);
+    let (name, rest) = first_column(columns);
     let error = error_named(alloc, name, rest)?;
     let written = format!(in alloc; "{error}")?;
     Ok(Text::from_str(alloc, written.as_str())?)

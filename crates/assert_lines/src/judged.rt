@@ -1,7 +1,6 @@
 //! What a stored file is taken for.
 use crate::asserted::{outcome_of, pair_tree, place_in};
-use crate::columns::add_column;
-use row_lines::text_of;
+use row_lines::{add_text_column, text_of};
 use snap_assert::{Outcome, Settings, Update, Verdict, Warning};
 use snap_content::{OutOfMemory, Text};
 use snap_outside::SteadyStore;
@@ -35,7 +34,7 @@ fn outcome_line(alloc: Global, outcome: &Outcome) -> Result<Text, OutOfMemory> {
     let mut line = Text::from_str(alloc, verdict_name(outcome.verdict))?;
     for index in 0..outcome.warnings.len() {
         if let Some(warning) = outcome.warnings.get(index) {
-            add_column(alloc, &mut line, warning_name(warning))?;
+            add_text_column(alloc, &mut line, warning_name(warning))?;
         }
     }
     Ok(line)

@@ -1,8 +1,8 @@
 //! Lists of one redaction.
 //!
 //! Each function that asks for a redaction makes it: a function may not make one and hand it out.
-use crate::columns::{add_column, add_taken, cut};
-use row_lines::text_of;
+use crate::columns::add_taken;
+use row_lines::{add_text_column, first_column, text_of};
 use snap_assert::Redactions;
 use snap_content::{Content, OutOfMemory, Text};
 use snap_emit::yaml;
@@ -29,14 +29,14 @@ fn applied(alloc: Global, redactions: &Redactions) -> Result<Text, anyhow::Error
 
 /// What a list of one redaction makes of 42.
 pub fn list_line(alloc: Global, columns: &str) -> Result<Text, anyhow::Error> {
-    let (selector, text) = cut(columns);
+    let (selector, text) = first_column(columns);
     let put = Content::String(text_of(alloc, text)?);
     let list = list_of(alloc, selector, Redaction::from_content(put))?;
     let mut line = Text::empty();
     match Redactions::from_list(alloc, list) {
         Ok(redactions) => {
             let made = applied(alloc, &redactions)?;
-            add_column(alloc, &mut line, made.as_str())?;
+            add_text_column(alloc, &mut line, made.as_str())?;
         }
         Err(error) => add_taken(alloc, &mut line, Err(error))?,
     }

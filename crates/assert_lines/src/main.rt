@@ -26,7 +26,6 @@ mod places;
 mod settings;
 mod stored;
 
-use crate::columns::cut;
 use crate::errors::error_line;
 use crate::judged::judged_line;
 use crate::lists::list_line;
@@ -34,7 +33,7 @@ use crate::news::new_settings_line;
 use crate::places::{path_line, place_line};
 use crate::settings::settings_line;
 use crate::stored::{depth_line, function_line, object_line};
-use row_lines::answer_lines;
+use row_lines::{answer_rows, first_column};
 use snap_content::Text;
 use std::alloc::Global;
 
@@ -57,13 +56,10 @@ fn answer_case(alloc: Global, call: &str, columns: &str) -> Result<Text, anyhow:
 
 /// The line that answers a line.
 fn answer(alloc: Global, line: &str) -> Result<Text, anyhow::Error> {
-    if line.starts_with("# ") {
-        return Ok(Text::from_str(alloc, line)?);
-    }
-    let (call, columns) = cut(line);
+    let (call, columns) = first_column(line);
     answer_case(alloc, call, columns)
 }
 
 fn main(rt: HostRuntime) -> Result<(), anyhow::Error> {
-    answer_lines(rt.alloc(), rt.stdin(), rt.stdout(), answer)
+    answer_rows(rt.alloc(), rt.stdin(), rt.stdout(), answer)
 }

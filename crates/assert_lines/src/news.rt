@@ -1,5 +1,5 @@
 //! What new settings say.
-use crate::columns::add_column;
+use row_lines::add_text_column;
 use snap_assert::Settings;
 use snap_content::{OutOfMemory, Text};
 use std::alloc::Global;
@@ -7,7 +7,7 @@ use std::alloc::Global;
 /// Adds a column with a truth behind its name.
 fn add_truth(alloc: Global, line: &mut Text, name: &str, holds: bool) -> Result<(), OutOfMemory> {
     let told = format!(in alloc; "{name} {holds}")?;
-    add_column(alloc, line, told.as_str())
+    add_text_column(alloc, line, told.as_str())
 }
 
 /// Adds a column with a text, if there is one, behind its name.
@@ -19,7 +19,7 @@ fn add_text(
 ) -> Result<(), OutOfMemory> {
     let text = text.unwrap_or("none");
     let told = format!(in alloc; "{name} {text}")?;
-    add_column(alloc, line, told.as_str())
+    add_text_column(alloc, line, told.as_str())
 }
 
 /// Adds what settings say of maps, modules, expressions and infos.

@@ -1,7 +1,6 @@
 //! Where an assertion stands.
 use crate::asserted::{outcome_of, place_in};
-use crate::columns::add_column;
-use row_lines::text_of;
+use row_lines::{add_text_column, text_of};
 use snap_assert::{Settings, Update};
 use snap_content::{Content, Text};
 use snap_outside::SteadyStore;
@@ -32,6 +31,6 @@ pub fn path_line(alloc: Global, column: &str) -> Result<Text, anyhow::Error> {
         &place,
         Content::U8(1),
     )?;
-    add_column(alloc, &mut line, outcome.path.as_str())?;
+    add_text_column(alloc, &mut line, outcome.path.as_str())?;
     Ok(line)
 }

@@ -1,6 +1,7 @@
 //! Redactions by stored functions and by an object of one's own.
 use crate::asserted::add_saved;
-use crate::columns::{add_taken, cut};
+use crate::columns::add_taken;
+use row_lines::first_column;
 use snap_assert::Settings;
 use snap_content::{Content, OutOfMemory, Text};
 use snap_select::{ContentPath, FnRedactor, PathItem, Redaction, Redactor};
@@ -60,7 +61,7 @@ pub fn depth_line(alloc: Global, selector: &str) -> Result<Text, anyhow::Error> 
 
 /// An object that puts its number in place of each value.
 pub fn object_line(alloc: Global, columns: &str) -> Result<Text, anyhow::Error> {
-    let (selector, digits) = cut(columns);
+    let (selector, digits) = first_column(columns);
     let number = digits.parse::<u8>().unwrap_or(0);
     let mut settings = Settings::new(alloc)?;
     let object = Redaction::Dynamic(Box::new(alloc, Numbered(number))?);

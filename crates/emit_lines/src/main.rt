@@ -18,7 +18,7 @@ mod refusals;
 
 use crate::headers::header_line;
 use crate::prints::{read_line, tree_line};
-use row_lines::{answer_lines, text_of};
+use row_lines::{answer_rows, first_column, text_of};
 use snap_content::{OutOfMemory, Text};
 use snap_emit::need_quotes;
 use std::alloc::Global;
@@ -41,7 +41,7 @@ fn quotes_line(alloc: Global, text: &str) -> Result<Text, OutOfMemory> {
 
 /// The answer to a call on a line.
 fn called(alloc: Global, line: &str) -> Result<Text, OutOfMemory> {
-    let (call, given) = line.split_once('\t').unwrap_or((line, ""));
+    let (call, given) = first_column(line);
     if call == "tree" {
         return tree_line(alloc, given);
     }
@@ -51,12 +51,9 @@ fn called(alloc: Global, line: &str) -> Result<Text, OutOfMemory> {
 
 /// The line that answers a line.
 fn answer(alloc: Global, line: &str) -> Result<Text, anyhow::Error> {
-    if line.starts_with("# ") {
-        return Ok(Text::from_str(alloc, line)?);
-    }
     Ok(called(alloc, line)?)
 }
 
 fn main(rt: HostRuntime) -> Result<(), anyhow::Error> {
-    answer_lines(rt.alloc(), rt.stdin(), rt.stdout(), answer)
+    answer_rows(rt.alloc(), rt.stdin(), rt.stdout(), answer)
 }

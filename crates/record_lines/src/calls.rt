@@ -7,9 +7,9 @@
 use crate::records::{saved, saved_again};
 use crate::steps::taken;
 use crate::stored::store_line;
+use row_lines::first_column;
 use snap_content::{OutOfMemory, Text};
 use snap_outside::MemoryStore;
-use snapshot_lines::first_column;
 use std::alloc::Global;
 
 /// The answer to a row.

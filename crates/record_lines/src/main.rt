@@ -11,18 +11,15 @@ mod steps;
 mod stored;
 
 use crate::calls::called;
-use row_lines::answer_lines;
+use row_lines::answer_rows;
 use snap_content::Text;
 use std::alloc::Global;
 
 /// The line that answers a line.
 fn answer(alloc: Global, line: &str) -> Result<Text, anyhow::Error> {
-    if line.starts_with("# ") {
-        return Ok(Text::from_str(alloc, line)?);
-    }
     Ok(called(alloc, line)?)
 }
 
 fn main(rt: HostRuntime) -> Result<(), anyhow::Error> {
-    answer_lines(rt.alloc(), rt.stdin(), rt.stdout(), answer)
+    answer_rows(rt.alloc(), rt.stdin(), rt.stdout(), answer)
 }

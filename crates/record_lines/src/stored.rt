@@ -1,9 +1,8 @@
 //! What a call has come to.
-use row_lines::add_escaped;
+use row_lines::add_file;
 use snap_content::{Error, OutOfMemory, Text};
 use snap_outside::MemoryStore;
 use std::alloc::Global;
-use std::str;
 
 /// How many faults the store had, how many files it has, and the text of the file; or why the call failed.
 pub fn store_line(
@@ -19,16 +18,6 @@ pub fn store_line(
         Err(error) => add_refusal(alloc, &mut line, &error)?,
     }
     Ok(line)
-}
-
-fn add_file(alloc: Global, line: &mut Text, file: Option<&[u8]>) -> Result<(), OutOfMemory> {
-    let Some(bytes) = file else {
-        return line.push_ascii(alloc, "no file");
-    };
-    match str::from_utf8(bytes) {
-        Ok(text) => add_escaped(alloc, line, text),
-        Err(_) => line.push_ascii(alloc, "no text"),
-    }
 }
 
 /// After want of memory there is no line.

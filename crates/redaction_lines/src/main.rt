@@ -12,7 +12,7 @@ mod redactions;
 mod replacements;
 
 use crate::redactions::redacted;
-use row_lines::{add_escaped, answer_lines};
+use row_lines::{add_escaped, answer_rows, first_column, refusal_line};
 use snap_content::{Content, Text};
 use snap_json::to_string;
 use std::alloc::Global;
@@ -36,24 +36,15 @@ fn add_laid_out(
 
 /// The answer to a case.
 fn case_line(alloc: Global, case: &str) -> Result<Text, anyhow::Error> {
-    let (layout, columns) = case.split_once('\t').unwrap_or((case, ""));
+    let (layout, columns) = first_column(case);
     let tree = redacted(alloc, columns)?;
     let mut line = Text::empty();
     add_laid_out(alloc, &mut line, layout, &tree)?;
     Ok(line)
 }
 
-/// The line that says why a case has no answer.
-fn refusal_line(alloc: Global, error: &anyhow::Error) -> Result<Text, anyhow::Error> {
-    let line = format!(in alloc; "! {error}")?;
-    Ok(Text::from_str(alloc, line.as_str())?)
-}
-
 /// The line that answers a line.
 fn answer(alloc: Global, line: &str) -> Result<Text, anyhow::Error> {
-    if line.starts_with("# ") {
-        return Ok(Text::from_str(alloc, line)?);
-    }
     match case_line(alloc, line) {
         Ok(told) => Ok(told),
         Err(error) => refusal_line(alloc, &error),
@@ -61,5 +52,5 @@ fn answer(alloc: Global, line: &str) -> Result<Text, anyhow::Error> {
 }
 
 fn main(rt: HostRuntime) -> Result<(), anyhow::Error> {
-    answer_lines(rt.alloc(), rt.stdin(), rt.stdout(), answer)
+    answer_rows(rt.alloc(), rt.stdin(), rt.stdout(), answer)
 }

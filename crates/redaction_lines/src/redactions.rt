@@ -1,6 +1,6 @@
 //! Redactions of the tree of a case.
 use crate::replacements::put;
-use row_lines::text_of;
+use row_lines::{first_column, text_of};
 use snap_content::Content;
 use snap_select::Selector;
 use std::alloc::Global;
@@ -8,7 +8,7 @@ use tree_lines::tree_of_column;
 
 /// The tree of the first column, behind the redactions of the others, which stand two by two.
 pub fn redacted(alloc: Global, columns: &str) -> Result<Content, anyhow::Error> {
-    let (first, others) = columns.split_once('\t').unwrap_or((columns, ""));
+    let (first, others) = first_column(columns);
     let mut tree = tree_of_column(alloc, first)?;
     let mut selector = None;
     for column in others.split('\t') {

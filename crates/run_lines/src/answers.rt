@@ -1,5 +1,6 @@
 //! What a run leaves, as columns.
-use crate::columns::{add_bytes, add_column, add_number};
+use crate::columns::{add_bytes, add_number};
+use row_lines::add_text_column;
 use snap_content::Text;
 use snap_outside::Store;
 use snap_run::Status;
@@ -17,7 +18,7 @@ pub fn add_ending(
 ) -> Result<(), anyhow::Error> {
     add_number(alloc, line, "status", u64::from(status.code()))?;
     let said = status.describe(alloc)?;
-    add_column(alloc, line, said.as_str())?;
+    add_text_column(alloc, line, said.as_str())?;
     add_bytes(alloc, line, written)?;
     Ok(())
 }
@@ -44,11 +45,11 @@ fn add_file<F: Store>(
     store: &mut F,
     path: &str,
 ) -> Result<(), anyhow::Error> {
-    add_column(alloc, line, path)?;
+    add_text_column(alloc, line, path)?;
     let path = Text::from_str(alloc, path)?;
     match store.read(alloc, &path)? {
         Some(bytes) => add_bytes(alloc, line, bytes.as_slice())?,
-        None => add_column(alloc, line, "! no file")?,
+        None => add_text_column(alloc, line, "! no file")?,
     }
     Ok(())
 }

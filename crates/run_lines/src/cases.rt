@@ -1,6 +1,5 @@
 //! What a line says of a run.
-use crate::columns::cut;
-use row_lines::text_of;
+use row_lines::{first_column, text_of};
 use snap_content::{Blob, OutOfMemory, Text};
 use std::alloc::Global;
 
@@ -30,9 +29,9 @@ pub struct Case<'a> {
 
 /// The case that stands in these columns.
 pub fn case_of(columns: &str) -> Case<'_> {
-    let (words, rest) = cut(columns);
-    let (outside, rest) = cut(rest);
-    let (input, files) = cut(rest);
+    let (words, rest) = first_column(columns);
+    let (outside, rest) = first_column(rest);
+    let (input, files) = first_column(rest);
     Case {
         words,
         outside: outside_of(outside),

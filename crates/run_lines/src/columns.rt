@@ -1,27 +1,14 @@
 //! The columns of a line.
-use row_lines::add_escaped;
+use row_lines::add_text_column;
 use snap_content::{OutOfMemory, Text};
 use std::alloc::Global;
 use std::str;
 
-/// The first column, and those behind it.
-pub fn cut(columns: &str) -> (&str, &str) {
-    columns.split_once('\t').unwrap_or((columns, ""))
-}
-
-/// Adds a column with this text, behind a tab where it is not the first.
-pub fn add_column(alloc: Global, line: &mut Text, text: &str) -> Result<(), OutOfMemory> {
-    if !line.as_str().is_empty() {
-        line.push_ascii(alloc, "\t")?;
-    }
-    add_escaped(alloc, line, text)
-}
-
 /// Adds a column with the text of these bytes.
 pub fn add_bytes(alloc: Global, line: &mut Text, bytes: &[u8]) -> Result<(), OutOfMemory> {
     match str::from_utf8(bytes) {
-        Ok(text) => add_column(alloc, line, text),
-        Err(_) => add_column(alloc, line, "! no text"),
+        Ok(text) => add_text_column(alloc, line, text),
+        Err(_) => add_text_column(alloc, line, "! no text"),
     }
 }
 
@@ -33,5 +20,5 @@ pub fn add_number(
     number: u64,
 ) -> Result<(), OutOfMemory> {
     let told = format!(in alloc; "{word} {number}")?;
-    add_column(alloc, line, told.as_str())
+    add_text_column(alloc, line, told.as_str())
 }

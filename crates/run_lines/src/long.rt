@@ -3,7 +3,8 @@ ghost use Rattle.std.specs.Prelude.{None};
 
 use crate::answers::add_ending;
 use crate::cases::words_of;
-use crate::columns::{add_number, cut};
+use crate::columns::add_number;
+use row_lines::first_column;
 use snap_content::Text;
 use snap_outside::{Fault, MemorySink, MemoryStore, Source};
 use snap_run::run;
@@ -30,7 +31,7 @@ impl Source for LineEnds {
 
 /// How a run over so many line ends ends, how many files there are then, and how many line ends were not read.
 pub fn long_line(alloc: Global, columns: &str) -> Result<Text, anyhow::Error> {
-    let (words, digits) = cut(columns);
+    let (words, digits) = first_column(columns);
     let words = words_of(alloc, words)?;
     let mut source = LineEnds {
         left: digits.parse().unwrap_or(0),

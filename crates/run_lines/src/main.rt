@@ -25,14 +25,13 @@ mod statuses;
 mod steady;
 mod usage;
 
-use crate::columns::cut;
 use crate::faulty::run_line;
 use crate::long::long_line;
 use crate::requests::request_line;
 use crate::statuses::status_line;
 use crate::steady::steady_line;
 use crate::usage::{usage_length_line, usage_line};
-use row_lines::answer_lines;
+use row_lines::{answer_rows, first_column};
 use snap_content::Text;
 use std::alloc::Global;
 
@@ -52,13 +51,10 @@ fn answer_case(alloc: Global, call: &str, columns: &str) -> Result<Text, anyhow:
 
 /// The line that answers a line.
 fn answer(alloc: Global, line: &str) -> Result<Text, anyhow::Error> {
-    if line.starts_with("# ") {
-        return Ok(Text::from_str(alloc, line)?);
-    }
-    let (call, columns) = cut(line);
+    let (call, columns) = first_column(line);
     answer_case(alloc, call, columns)
 }
 
 fn main(rt: HostRuntime) -> Result<(), anyhow::Error> {
-    answer_lines(rt.alloc(), rt.stdin(), rt.stdout(), answer)
+    answer_rows(rt.alloc(), rt.stdin(), rt.stdout(), answer)
 }

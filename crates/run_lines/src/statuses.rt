@@ -1,6 +1,6 @@
 //! The text of each status.
-use crate::columns::{add_column, add_number, cut};
-use row_lines::text_of;
+use crate::columns::add_number;
+use row_lines::{add_text_column, first_column, text_of};
 use snap_content::{OutOfMemory, Text};
 use snap_run::{RefusalKind, Status};
 use std::alloc::Global;
@@ -51,12 +51,12 @@ fn status_named(
 
 /// The exit status of a status, and what it says.
 pub fn status_line(alloc: Global, columns: &str) -> Result<Text, anyhow::Error> {
-    let (name, rest) = cut(columns);
-    let (document, rest) = cut(rest);
+    let (name, rest) = first_column(columns);
+    let (document, rest) = first_column(rest);
     let status = status_named(alloc, name, document.parse().unwrap_or(0), rest)?;
     let mut line = Text::empty();
     add_number(alloc, &mut line, "status", u64::from(status.code()))?;
     let said = status.describe(alloc)?;
-    add_column(alloc, &mut line, said.as_str())?;
+    add_text_column(alloc, &mut line, said.as_str())?;
     Ok(line)
 }

@@ -1,7 +1,7 @@
 //! What is asked of selectors and paths.
 use crate::error::AskError;
 use crate::paths::{path_of, step_of};
-use row_lines::{add_escaped, text_of};
+use row_lines::{add_escaped, first_column, text_of};
 use snap_content::{OutOfMemory, Text};
 use snap_select::{ContentPath, PathItem, SelectError, Selector, SelectorParseError};
 use std::alloc::Global;
@@ -25,11 +25,6 @@ fn yes_or_no(alloc: Global, answer: bool) -> Result<Text, OutOfMemory> {
     } else {
         Text::from_ascii(alloc, "no")
     }
-}
-
-/// The first column, and those behind it.
-fn first_column(columns: &str) -> (&str, &str) {
-    columns.split_once('\t').unwrap_or((columns, ""))
 }
 
 /// Whether the column is a selector, or its fault.

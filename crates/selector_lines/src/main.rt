@@ -17,22 +17,13 @@ mod error;
 mod paths;
 
 use crate::asked::answered;
-use row_lines::answer_lines;
+use row_lines::{answer_rows, first_column, refusal_line};
 use snap_content::Text;
 use std::alloc::Global;
 
-/// The line that says why a case has no answer.
-fn refusal_line(alloc: Global, error: &anyhow::Error) -> Result<Text, anyhow::Error> {
-    let line = format!(in alloc; "! {error}")?;
-    Ok(Text::from_str(alloc, line.as_str())?)
-}
-
 /// The line that answers a line.
 fn answer(alloc: Global, line: &str) -> Result<Text, anyhow::Error> {
-    if line.starts_with("# ") {
-        return Ok(Text::from_str(alloc, line)?);
-    }
-    let (name, columns) = line.split_once('\t').unwrap_or((line, ""));
+    let (name, columns) = first_column(line);
     match answered(alloc, name, columns) {
         Ok(told) => Ok(told),
         Err(error) => refusal_line(alloc, &error),
@@ -40,5 +31,5 @@ fn answer(alloc: Global, line: &str) -> Result<Text, anyhow::Error> {
 }
 
 fn main(rt: HostRuntime) -> Result<(), anyhow::Error> {
-    answer_lines(rt.alloc(), rt.stdin(), rt.stdout(), answer)
+    answer_rows(rt.alloc(), rt.stdin(), rt.stdout(), answer)
 }

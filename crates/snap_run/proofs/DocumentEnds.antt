@@ -1,5 +1,5 @@
 -- What one document leaves.
-use Rattle.snap_run.proofs.Prelude.{◌≡◌, ◌⊎◌, ◌&&◌, not, inl, inr, ℕ, List, [], ◌∷◌, ◌++◌, map, Option, Some, refl, sym, ap, ◌∙◌, subst, Result, Ok, Err, encode_utf8_all, append-nil, empty, get, Rose, Files, HoldsFront, asked_path, verdict_of, is_failure, RequestView, ReadsAs, RunWords, place_by, settings_by, printed_by, asked_by, assertion_by, line_text, line_of, KeptBy, IsOwn, FaultIsOwn, words_of, Ran, AssertionStops, StopsAt, IsInWork, MemoryFails, LineFails, IsDocumentAnswered, StoreCount, Update, DocumentError, Outcome, Runner, step_keeps}
+use Rattle.snap_run.proofs.Prelude.{◌≡◌, ◌⊎◌, ◌&&◌, not, inl, inr, ℕ, List, [], ◌∷◌, ◌++◌, map, Option, Some, refl, sym, ap, ◌∙◌, subst, Result, Ok, Err, encode_utf8_all, append-nil, empty, get, Rose, Files, HoldsFront, asked_path, verdict_of, is_failure, RequestView, ReadsAs, RunWords, place_by, settings_by, printed_by, asked_by, assertion_by, line_text, line_of, KeptBy, IsOwn, FaultIsOwn, words_of, Ran, AssertionStops, StopsAt, IsInWork, MemoryFails, LineFails, IsDocumentAnswered, CountedIf, is_store_fault, Update, DocumentError, Outcome, Runner, step_keeps}
 use Rattle.snap_content.specs.Tree.{Tree}
 use Rattle.snap_select.specs.Put.{Objects}
 use Rattle.snap_select.specs.declared.replacement.Replacement.{Replacement}
@@ -145,11 +145,11 @@ refused_stops runner document r at f g before now refused error cause own file m
         (record { work = work; own = subst (λ p. IsOwn runner.config.update p h.named) is h.own })
     ends (inr h) = subst (λ e. AssertionStops (words_of runner) e document f g) (sym h.is) (inr work)
 
-pub refused_count : (T : Type 0) (before now : ℕ) (mode : Update) (path : List ℕ) (refused : AssertError) (error : DocumentError)
+pub refused_count : (before now : ℕ) (mode : Update) (path : List ℕ) (refused : AssertError) (error : DocumentError)
     → ErrorCause before now refused → FaultIsOwn mode path refused
-    → ((path : List ℕ) → refused ≡ refusal.FileIo path → error ≡ FileIo path) → (refused ≡ refusal.OutOfMemory → error ≡ OutOfMemory) → StoreCount {T = T} before now (Err error)
-refused_count T before now mode path refused error cause own file memory = ends (refused_by before now mode path refused error cause own file memory)
+    → ((path : List ℕ) → refused ≡ refusal.FileIo path → error ≡ FileIo path) → (refused ≡ refusal.OutOfMemory → error ≡ OutOfMemory) → CountedIf (is_store_fault error) before now
+refused_count before now mode path refused error cause own file memory = ends (refused_by before now mode path refused error cause own file memory)
   where
-    ends : IsFault before now mode path error ⊎ IsWant before now error → StoreCount {T = T} before now (Err error)
-    ends (inl h) = subst (λ e. StoreCount {T = T} before now (Err e)) (sym h.is) h.rose
-    ends (inr h) = subst (λ e. StoreCount {T = T} before now (Err e)) (sym h.is) h.same
+    ends : IsFault before now mode path error ⊎ IsWant before now error → CountedIf (is_store_fault error) before now
+    ends (inl h) = subst (λ e. CountedIf (is_store_fault e) before now) (sym h.is) h.rose
+    ends (inr h) = subst (λ e. CountedIf (is_store_fault e) before now) (sym h.is) h.same

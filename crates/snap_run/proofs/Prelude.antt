@@ -7,7 +7,7 @@ pub use Rattle.snap_assert.proofs.Keeping.{step_keeps, gone_after}
 pub use Rattle.snap_assert.specs.Kept.{KeptBy, IsOwn, FaultIsOwn, Keeps, IsKeptOrGone, is_written, may_change}
 pub use Rattle.snap_assert.specs.Steps.{asked_path, verdict_of, is_failure}
 pub use Rattle.snap_assert.specs.declared.outcome.Outcome.{Outcome}
-pub use Rattle.snap_outside.specs.Causes.{Rose, Counted, is_fault}
+pub use Rattle.snap_outside.specs.Causes.{Rose, Counted, CountedIf, is_fault}
 pub use Rattle.snap_outside.specs.Files.{Files}
 pub use Rattle.snap_outside.specs.Streams.{HoldsFront}
 pub use Rattle.snap_request.specs.Cut.{documents}
@@ -17,8 +17,8 @@ pub use Rattle.snap_run.specs.Answers.{RunWords, place_by, settings_by, printed_
 pub use Rattle.snap_run.specs.Arguments.{arguments_in, words_given, arguments_of}
 pub use Rattle.snap_run.specs.Program.{message, IsSaid, IsRunOf}
 pub use Rattle.snap_run.specs.Runner.{words_of}
-pub use Rattle.snap_run.specs.Runs.{StopsAt, Ran, AssertionStops, IsInWork, MemoryFails, LineFails, IsDocumentAnswered, StoreCount, Stops, RanOne}
-pub use Rattle.snap_run.specs.Status.{RunsTo, AreSpelled, IsSteady, EndsWell, RunCause, Ended, RunsBy, RunsFrom, LengthCause, SourceCause, SinkCause, StoreCause}
+pub use Rattle.snap_run.specs.Runs.{StopsAt, Ran, AssertionStops, IsInWork, MemoryFails, LineFails, IsDocumentAnswered, is_store_fault, Stops, RanOne}
+pub use Rattle.snap_run.specs.Status.{RunsTo, AreSpelled, IsSteady, EndsWell, RunCause, Ended, RunsBy, RunsFrom, LengthCause, says_read_fault, says_write_fault, says_file_fault}
 pub use Rattle.snap_run.specs.StatusOf.{status_at, status_of}
 pub use Rattle.snap_run.specs.declared.documents.DocumentError.{DocumentError}
 pub use Rattle.snap_run.specs.declared.documents.Stop.{Stop}

@@ -1,5 +1,5 @@
 -- What the program's run comes to.
-use Rattle.snap_run.proofs.Prelude.{◌≡◌, ◌≤◌, ◌+◌, ℕ, Bool, true, false, List, Option, None, Some, refl, sym, ap, ◌∙◌, subst, inl, inr, length, arith, Files, RunWords, words_mean, documents, words_of, Stops, RunCause, Ended, RunsTo, RunsBy, RunsFrom, LengthCause, SourceCause, SinkCause, StoreCause, AreSpelled, IsSteady, EndsWell, status_at, status_of, DocumentError, Stop, Runner, Status, AllPassed, SomeFailed, BadWords, ReadFault, OutOfMemory, InputTooLong}
+use Rattle.snap_run.proofs.Prelude.{◌≡◌, ◌≤◌, ◌+◌, ℕ, Bool, true, false, List, Option, None, Some, refl, sym, ap, ◌∙◌, subst, inl, inr, length, arith, Files, RunWords, words_mean, documents, words_of, Stops, RunCause, Ended, RunsTo, RunsBy, RunsFrom, LengthCause, CountedIf, says_read_fault, says_write_fault, says_file_fault, AreSpelled, IsSteady, EndsWell, status_at, status_of, DocumentError, Stop, Runner, Status, AllPassed, SomeFailed, BadWords, ReadFault, OutOfMemory, InputTooLong}
 use Rattle.snap_stream.specs.Streams.{TakesExactly}
 use Rattle.snap_run.specs.declared.documents.DocumentError.TheVariants as error
 use Rattle.snap_run.proofs.Statuses.{before_all}
@@ -71,7 +71,7 @@ stopped status words runner stop said bytes left f g w v status_is is same told 
 
 -- without faults, a run over documents that spell requests ends well
 pub complete : (status : Status) (words : List (List ℕ)) (limit : ℕ) (left left' : Option (List ℕ)) (sb sn kb kn fb fn : ℕ) (f g : Option Files) (w v : Option (List ℕ))
-    → RunCause words status → RunsFrom status (words_mean words) left f g w v → LengthCause limit left left' status → SourceCause sb sn status → SinkCause kb kn status → StoreCause fb fn status
+    → RunCause words status → RunsFrom status (words_mean words) left f g w v → LengthCause limit left left' status → CountedIf (says_read_fault status) sb sn → CountedIf (says_write_fault status) kb kn → CountedIf (says_file_fault status) fb fn
     → (input : List ℕ) (said : RunWords) → left ≡ Some input → words_mean words ≡ Some said → AreSpelled (documents input) → length input ≤ limit
     → IsSteady sb sn → IsSteady kb kn → IsSteady fb fn → EndsWell status
 complete status words limit left left' sb sn kb kn fb fn f g w v by_words run by_length by_source by_sink by_store input said told is spelled within source sink store =
@@ -79,7 +79,7 @@ complete status words limit left left' sb sn kb kn fb fn f g w v by_words run by
     let To : Option RunWords → Type 0 = λ o. RunsBy status o (documents run.input) f g w v in
     ends_well status said (documents run.input) f g w v spelled_run (subst To is run.runs)
     (λ e. let none : words_mean words ≡ None = subst (RunCause words) e by_words in let clash = sym none ∙ is in cc clash)
-    (λ n p e. not_rose fb fn store (subst (StoreCause fb fn) e by_store))
-    (λ e. not_rose sb sn source (subst (SourceCause sb sn) e by_source))
-    (λ e. not_rose kb kn sink (subst (SinkCause kb kn) e by_sink))
+    (λ n p e. not_rose fb fn store (subst (λ s. CountedIf (says_file_fault s) fb fn) e by_store))
+    (λ e. not_rose sb sn source (subst (λ s. CountedIf (says_read_fault s) sb sn) e by_source))
+    (λ e. not_rose kb kn sink (subst (λ s. CountedIf (says_write_fault s) kb kn) e by_sink))
     (λ e. let long : TakesExactly (limit + 1) left left' = subst (LengthCause limit left left') e by_length in absurd (omega (arith, exactly_long (limit + 1) left left' input long told, within)))

@@ -1,6 +1,5 @@
 -- What a run over many documents leaves, and where it stops.
-use Rattle.std.specs.Prelude.{◌≡◌, ◌⊎◌, ℕ, ◌+◌, List, ◌∷◌, ◌++◌, [], Bool, length, Option, Some, Result, Ok, Err}
-use Rattle.snap_outside.specs.Causes.{Rose}
+use Rattle.std.specs.Prelude.{◌≡◌, ◌⊎◌, ℕ, ◌+◌, List, ◌∷◌, ◌++◌, [], Bool, true, false, length, Option, Some}
 use Rattle.snap_outside.specs.Files.{Files}
 use Rattle.snap_outside.specs.Streams.{HoldsFront}
 use Rattle.snap_request.specs.Requests.{RequestView, Spells, ReadsAs, Reads}
@@ -86,25 +85,22 @@ pub record Stops (words : RunWords) (documents : List (List ℕ)) (stop : Stop) 
   pub ran : Ran words done answers files between written sent
   pub stops : StopsAt words stop.error document between files' sent written'
 
--- the store's count rises only at a file fault, and the sink's only at a write fault
-abbrev pub StoreCount : {T : Type 0} → ℕ → ℕ → Result T DocumentError → Type 0
-StoreCount before now (Ok v) = now ≡ before
-StoreCount before now (Err NoRequest) = now ≡ before
-StoreCount before now (Err (FileIo path)) = Rose before now
-StoreCount before now (Err WriteFault) = now ≡ before
-StoreCount before now (Err OutOfMemory) = now ≡ before
+-- whether it is the store that failed
+abbrev pub is_store_fault : DocumentError → Bool
+is_store_fault NoRequest = false
+is_store_fault (FileIo path) = true
+is_store_fault WriteFault = false
+is_store_fault OutOfMemory = false
 
-abbrev pub SinkCount : {T : Type 0} → ℕ → ℕ → Result T DocumentError → Type 0
-SinkCount before now (Ok v) = now ≡ before
-SinkCount before now (Err NoRequest) = now ≡ before
-SinkCount before now (Err (FileIo path)) = now ≡ before
-SinkCount before now (Err WriteFault) = Rose before now
-SinkCount before now (Err OutOfMemory) = now ≡ before
+-- whether it is the sink that failed
+abbrev pub is_sink_fault : DocumentError → Bool
+is_sink_fault NoRequest = false
+is_sink_fault (FileIo path) = false
+is_sink_fault WriteFault = true
+is_sink_fault OutOfMemory = false
 
-abbrev pub StopStoreCount : {T : Type 0} → ℕ → ℕ → Result T Stop → Type 0
-StopStoreCount before now (Ok v) = now ≡ before
-StopStoreCount {T = T} before now (Err stop) = StoreCount {T = T} before now (Err stop.error)
+abbrev pub stops_by_store : Stop → Bool
+stops_by_store stop = is_store_fault stop.error
 
-abbrev pub StopSinkCount : {T : Type 0} → ℕ → ℕ → Result T Stop → Type 0
-StopSinkCount before now (Ok v) = now ≡ before
-StopSinkCount {T = T} before now (Err stop) = SinkCount {T = T} before now (Err stop.error)
+abbrev pub stops_by_sink : Stop → Bool
+stops_by_sink stop = is_sink_fault stop.error

@@ -1,6 +1,5 @@
 -- What a status says of a whole run.
 use Rattle.std.specs.Prelude.{◌≡◌, ◌⊎◌, ◌≤◌, ◌<◌, ◌-◌, ◌+◌, ◌∷◌, ◌++◌, ◌^◌, ℕ, Bool, true, false, List, [], length, Option, None, Some}
-use Rattle.snap_outside.specs.Causes.{Rose}
 use Rattle.snap_outside.specs.Files.{Files}
 use Rattle.snap_outside.specs.Streams.{HoldsFront}
 use Rattle.snap_request.specs.Cut.{documents}
@@ -87,18 +86,20 @@ LengthCause limit left left' WriteFault = IsReadToEnd limit left left'
 LengthCause limit left left' OutOfMemory = Unit {0}
 LengthCause limit left left' InputTooLong = TakesExactly (limit + 1) left left'
 
--- each object's count rises only where the status says its fault, and no other answer passes a fault over
-abbrev pub SourceCause : ℕ → ℕ → Status → Type 0
-SourceCause before now ReadFault = Rose before now
-SourceCause before now _ = now ≡ before
+-- whether it says that the source failed
+abbrev pub says_read_fault : Status → Bool
+says_read_fault ReadFault = true
+says_read_fault _ = false
 
-abbrev pub SinkCause : ℕ → ℕ → Status → Type 0
-SinkCause before now WriteFault = Rose before now
-SinkCause before now _ = now ≡ before
+-- whether it says that the sink failed
+abbrev pub says_write_fault : Status → Bool
+says_write_fault WriteFault = true
+says_write_fault _ = false
 
-abbrev pub StoreCause : ℕ → ℕ → Status → Type 0
-StoreCause before now (FileIo n path) = Rose before now
-StoreCause before now _ = now ≡ before
+-- whether it says that the store failed
+abbrev pub says_file_fault : Status → Bool
+says_file_fault (FileIo n path) = true
+says_file_fault _ = false
 
 -- every document spells a request
 abbrev pub AreSpelled : List (List ℕ) → Type 0

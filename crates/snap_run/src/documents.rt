@@ -1,11 +1,12 @@
 //! One document, and many in turn.
 ghost use Rattle.std.specs.Prelude.{◌≡◌, ◌<◌, ◌≤◌, ◌^◌, List, ℕ, IfOk, IfErr, length, true};
+ghost use Rattle.snap_outside.specs.Causes.{Counted};
 ghost use Rattle.snap_request.specs.Cut.{documents};
 ghost use Rattle.snap_place.specs.Place.{names_file, place_of};
 ghost use Rattle.snap_run.specs.Runner.{IsReady, words_of};
 ghost use Rattle.snap_run.specs.Answers.{line_text, place_at};
 ghost use Rattle.snap_run.specs.Status.{Ended};
-ghost use Rattle.snap_run.specs.Runs.{RanOne, StopsAt, Stops, IsDocumentAnswered, AssertionStops, StoreCount, SinkCount, StopStoreCount, StopSinkCount};
+ghost use Rattle.snap_run.specs.Runs.{RanOne, StopsAt, Stops, IsDocumentAnswered, AssertionStops, is_store_fault, is_sink_fault, stops_by_store, stops_by_sink};
 
 use crate::runner::Runner;
 use snap_assert::engine::assert_content;
@@ -105,7 +106,7 @@ fn assert_document<F: Store>(
     ensures err { IfErr result (λ error.
         AssertionStops (words_of runner.now) error document.now (F.files store.old)
         (F.files store.new)) }
-    ensures store_count { StoreCount (F.faults store.old) (F.faults store.new) result }
+    ensures store_count { Counted is_store_fault (F.faults store.old) (F.faults store.new) result }
 {
     let request = match read_request(alloc, document) {
         Ok(request) => request,
@@ -161,8 +162,8 @@ fn run_document<K: Sink, F: Store>(
         (F.files store.old) (F.files store.new) (K.written sink.old) (K.written sink.new)) }
     ensures err { IfErr result (λ error. StopsAt (words_of runner.now) error document.now
         (F.files store.old) (F.files store.new) (K.written sink.old) (K.written sink.new)) }
-    ensures store_count { StoreCount (F.faults store.old) (F.faults store.new) result }
-    ensures sink_count { SinkCount (K.faults sink.old) (K.faults sink.new) result }
+    ensures store_count { Counted is_store_fault (F.faults store.old) (F.faults store.new) result }
+    ensures sink_count { Counted is_sink_fault (K.faults sink.old) (K.faults sink.new) result }
 {
     let outcome = match assert_document(alloc, runner, session, document, store) {
         Ok(outcome) => outcome,
@@ -192,8 +193,8 @@ pub fn run_documents<K: Sink, F: Store>(
         (F.files store.old) (F.files store.new) (K.written sink.old) (K.written sink.new)) }
     ensures stopped { IfErr result (λ stop. Stops (words_of runner.now) (documents input.now) stop
         (F.files store.old) (F.files store.new) (K.written sink.old) (K.written sink.new)) }
-    ensures store_count { StopStoreCount (F.faults store.old) (F.faults store.new) result }
-    ensures sink_count { StopSinkCount (K.faults sink.old) (K.faults sink.new) result }
+    ensures store_count { Counted stops_by_store (F.faults store.old) (F.faults store.new) result }
+    ensures sink_count { Counted stops_by_sink (K.faults sink.old) (K.faults sink.new) result }
 {
     let mut rest = input;
     let mut document = 0u64;

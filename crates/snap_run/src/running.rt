@@ -1,9 +1,10 @@
 //! All that the program does.
 ghost use Rattle.std.specs.Prelude.{◌≡◌, ◌≤◌, ◌+◌, List, ℕ, None, Some, MatchOption, length, false};
+ghost use Rattle.snap_outside.specs.Causes.{CountedIf};
 ghost use Rattle.snap_request.specs.Cut.{documents};
 ghost use Rattle.snap_run.specs.Answers.{RunWords, words_mean, text_asked};
 ghost use Rattle.snap_run.specs.RunKept.{KeptByRun};
-ghost use Rattle.snap_run.specs.Status.{RunCause, WordsCause, IsTold, RunsFrom, LengthCause, SourceCause, SinkCause, StoreCause, AreSpelled, IsSteady, EndsWell};
+ghost use Rattle.snap_run.specs.Status.{RunCause, WordsCause, IsTold, RunsFrom, LengthCause, says_read_fault, says_write_fault, says_file_fault, AreSpelled, IsSteady, EndsWell};
 ghost use Rattle.snap_run.specs.StatusOf.{status_of};
 ghost use Rattle.snap_stream.specs.Streams.{TakesAtMost, input_limit};
 
@@ -43,9 +44,9 @@ fn run_words<S: Source, K: Sink, F: Store>(
         (F.files store.old) (F.files store.new) (K.written sink.old) (K.written sink.new) }
     ensures length { LengthCause input_limit (S.left source.old) (S.left source.new) result }
     ensures taken { TakesAtMost (input_limit + 1) (S.left source.old) (S.left source.new) }
-    ensures read { SourceCause (S.faults source.old) (S.faults source.new) result }
-    ensures write { SinkCause (K.faults sink.old) (K.faults sink.new) result }
-    ensures file { StoreCause (F.faults store.old) (F.faults store.new) result }
+    ensures read { CountedIf (says_read_fault result) (S.faults source.old) (S.faults source.new) }
+    ensures write { CountedIf (says_write_fault result) (K.faults sink.old) (K.faults sink.new) }
+    ensures file { CountedIf (says_file_fault result) (F.faults store.old) (F.faults store.new) }
 {
     let Some(said) = said_in(words) else {
         return Status::BadWords;
@@ -97,9 +98,9 @@ pub fn run<S: Source, K: Sink, F: Store>(
     ensures length { text_asked words.now ≡ None
         → LengthCause input_limit (S.left source.old) (S.left source.new) result }
     ensures taken { TakesAtMost (input_limit + 1) (S.left source.old) (S.left source.new) }
-    ensures read { SourceCause (S.faults source.old) (S.faults source.new) result }
-    ensures write { SinkCause (K.faults sink.old) (K.faults sink.new) result }
-    ensures file { StoreCause (F.faults store.old) (F.faults store.new) result }
+    ensures read { CountedIf (says_read_fault result) (S.faults source.old) (S.faults source.new) }
+    ensures write { CountedIf (says_write_fault result) (K.faults sink.old) (K.faults sink.new) }
+    ensures file { CountedIf (says_file_fault result) (F.faults store.old) (F.faults store.new) }
     // Without faults, a run over documents that spell requests ends well.
     ensures complete { (input : List ℕ) (said : RunWords) → S.left source.old ≡ Some input
         → words_mean words.now ≡ Some said → AreSpelled (documents input)

@@ -1,7 +1,7 @@
 //! What the program says of itself.
 ghost use Rattle.std.specs.Prelude.{◌≡◌, ◌++◌, List, ℕ, None, Some, MatchOption};
 ghost use Rattle.snap_run.specs.Answers.{text_asked};
-ghost use Rattle.snap_run.specs.Status.{IsTold, SinkCause};
+ghost use Rattle.snap_run.specs.Status.{IsTold, says_write_fault};
 
 use crate::status::Status;
 use snap_content::Text;
@@ -77,7 +77,7 @@ pub fn text_in(words: &[Text]) -> Option<&'static str>
 /// Writes the text, and nothing else.
 pub fn tell<K: Sink>(text: &str, sink: &mut K) -> Status
     ensures told { IsTold text.now result (K.written sink.old) (K.written sink.new) }
-    ensures cause { SinkCause (K.faults sink.old) (K.faults sink.new) result }
+    ensures cause { CountedIf (says_write_fault result) (K.faults sink.old) (K.faults sink.new) }
 {
     match write_all(sink, text.as_bytes()) {
         Ok(()) => Status::AllPassed,

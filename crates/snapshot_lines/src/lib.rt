@@ -9,5 +9,5 @@ pub mod trees;
 
 pub use bytes::bytes_of;
 pub use fields::metadata_of;
-pub use snapshots::{first_column, snapshot_of};
+pub use snapshots::snapshot_of;
 pub use trees::tree_of_word;

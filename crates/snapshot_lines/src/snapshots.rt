@@ -3,16 +3,11 @@ ghost use Rattle.std.specs.Prelude.{IfOk, IsSome};
 ghost use Rattle.snap_store.specs.Views.{contents_in, text_in};
 
 use crate::fields::metadata_of;
-use row_lines::text_of;
+use row_lines::{first_column, text_of};
 use snap_content::{OutOfMemory, Text};
 use snap_store::{Snapshot, SnapshotContents};
 use snap_text::{TextSnapshotContents, TextSnapshotKind};
 use std::alloc::Global;
-
-/// The first column and those behind it.
-pub fn first_column(columns: &str) -> (&str, &str) {
-    columns.split_once('\t').unwrap_or((columns, ""))
-}
 
 /// The snapshot of the first three columns, in a module, and the columns behind them.
 pub fn snapshot_of(

@@ -9,8 +9,8 @@
 //! - `copy_metadata METADATA`, `copy_contents CONTENTS` and `copy_snapshot SNAPSHOT`: what a copy tells.
 //! - `agree CONTENTS CONTENTS`: whether they agree.
 use crate::{copies, reading, saving, trees};
+use row_lines::first_column;
 use snap_content::{Error, OutOfMemory, Text};
-use snapshot_lines::first_column;
 use std::alloc::Global;
 
 /// The answer to a row.

@@ -2,11 +2,11 @@
 //!
 //! Contents stand in one column: `text=` and a text, `payload=` and bytes, or `absent`.
 use crate::shown::{add_metadata, add_snapshot};
-use row_lines::text_of;
+use row_lines::{first_column, text_of};
 use snap_content::{OutOfMemory, Text};
 use snap_store::{MetaData, Snapshot, SnapshotContents};
 use snap_text::{TextSnapshotContents, TextSnapshotKind};
-use snapshot_lines::{bytes_of, first_column, metadata_of, snapshot_of};
+use snapshot_lines::{bytes_of, metadata_of, snapshot_of};
 use std::alloc::Global;
 
 /// What metadata tell.

@@ -19,15 +19,12 @@ mod trees;
 
 use crate::calls::called;
 use crate::shown::refusal;
-use row_lines::answer_lines;
+use row_lines::answer_rows;
 use snap_content::Text;
 use std::alloc::Global;
 
 /// The line that answers a line.
 fn answer(alloc: Global, line: &str) -> Result<Text, anyhow::Error> {
-    if line.starts_with("# ") {
-        return Ok(Text::from_str(alloc, line)?);
-    }
     match called(alloc, line) {
         Ok(told) => Ok(told),
         Err(error) => Ok(refusal(alloc, &error)?),
@@ -35,5 +32,5 @@ fn answer(alloc: Global, line: &str) -> Result<Text, anyhow::Error> {
 }
 
 fn main(rt: HostRuntime) -> Result<(), anyhow::Error> {
-    answer_lines(rt.alloc(), rt.stdin(), rt.stdout(), answer)
+    answer_rows(rt.alloc(), rt.stdin(), rt.stdout(), answer)
 }

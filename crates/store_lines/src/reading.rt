@@ -1,12 +1,12 @@
 //! Files that are cut, and files that are read.
 use crate::shown::{add_metadata, add_snapshot};
-use row_lines::{add_escaped, text_of};
+use row_lines::{add_escaped, first_column, text_of};
 use snap_content::{Error, OutOfMemory, Text};
 use snap_outside::SteadyStore;
 use snap_store::Snapshot;
 use snap_store::legacy::{legacy_metadata, legacy_text};
 use snap_store::split::split_file;
-use snapshot_lines::{bytes_of, first_column};
+use snapshot_lines::bytes_of;
 use std::alloc::Global;
 
 /// The header and the body of a file.

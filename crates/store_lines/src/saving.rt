@@ -2,14 +2,13 @@
 ghost use Rattle.std.specs.Prelude.{IsSome};
 ghost use Rattle.snap_store.specs.Views.{contents_in, text_in};
 
-use row_lines::{add_escaped, text_of};
+use row_lines::{add_escaped, add_file, first_column, text_of};
 use snap_content::{Error, OutOfMemory, Text};
 use snap_outside::SteadyStore;
 use snap_store::Snapshot;
 use snap_text::TextSnapshotKind;
-use snapshot_lines::{first_column, snapshot_of};
+use snapshot_lines::snapshot_of;
 use std::alloc::Global;
-use std::str;
 
 /// The path of a file, how many files the store has, and that file's text.
 fn stored_line(alloc: Global, store: &SteadyStore, path: &Text) -> Result<Text, OutOfMemory> {
@@ -19,16 +18,6 @@ fn stored_line(alloc: Global, store: &SteadyStore, path: &Text) -> Result<Text, 
     line.push_str(alloc, counted.as_str())?;
     add_file(alloc, &mut line, store.get(path))?;
     Ok(line)
-}
-
-fn add_file(alloc: Global, line: &mut Text, file: Option<&[u8]>) -> Result<(), OutOfMemory> {
-    let Some(bytes) = file else {
-        return line.push_ascii(alloc, "no file");
-    };
-    match str::from_utf8(bytes) {
-        Ok(text) => add_escaped(alloc, line, text),
-        Err(_) => line.push_ascii(alloc, "no text"),
-    }
 }
 
 fn saved(alloc: Global, path: &Text, snapshot: &Snapshot) -> Result<Text, Error>

@@ -1,4 +1,4 @@
-use Rattle.snap_run.proofs.Prelude.{refl, ap, ◌∙◌, Err, Outcome, words_of}
+use Rattle.snap_run.proofs.Prelude.{refl, ap, ◌∙◌, Err, words_of}
 use Rattle.snap_request.proofs.Requesting.{file_named}
 use Rattle.snap_run.proofs.DocumentEnds.{unchanged_before, path_is, printed_is, assertion_is, document_answered, refused_stops, refused_count}
 use Rattle.snap_request.specs.RequestOf.{request_of}
@@ -41,4 +41,4 @@ returns-clause-err g c =
 
 pub returns-clause-store_count : goal.returns-clause-store_count
 returns-clause-store_count g c =
-    refused_count Outcome _ _ c.args.runner.now.config.update _ _ _ c.in-Err-assert_content.ensures.cause (c.in-Err-assert_content.ensures.named _ refl) c.error_of.ensures.file c.error_of.ensures.memory
+    refused_count _ _ c.args.runner.now.config.update _ _ _ c.in-Err-assert_content.ensures.cause (c.in-Err-assert_content.ensures.named _ refl) c.error_of.ensures.file c.error_of.ensures.memory
