@@ -1,11 +1,22 @@
-//! Prints values as the emitter dumps them: for `bench/dump`, which holds this against the original's emitter.
-//! Each line of standard input is a value as `value_lines` reads it. For each value one line, in which `\n`, `\r`, `\0`, `\t` and
-//! `\\` stand for these characters; for a line that is no value an empty one.
+//! Prints values and trees as the emitter writes them: for `bench/dump`, which holds this against the original's emitter.
+//! Each line of standard input is a value as `value_lines` reads it, and is answered by its dump; or a call's name, and behind a tab
+//! what it is given; or a heading, `# ` and a text, which is answered by itself.
+//!
+//! `document VALUE` is a document of the value, `documents VALUE` one of each item of an array, one behind the other, and
+//! `dumps VALUE` what one emitter adds to the text `before` and a line's end when it dumps each item. `length VALUE` is how long a
+//! scalar is written. `printed TREE` is the document of a tree, as `tree_lines` reads it, and `lines TREE` its lines alone.
+//! `want of memory` is the name of that error.
+//! In an answer `\n`, `\r`, `\0`, `\t` and `\\` stand for these characters. A line that is no value is answered by an empty one,
+//! and a call that has no answer by `! ` and why.
 //! The gate runs it on values of the original's tests, on keys at the length of a simple one, and on random values, and compares
-//! with what the original's emitter wrote.
+//! with what the original's emitter wrote; and on worked rows of each call.
 #![tactic(auto)]
 
-use row_lines::{add_escaped, answer_lines};
+mod calls;
+mod error;
+
+use crate::calls::called;
+use row_lines::{add_escaped, answer_rows, first_column};
 use snap_content::Text;
 use snap_emitter::{EmitError, YamlEmitter};
 use snap_yaml::Yaml;
@@ -20,8 +31,8 @@ fn dumped(alloc: Global, value: &Yaml) -> Result<Text, EmitError> {
     Ok(text)
 }
 
-/// The line that answers a line.
-fn answer(alloc: Global, line: &str) -> Result<Text, anyhow::Error> {
+/// The line of a value.
+fn value_line(alloc: Global, line: &str) -> Result<Text, anyhow::Error> {
     let mut told = Text::empty();
     if let Some(value) = value_of_line(alloc, line)? {
         let text = dumped(alloc, &value)?;
@@ -30,6 +41,29 @@ fn answer(alloc: Global, line: &str) -> Result<Text, anyhow::Error> {
     Ok(told)
 }
 
+/// The line of a call: its text, or why it has none.
+fn call_line(alloc: Global, name: &str, given: &str) -> Result<Text, anyhow::Error> {
+    let mut told = Text::empty();
+    match called(alloc, name, given) {
+        Ok(text) => add_escaped(alloc, &mut told, text.as_str())?,
+        Err(error) => {
+            let line = format!(in alloc; "! {error}")?;
+            told.push_str(alloc, line.as_str())?;
+        }
+    }
+    Ok(told)
+}
+
+/// The line that answers a line.
+fn answer(alloc: Global, line: &str) -> Result<Text, anyhow::Error> {
+    let (name, given) = first_column(line);
+    match name {
+        "document" | "documents" | "dumps" | "length" | "printed" | "lines" | "want of memory" =>
+            call_line(alloc, name, given),
+        _ => value_line(alloc, line),
+    }
+}
+
 fn main(rt: HostRuntime) -> Result<(), anyhow::Error> {
-    answer_lines(rt.alloc(), rt.stdin(), rt.stdout(), answer)
+    answer_rows(rt.alloc(), rt.stdin(), rt.stdout(), answer)
 }

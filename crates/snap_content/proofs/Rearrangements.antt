@@ -1,5 +1,5 @@
 -- Trees whose maps are put in another order: where nothing is done, and one turn of a loop over a list.
-use Rattle.snap_content.proofs.Prelude.{◌≡◌, ℕ, suc, ◌+◌, ◌<◌, ◌≤◌, List, [], ◌∷◌, ◌++◌, map, get_or, set, take, drop, length, refl, sym, ap, ◌∙◌, subst, arith, add-one, drop-cons, append_assoc, append-nil, map-append, drop-set-lt, take_more_set, take_all, drop_all, tree, item_trees, pair_tree, pair_trees, field_trees, Entry, Rearranged, ItemsRearranged, PairsRearranged, FieldsRearranged, Content}
+use Rattle.snap_content.proofs.Prelude.{◌≡◌, true, ℕ, suc, ◌+◌, ◌<◌, ◌≤◌, List, [], ◌∷◌, ◌++◌, map, get_or, set, take, drop, length, refl, sym, ap, ◌∙◌, subst, arith, add-one, drop-cons, append_assoc, append-nil, map-append, drop-set-lt, take_more_set, take_all, drop_all, tree, item_trees, pair_tree, pair_trees, field_trees, is_leaf, Entry, Rearranged, ItemsRearranged, PairsRearranged, FieldsRearranged, Content}
 use Rattle.snap_content.specs.Tree as t
 use Rattle.snap_content.proofs.Joined.{joined, joined-push, joined-end, joined-whole, joined_fields, joined_fields-push, joined_fields-end, joined_fields-whole, pairs-whole}
 
@@ -129,3 +129,17 @@ module _ (R : List Entry → List Entry → Type 0) where
     fields_stop all now i x y so_far small is name s =
         subst (λ z. FieldsRearranged R (field_trees all) z) (joined_fields-whole (i + 1) (set now i y))
         (fields_turn all now i x y so_far small is name s (field_trees (drop (i + 1) (set now i y))) (fields_unmoved (field_trees (drop (i + 1) (set now i y)))))
+
+-- a tree without maps inside stays as it is
+pub leaf_stays : (R : List Entry → List Entry → Type 0) (x : t.Tree) → is_leaf x ≡ true → Rearranged R x x
+leaf_stays R (t.some inner) leaf = absurd (cc)
+leaf_stays R (t.newtype_struct name inner) leaf = absurd (cc)
+leaf_stays R (t.newtype_variant name index variant inner) leaf = absurd (cc)
+leaf_stays R (t.seq items) leaf = absurd (cc)
+leaf_stays R (t.tuple items) leaf = absurd (cc)
+leaf_stays R (t.tuple_struct name items) leaf = absurd (cc)
+leaf_stays R (t.tuple_variant name index variant items) leaf = absurd (cc)
+leaf_stays R (t.map pairs) leaf = absurd (cc)
+leaf_stays R (t.struct name fs) leaf = absurd (cc)
+leaf_stays R (t.struct_variant name index variant fs) leaf = absurd (cc)
+leaf_stays R other leaf = refl

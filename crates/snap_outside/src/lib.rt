@@ -27,8 +27,6 @@ mod replacing;
 pub mod schedule;
 pub mod steady;
 pub mod stream;
-#[cfg(test)]
-mod tests;
 
 pub use files::MemoryFiles;
 pub use folder::FolderStore;

@@ -1,6 +1,6 @@
-use Rattle.snap_content.proofs.Prelude.{rules, ◌≤◌, ◌+◌, ◌∙◌, map, arith, refl, inl, length-set, InKeyOrder, AsBeforeOrInKeyOrder, tree, item_trees, pair_tree, pair_trees, field_trees, count, count_items, count_pairs, count_fields}
+use Rattle.snap_content.proofs.Prelude.{rules, ◌≡◌, ◌≤◌, ◌+◌, true, ◌∙◌, map, arith, refl, inl, length-set, InKeyOrder, AsBeforeOrInKeyOrder, tree, item_trees, pair_tree, pair_trees, field_trees, count, count_items, count_pairs, count_fields, is_leaf, the_lemmas}
 use Rattle.snap_content.proofs.Joined.{left_turn, count_left, count_pairs_left, count_fields_left}
-use Rattle.snap_content.proofs.Rearrangements.{items_turn, items_end, items_stop, pairs_turn, pairs_end, pairs_stop, fields_turn, fields_end, fields_stop, map_moved, unmoved}
+use Rattle.snap_content.proofs.Rearrangements.{items_turn, items_end, items_stop, pairs_turn, pairs_end, pairs_stop, fields_turn, fields_end, fields_stop, map_moved, unmoved, leaf_stays}
 use Rattle.snap_content.proofs.+sort.Goals as goal
 
 pub sorting::sort_items-sort_maps-requires : goal.sorting::sort_items-sort_maps-requires
@@ -90,3 +90,8 @@ sorting::sort_fields-returns-clause-ok t c = fields_end InKeyOrder _ _ c.loop-in
 
 pub sorting::sort_fields-returns-clause-partly : goal.sorting::sort_fields-returns-clause-partly
 sorting::sort_fields-returns-clause-partly t c = fields_end AsBeforeOrInKeyOrder _ _ c.loop-index.index c.loop-index.invariant.partly (omega arith)
+
+pub sorting::sort_inside-returns-in_default : goal.sorting::sort_inside-returns-in_default
+sorting::sort_inside-returns-in_default t c =
+    let leaf : is_leaf (tree c.args.node) ≡ true = search (rules, the_lemmas) in
+    record { ok = leaf_stays InKeyOrder _ leaf; partly = leaf_stays AsBeforeOrInKeyOrder _ leaf }

@@ -1,0 +1,90 @@
+//! The calls of the emitter, by their names.
+use crate::error::CallError;
+use snap_content::{OutOfMemory, Text};
+use snap_emitter::documents::{document_text, push_document};
+use snap_emitter::printing::{print_body, printed_document};
+use snap_emitter::{EmitError, YamlEmitter, written_len};
+use snap_yaml::{Array, Yaml};
+use std::alloc::Global;
+use tree_lines::tree_of_line;
+use value_lines::value_of_line;
+
+/// The text that a call gives.
+pub fn called(alloc: Global, name: &str, given: &str) -> Result<Text, anyhow::Error> {
+    match name {
+        "document" => document(alloc, given),
+        "documents" => documents(alloc, given),
+        "dumps" => dumps(alloc, given),
+        "length" => length(alloc, given),
+        "printed" => printed(alloc, given),
+        "lines" => tree_body(alloc, given),
+        "want of memory" => Err(EmitError::from(OutOfMemory).into()),
+        _ => Err(CallError::NoCall.into()),
+    }
+}
+
+/// The value that is given.
+fn given_value(alloc: Global, given: &str) -> Result<Yaml, anyhow::Error> {
+    match value_of_line(alloc, given)? {
+        Some(value) => Ok(value),
+        None => Err(CallError::NoValue.into()),
+    }
+}
+
+/// The items of the array that is given.
+fn given_items(alloc: Global, given: &str) -> Result<Array, anyhow::Error> {
+    match given_value(alloc, given)?.into_vec() {
+        Some(items) => Ok(items),
+        None => Err(CallError::NoArray.into()),
+    }
+}
+
+fn document(alloc: Global, given: &str) -> Result<Text, anyhow::Error> {
+    let value = given_value(alloc, given)?;
+    Ok(document_text(alloc, &value)?)
+}
+
+fn documents(alloc: Global, given: &str) -> Result<Text, anyhow::Error> {
+    let items = given_items(alloc, given)?;
+    let mut text = Text::empty();
+    for item in items.as_slice() {
+        push_document(&mut text, alloc, item)?;
+    }
+    Ok(text)
+}
+
+fn dumps(alloc: Global, given: &str) -> Result<Text, anyhow::Error> {
+    let items = given_items(alloc, given)?;
+    let mut text = Text::from_str(alloc, "before\n")?;
+    dump_each(alloc, &mut text, items.as_slice())?;
+    Ok(text)
+}
+
+/// Adds the dump of each value, by one emitter.
+fn dump_each(alloc: Global, text: &mut Text, items: &[Yaml]) -> Result<(), EmitError> {
+    let mut emitter = YamlEmitter::new(alloc, text);
+    for item in items {
+        emitter.dump(item)?;
+    }
+    Ok(())
+}
+
+/// How long a scalar is written, in digits.
+fn length(alloc: Global, given: &str) -> Result<Text, anyhow::Error> {
+    let value = given_value(alloc, given)?;
+    let digits = format!(in alloc; "{}", written_len(&value))?;
+    Ok(Text::from_str(alloc, digits.as_str())?)
+}
+
+fn printed(alloc: Global, given: &str) -> Result<Text, anyhow::Error> {
+    let tree = tree_of_line(alloc, given)?;
+    Ok(printed_document(alloc, &tree)?)
+}
+
+/// The lines of a tree, without `---`.
+fn tree_body(alloc: Global, given: &str) -> Result<Text, anyhow::Error> {
+    let tree = tree_of_line(alloc, given)?;
+    let mut text = Text::empty();
+    print_body(&mut text, alloc, &tree)?;
+    Ok(text)
+}
