@@ -4,6 +4,7 @@ use Rattle.snap_content.specs.Plain as p
 use Rattle.snap_content.specs.Spell as sp
 use Rattle.snap_content.specs.Lines as pl
 use Rattle.snap_emitter.specs.Shape as s
+use Rattle.snap_emitter.specs.Document.{joined}
 
 -- lines of which there is one
 pub record IsFull (ls : List (List ℕ)) : Type 0 where
@@ -228,6 +229,18 @@ mutual
 -- the text of a plain tree
 pub plain_text : (t : p.Plain) → text_at 0 (s.plain_shape t) ++ 10 ∷ [] ≡ pl.text_of t
 plain_text t = text_ended (s.plain_shape t) ∙ ap (flat_map ended) (plain_lines t)
+
+lines_at-joined : (ls : List (List ℕ)) → lines_at 0 ls ≡ joined ls
+lines_at-joined [] = refl
+lines_at-joined (first ∷ rest) = refl
+
+-- the text at column 0 is the lines, joined
+pub text_joined : (t : s.Shape) → text_at 0 t ≡ joined (s.lines t)
+text_joined t = text_lines 0 t ∙ lines_at-joined (s.lines t)
+
+-- with a line's end behind it, each line has its end
+pub joined_ended : (t : s.Shape) → joined (s.lines t) ++ 10 ∷ [] ≡ flat_map ended (s.lines t)
+joined_ended t = ap (λ x. x ++ 10 ∷ []) (sym (text_joined t)) ∙ text_ended t
 
 -- the body and the document of a plain tree
 pub plain_body : (t : p.Plain) → body (s.plain_shape t) ≡ pl.text_of t

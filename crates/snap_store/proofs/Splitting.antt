@@ -1,11 +1,13 @@
 -- A file that is made of two printed texts falls into them again.
-use Rattle.snap_store.proofs.Prelude.{◌≡◌, ◌==◌, ℕ, List, [], ◌∷◌, ◌++◌, Bool, true, false, ◌||◌, cond, codes, map, refl, sym, ap, ◌∙◌, append_assoc, append-nil, subst, drop, list_any, flat_map, bytes_eq, Plain, null, bool, int, text, list, dict, no_items, item, no_entries, entry, lines_of, text_of, document_of, ended, behind, is_simple, indented, item_lines, entry_lines, is_line_end, IsUnbroken, ended_lines, line_of, joined_lines, up_to_fence, past_fence, header_text, lines_text, first_is_fence, is_headed, file_text, FallsInto, or_left, or_right}
+use Rattle.snap_store.proofs.Prelude.{◌≡◌, ◌==◌, ℕ, List, [], ◌∷◌, ◌++◌, Bool, true, false, ◌||◌, cond, codes, map, refl, sym, ap, ◌∙◌, append_assoc, append-nil, subst, drop, list_any, flat_map, bytes_eq, Plain, null, bool, int, text, list, dict, no_items, item, no_entries, entry, lines_of, text_of, document_of, ended, behind, is_simple, indented, item_lines, entry_lines, is_line_end, IsUnbroken, ended_lines, line_of, joined_lines, up_to_fence, past_fence, header_text, lines_text, first_is_fence, is_headed, file_text, FallsInto, or_left, or_right, concat}
 use Rattle.std.proofs.lemmas.Slice.Eq.{bytes_eq-Decides}
 use Rattle.snap_content.specs.Printed.{IsLine, AreLines, is_break, begins_dashes}
 use Rattle.snap_content.specs.Spell.{spelling, is_flat}
 use Rattle.snap_store.proofs.Pieces.{pieces-line}
 use Rattle.snap_store.proofs.LineEnds.{ended_by_feed}
 use Rattle.snap_store.proofs.Bodies.{body-headed}
+use Rattle.snap_text.proofs.Trimming.{trimmed-push, trimmed-well}
+use Rattle.snap_store.specs.FileSplit.{is_fence}
 
 -- a line holds no LF, and ends in no CR
 unbroken_line : (line : List ℕ) → list_any is_break line ≡ false → IsUnbroken line
@@ -26,6 +28,11 @@ no_dashes : (line : List ℕ) → begins_dashes line ≡ false → (same : Bool)
 no_dashes line h true is = absurd (let e = ap begins_dashes (sym ((bytes_eq-Decides line (codes "---")).0 is)) ∙ h in cc (e))
 no_dashes line h false is = refl
 
+no_fence : (line : List ℕ) → IsLine line → is_fence (ended line) ≡ false
+no_fence line h =
+    ap (λ t. bytes_eq t (codes "---")) (trimmed-push line 10 refl ∙ trimmed-well line h.trimmed)
+    ∙ no_dashes line h.no_dashes (bytes_eq line (codes "---")) refl
+
 -- the pieces of lines are those lines with their ends
 pub pieces-lines : (lines : List (List ℕ)) (more : List ℕ) → AreLines lines → ended_lines (flat_map ended lines ++ more) ≡ map ended lines ++ ended_lines more
 pieces-lines [] more h = refl
@@ -43,6 +50,10 @@ past : (lines more : List (List ℕ)) → AreLines lines → past_fence (map end
 past [] more h = refl
 past (line ∷ lines) more h =
     ap (λ b. cond b (map ended lines ++ codes "---\n" ∷ more) (past_fence (map ended lines ++ codes "---\n" ∷ more))) (no_fence line h.0) ∙ past lines more h.1
+
+concat-ended : (lines : List (List ℕ)) → concat (map ended lines) ≡ flat_map ended lines
+concat-ended [] = refl
+concat-ended (line ∷ lines) = ap (λ t. ended line ++ t) (concat-ended lines)
 
 lines-ended : (lines : List (List ℕ)) → AreLines lines → map line_of (map ended lines) ≡ lines
 lines-ended [] h = refl

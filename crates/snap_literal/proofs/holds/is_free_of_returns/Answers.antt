@@ -1,6 +1,5 @@
-use Rattle.snap_literal.proofs.Prelude.{◌∙◌}
 use Rattle.snap_literal.proofs.Bytes.{free_of_returns}
 use Rattle.snap_literal.proofs.holds.is_free_of_returns.Goals as goal
 
 pub returns : goal.returns
-returns c = c.is_none.ensures ∙ free_of_returns c.as_bytes.result.now c.args.text.now c.memchr.result c.utf8.text c.as_bytes.ensures.value c.memchr.ensures
+returns c = free_of_returns c.as_bytes.result.now c.args.text.now c.memchr.result c.is_none.result c.utf8.text c.as_bytes.ensures.value c.memchr.ensures c.is_none.ensures
