@@ -1,5 +1,5 @@
 -- An escaped character reads as itself.
-use Rattle.snap_literal.proofs.Prelude.{◌≡◌, ◌==◌, ℕ, ◌+◌, ◌*◌, ◌/◌, ◌%◌, ◌<◌, ◌≤◌, List, [], ◌∷◌, ◌++◌, Bool, true, false, ◌||◌, ◌&&◌, cond, nat_lt, nat_le, Some, None, refl, sym, ap, ◌∙◌, arith, append_assoc, true-eqb, lit<, nat_tests, digit_value-digit_char, digit_value, digit_char, list_any, flat_map, scalar, low_scalar, or_left, or_right, unit_of, braced, escape, Unit_read, Inside, ends, goes_on, escaped_char, is_control, digits, or_from}
+use Rattle.snap_literal.proofs.Prelude.{◌≡◌, ◌==◌, ℕ, ◌+◌, ◌*◌, ◌/◌, ◌%◌, ◌<◌, List, [], ◌∷◌, ◌++◌, Bool, true, false, ◌||◌, ◌&&◌, cond, nat_lt, Some, None, refl, sym, ap, ◌∙◌, arith, append_assoc, true-eqb, nat_tests, digit_value-digit_char, digit_value, digit_char, list_any, flat_map, scalar, low_scalar, or_left, or_right, unit_of, braced, escape, Unit_read, Inside, ends, goes_on, escaped_char, is_control, digits, or_from}
 
 digit_no_brace : (d : ℕ) → d < 16 → (digit_char d == 125) ≡ false
 digit_no_brace d h = grind (arith, nat_tests)

@@ -1,5 +1,5 @@
 -- Framed texts, and lines cut at a byte.
-use Rattle.snap_literal.proofs.Prelude.{◌≡◌, ◌==◌, ℕ, zero, suc, ◌+◌, ◌-◌, ◌<◌, ◌≤◌, List, [], ◌∷◌, ◌++◌, Bool, true, false, ◌||◌, ◌&&◌, cond, Option, None, Some, length, drop, take, refl, sym, ap, ◌∙◌, arith, nat_lt, length-append, subst, Bor, MatchOption, IfSome, inl, inr, nat_tests, eqb-true, chars-nil, chars-append, encodes-chars, encodes-append, scalars-chars, length-encode, IsCharBoundary-at_seam, IsUtf8-take, IsUtf8-drop, is_whitespace, len_utf8, list_any, list_all, chars, IsUtf8, IsCharBoundary, skip_leading_whitespace, some_same, begins, Lacks, IsLastPart, is_line_end, sign, space_front, last_line, is_framed, framed_text, onto_front, at_byte, encode, encodes, scalar, scalars}
+use Rattle.snap_literal.proofs.Prelude.{◌≡◌, ◌==◌, ℕ, ◌+◌, ◌-◌, ◌<◌, ◌≤◌, List, [], ◌∷◌, ◌++◌, Bool, true, false, ◌||◌, ◌&&◌, cond, Option, None, Some, length, drop, take, refl, sym, ap, ◌∙◌, arith, nat_lt, length-append, subst, Bor, MatchOption, IfSome, inl, inr, nat_tests, eqb-true, chars-append, encodes-chars, encodes-append, scalars-chars, length-encode, IsCharBoundary-at_seam, IsUtf8-take, is_whitespace, len_utf8, list_any, chars, IsUtf8, IsCharBoundary, skip_leading_whitespace, some_same, begins, Lacks, IsLastPart, is_line_end, sign, space_front, last_line, is_framed, onto_front, at_byte, encode, encodes, scalar, scalars}
 use Rattle.std.proofs.lemmas.List.{take-append-drop}
 use Rattle.std.specs.Prelude.{◌↔◌, IsSome}
 use Rattle.snap_literal.specs.Signed.{IsSigned}

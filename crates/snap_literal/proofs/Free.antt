@@ -1,5 +1,5 @@
 -- Characters that a text doesn't hold, and that its framed form doesn't hold either.
-use Rattle.snap_literal.proofs.Prelude.{◌≡◌, ◌==◌, ℕ, List, [], ◌∷◌, ◌++◌, Bool, true, false, ◌||◌, ◌&&◌, cond, refl, sym, ap, ◌∙◌, true-eqb, list_any, list_all, flat_map, or_left, or_right, both_second, both_first, line_parts, framed_line, shown, is_indent, onto, is_line_end, or_from}
+use Rattle.snap_literal.proofs.Prelude.{◌≡◌, ◌==◌, ℕ, List, [], ◌∷◌, ◌++◌, Bool, true, false, ◌||◌, cond, refl, sym, ap, ◌∙◌, true-eqb, list_any, list_all, flat_map, or_left, or_right, both_second, both_first, line_parts, framed_line, shown, is_indent, onto, is_line_end, or_from}
 
 pub any-append : (p : ℕ → Bool) (xs ys : List ℕ) → list_any p xs ≡ false → list_any p ys ≡ false → list_any p (xs ++ ys) ≡ false
 any-append p [] ys h k = k

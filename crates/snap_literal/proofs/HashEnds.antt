@@ -1,5 +1,5 @@
 -- No quote of a text is followed by as many `#` as the text requires, nor is one of its framed form.
-use Rattle.snap_literal.proofs.Prelude.{◌≡◌, ◌==◌, ℕ, zero, suc, ◌+◌, ◌<◌, ◌≤◌, max, List, [], ◌∷◌, ◌++◌, Bool, true, false, ◌||◌, cond, Some, None, refl, sym, ap, ◌∙◌, arith, append_assoc, append-nil, true-eqb, list_any, flat_map, is_some, or_left, or_right, past_hashes, past_end, has_end, run, required, line_parts, framed_line, shown, onto, is_line_end, or_from}
+use Rattle.snap_literal.proofs.Prelude.{◌≡◌, ◌==◌, ℕ, zero, suc, ◌<◌, ◌≤◌, max, List, [], ◌∷◌, ◌++◌, Bool, true, false, cond, None, refl, sym, ap, ◌∙◌, arith, append_assoc, append-nil, true-eqb, list_any, flat_map, is_some, or_left, or_right, past_hashes, past_end, has_end, run, required, line_parts, framed_line, shown, onto, is_line_end, or_from}
 
 past_step : (b : Bool) (k : ℕ) (cs : List ℕ) → cond b (suc (run cs)) 0 < suc k → (run cs < k → past_hashes k cs ≡ None) → cond b (past_hashes k cs) None ≡ None
 past_step true k cs h next = next (omega arith)

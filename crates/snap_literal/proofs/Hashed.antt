@@ -1,5 +1,5 @@
 -- Facts on runs of `#`.
-use Rattle.snap_literal.proofs.Prelude.{◌≡◌, ◌==◌, ℕ, zero, suc, ◌+◌, ◌<◌, ◌≤◌, List, [], ◌∷◌, ◌++◌, Bool, true, false, ◌||◌, cond, max, Option, Some, None, length, refl, sym, ap, ◌∙◌, arith, add-one, eq-eqb, length-append, is_some, nat_tests, length-le-encodes, encodes-chars, chars, IsUtf8, begins, hashes, past_hashes, run, required}
+use Rattle.snap_literal.proofs.Prelude.{◌≡◌, ◌==◌, ℕ, zero, suc, ◌+◌, ◌≤◌, List, [], ◌∷◌, ◌++◌, Bool, true, false, cond, max, Option, Some, None, length, refl, sym, ap, ◌∙◌, arith, add-one, eq-eqb, length-append, is_some, nat_tests, length-le-encodes, encodes-chars, chars, IsUtf8, begins, hashes, past_hashes, run, required}
 
 past_hash : (c n : ℕ) (cs rest : List ℕ) (b : Bool) → (c == 35) ≡ b → cond b (past_hashes n cs) None ≡ Some rest → (past_hashes n cs ≡ Some rest → cs ≡ hashes n ++ rest) → c ∷ cs ≡ 35 ∷ (hashes n ++ rest)
 past_hash c n cs rest true e h more =

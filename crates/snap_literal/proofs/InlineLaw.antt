@@ -1,8 +1,8 @@
 -- What is written for an inline text that is its own normal form stands for that text.
-use Rattle.snap_literal.proofs.Prelude.{◌≡◌, ◌==◌, ℕ, zero, suc, ◌+◌, ◌<◌, ◌≤◌, List, [], ◌∷◌, ◌++◌, Bool, true, false, ◌||◌, cond, map, Result, Ok, Err, length, refl, sym, ap, ◌∙◌, arith, append-nil, subst, list_any, list_all, flat_map, is_whitespace, IfOk, ends_badly, trimmed, unreturned, normal, is_return, literal_reads, is_hidden, is_indent, line_parts, framed_line, shown, spelled, meant, IsIndentation, shortest, indentation_of, from_byte, joined_from, is_short, normalized, inline_normal, lines-unbroken, onto, lines, is_line_end}
+use Rattle.snap_literal.proofs.Prelude.{◌≡◌, ◌==◌, ℕ, zero, suc, ◌+◌, ◌≤◌, List, [], ◌∷◌, ◌++◌, Bool, true, false, ◌||◌, cond, map, Result, Ok, Err, length, refl, sym, ap, ◌∙◌, arith, append-nil, subst, list_any, list_all, flat_map, is_whitespace, IfOk, ends_badly, trimmed, unreturned, normal, is_return, literal_reads, is_hidden, line_parts, framed_line, spelled, meant, IsIndentation, shortest, indentation_of, from_byte, joined_from, is_short, normalized, inline_normal, lines-unbroken, onto, lines, is_line_end}
 use Rattle.snap_literal.proofs.Trimming.{trimmed-well, well-trimmed}
 use Rattle.snap_literal.proofs.Returns.{ends-unreturned, normal-once}
-use Rattle.snap_literal.proofs.Free.{any-weaker, any-blank, any-append, free-shown}
+use Rattle.snap_literal.proofs.Free.{any-weaker, any-blank, free-shown}
 use Rattle.snap_literal.proofs.Meanings.{return_hidden, reads}
 use Rattle.snap_literal.proofs.WellEnded.{IsWell, EndsWell, AreClean, behind, whole, well-cons, well-pieces, clean-pieces, some-pieces, whole-pieces, well-whole, lines-whole, lines-more}
 use Rattle.snap_literal.proofs.Leads.{indent, framed-behind, ends-indented, clean-indented, trimmed-space, space-indentation, from_byte-past, from_byte-indented, joined-whole, from_byte-zeros, whole-append, map-append, length-trimmed, length-unreturned, whole-less, shortest-indented}

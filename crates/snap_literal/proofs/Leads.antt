@@ -1,5 +1,5 @@
 -- The shortest lead of indented lines, and lines from a byte on.
-use Rattle.snap_literal.proofs.Prelude.{◌≡◌, ◌==◌, ℕ, zero, suc, ◌+◌, ◌-◌, ◌<◌, ◌≤◌, List, [], ◌∷◌, ◌++◌, Bool, true, false, ◌||◌, ◌&&◌, not, cond, map, nat_lt, length, refl, sym, ap, ◌∙◌, arith, append_assoc, append-nil, true-eqb, length-append, nat_tests, list_any, list_all, flat_map, is_whitespace, len_utf8, begins, before_trimmed, trimmed, unreturned, normal, is_indent, IsIndentation, framed_line, lead, shortest, from_byte, joined_from, behind_end, is_return, is_line_end, lines, both_second, both_first}
+use Rattle.snap_literal.proofs.Prelude.{◌≡◌, ◌==◌, ℕ, suc, ◌+◌, ◌-◌, ◌<◌, ◌≤◌, List, [], ◌∷◌, ◌++◌, Bool, true, false, ◌||◌, ◌&&◌, not, cond, map, nat_lt, length, refl, sym, ap, ◌∙◌, arith, append_assoc, append-nil, true-eqb, length-append, nat_tests, list_any, list_all, flat_map, is_whitespace, len_utf8, begins, before_trimmed, trimmed, unreturned, is_indent, IsIndentation, framed_line, lead, shortest, from_byte, joined_from, behind_end, is_return, is_line_end, both_second, both_first}
 use Rattle.snap_literal.proofs.Free.{any-append}
 use Rattle.snap_literal.proofs.WellEnded.{IsWell, EndsWell, AreClean, behind, whole, well-append}
 

@@ -1,5 +1,5 @@
 -- Texts cut at their line ends, and framed again.
-use Rattle.snap_literal.proofs.Prelude.{◌≡◌, ◌==◌, ℕ, List, [], ◌∷◌, ◌++◌, Bool, true, false, cond, Result, Ok, Err, refl, sym, ap, ◌∙◌, append-nil, append_assoc, list_any, flat_map, OnOk, or_left, or_right, IsUnbroken, IsLineThen, is_line_end, line_parts, framed_line, shown, onto}
+use Rattle.snap_literal.proofs.Prelude.{◌≡◌, ◌==◌, ℕ, List, [], ◌∷◌, ◌++◌, true, false, cond, Result, Ok, Err, refl, sym, ap, ◌∙◌, append-nil, append_assoc, list_any, flat_map, OnOk, or_left, or_right, IsUnbroken, IsLineThen, is_line_end, line_parts, framed_line, shown, onto}
 
 pub pieces-line : (line more : List ℕ) → list_any is_line_end line ≡ false → line_parts (line ++ 10 ∷ more) ≡ line ∷ line_parts more
 pieces-line [] more h = refl

@@ -1,5 +1,5 @@
 -- Each spelling reads as the text that was meant.
-use Rattle.snap_literal.proofs.Prelude.{◌≡◌, ◌==◌, ◌≤◌, ℕ, List, [], ◌∷◌, ◌++◌, Bool, true, false, cond, refl, sym, ap, ◌∙◌, inl, inr, arith, true-eqb, list_any, hashes, required, literal_reads, IsQuoted, IsRaw, IsBody, is_return, is_hidden, is_marked, shown, spelled, meant, escaped_form, raw_form, plain_form, IsIndentation}
+use Rattle.snap_literal.proofs.Prelude.{◌≡◌, ◌==◌, ◌≤◌, ℕ, List, [], ◌∷◌, ◌++◌, Bool, true, false, cond, refl, sym, ap, ◌∙◌, inl, inr, arith, true-eqb, list_any, hashes, required, literal_reads, is_return, is_hidden, is_marked, shown, spelled, meant, escaped_form, raw_form, plain_form, IsIndentation}
 use Rattle.snap_literal.proofs.Free.{any-weaker, any-both, any-blank, free-shown}
 use Rattle.snap_literal.proofs.Escapes.{reads-escaped, reads-bare, is_barred}
 use Rattle.snap_literal.proofs.HashEnds.{no-end, required-shown}

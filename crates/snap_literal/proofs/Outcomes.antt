@@ -1,5 +1,5 @@
 -- What a reader's steps and results come to.
-use Rattle.snap_literal.proofs.Prelude.{◌≡◌, ◌==◌, ℕ, ◌+◌, ◌*◌, ◌^◌, ◌<◌, ◌≤◌, List, [], ◌∷◌, ◌++◌, Bool, true, false, Option, Some, None, Result, Ok, Err, refl, sym, ap, ◌∙◌, subst, arith, inl, inr, ◌⊎◌, lit<, nat_tests, MatchResult, OnOk, is_err, begins, hashes, past_end, Inside, IsBody, IsQuoted, IsRaw, literal_reads}
+use Rattle.snap_literal.proofs.Prelude.{◌≡◌, ℕ, ◌^◌, ◌<◌, ◌≤◌, List, [], ◌∷◌, ◌++◌, false, Some, None, Result, Ok, Err, refl, sym, ap, ◌∙◌, subst, arith, inl, inr, MatchResult, OnOk, is_err, begins, hashes, past_end, IsBody, IsRaw, literal_reads}
 use Rattle.std.proofs.Math.Nat.{pow-le-pow_right}
 use Rattle.snap_literal.specs.Refusal.{Refuses}
 use Rattle.snap_literal.specs.declared.error.LiteralError.{LiteralError}

@@ -1,5 +1,5 @@
 -- Reading a literal from its front.
-use Rattle.snap_literal.proofs.Prelude.{◌≡◌, ◌==◌, ℕ, ◌+◌, List, [], ◌∷◌, ◌++◌, Bool, true, false, ◌||◌, ◌⊎◌, cond, Some, None, length, refl, sym, ap, ◌∙◌, subst, arith, append-nil, append_assoc, length-append, inl, inr, is_some, list_any, nat_tests, begins, or_left, or_right, some_same, unit_of, hashes, past_hashes, past_end, has_end, Inside, IsBody, IsQuoted, IsRaw, literal_reads, is_return, ends, goes_on, or_from}
+use Rattle.snap_literal.proofs.Prelude.{◌≡◌, ◌==◌, ℕ, List, [], ◌∷◌, ◌++◌, Bool, true, false, cond, Some, None, length, refl, sym, ap, ◌∙◌, subst, arith, append-nil, append_assoc, length-append, inl, inr, is_some, list_any, nat_tests, begins, or_left, or_right, some_same, unit_of, hashes, past_hashes, past_end, has_end, Inside, IsBody, IsQuoted, IsRaw, literal_reads, is_return, ends, goes_on, or_from}
 use Rattle.snap_literal.proofs.Hashed.{past_hashes-is, past_hashes-all, past_hashes-longer, past_hashes-quote, count-one, differ}
 
 -- what was made, and what is left, are the whole

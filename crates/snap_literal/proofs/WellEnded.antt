@@ -1,6 +1,5 @@
 -- Lines whose last is not empty and ends well, and their text.
-use Rattle.snap_literal.proofs.Prelude.{◌≡◌, ◌==◌, ℕ, suc, ◌+◌, ◌<◌, ◌≤◌, List, [], ◌∷◌, ◌++◌, Bool, true, false, ◌||◌, cond, map, length, refl, sym, ap, ◌∙◌, arith, append_assoc, append-nil, true-eqb, subst, list_any, flat_map, is_whitespace, ends_badly, or_left, or_right, is_return, line_parts, lines-line, lines-unbroken, onto, lines, without_return, is_line_end, or_from}
-use Rattle.snap_literal.proofs.Free.{any-append}
+use Rattle.snap_literal.proofs.Prelude.{◌≡◌, ◌==◌, ℕ, List, [], ◌∷◌, ◌++◌, Bool, true, false, cond, refl, sym, ap, ◌∙◌, append_assoc, append-nil, true-eqb, subst, list_any, flat_map, is_whitespace, ends_badly, or_left, or_right, is_return, line_parts, lines-line, lines-unbroken, onto, lines, without_return, is_line_end, or_from}
 
 pub record IsWell (text : List ℕ) : Type 0 where
   pub first : ℕ

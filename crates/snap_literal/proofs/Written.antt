@@ -1,5 +1,5 @@
 -- The normal form of an inline text, line by line of its trimmed text.
-use Rattle.snap_literal.proofs.Prelude.{◌≡◌, ◌==◌, ℕ, zero, suc, ◌+◌, ◌-◌, ◌<◌, ◌≤◌, List, [], ◌∷◌, ◌++◌, Bool, true, false, ◌||◌, ◌&&◌, not, cond, length, nat_lt, refl, sym, ap, ◌∙◌, arith, append_assoc, append-nil, subst, inl, inr, ◌⊎◌, or_parts, eqb-true, ltb-false, is_whitespace, len_utf8, list_any, list_all, flat_map, ends_badly, Lacks, onto, lines, without_return, begins_line_end, lines-line, lines-unbroken, lead, shortest, indentation_of, from_byte, behind_end, joined_from, is_short, inline_normal, inline_width, written_lines, written, IsUnbroken, IsLineThen, without_returns, before_return, before_trimmed, trimmed, unreturned, normal, is_indent, line_parts, both_second, both_first}
+use Rattle.snap_literal.proofs.Prelude.{◌≡◌, ◌==◌, ℕ, zero, suc, ◌-◌, ◌≤◌, List, [], ◌∷◌, ◌++◌, Bool, true, false, ◌||◌, ◌&&◌, not, cond, length, nat_lt, refl, sym, ap, ◌∙◌, arith, append_assoc, append-nil, subst, inl, inr, ◌⊎◌, or_parts, eqb-true, ltb-false, is_whitespace, len_utf8, list_any, list_all, flat_map, ends_badly, Lacks, onto, lines, without_return, begins_line_end, lines-line, lines-unbroken, lead, shortest, indentation_of, from_byte, behind_end, joined_from, is_short, inline_normal, inline_width, written_lines, written, IsUnbroken, IsLineThen, without_returns, before_return, before_trimmed, trimmed, unreturned, normal, is_indent, line_parts, both_second, both_first}
 use Rattle.snap_literal.proofs.Free.{any-append}
 use Rattle.snap_literal.proofs.Leads.{from_byte-zero, trimmed-space, blank_space, blank_width, not_none, not_inside, filled}
 use Rattle.snap_literal.proofs.LineParts.{pieces-line, pieces-unbroken}

@@ -1,5 +1,5 @@
 -- The older form of an inline text. The oldest inline texts stand in a frame: each line behind white space and a sign, `⋮`.
-use Rattle.std.specs.Prelude.{ℕ, ◌-◌, List, [], ◌∷◌, ◌++◌, Bool, true, false, not, ◌==◌, ◌&&◌, ◌||◌, nat_lt, length, drop, Option, None, Some, if◌then◌else◌}
+use Rattle.std.specs.Prelude.{ℕ, ◌-◌, List, [], ◌∷◌, ◌++◌, Bool, false, not, ◌==◌, ◌&&◌, ◌||◌, nat_lt, length, drop, Option, None, Some, if◌then◌else◌}
 use Rattle.std.specs.Char.{is_whitespace, len_utf8}
 use Rattle.std.specs.List.{list_any, list_all, flat_map}
 use Rattle.std.specs.Str.{encode_utf8_all, skip_leading_whitespace}

@@ -1,5 +1,5 @@
 -- The grammar of string literals: which text a source reads as. It knows nothing of how literals are written.
-use Rattle.std.specs.Prelude.{◌≡◌, ℕ, List, [], ◌∷◌, ◌++◌, ◌⊎◌, Bool, false, Some}
+use Rattle.std.specs.Prelude.{◌≡◌, ℕ, List, [], ◌∷◌, ◌++◌, ◌⊎◌, false, Some}
 use Rattle.std.specs.List.{list_any}
 use Rattle.snap_literal.specs.Units.{unit_of}
 use Rattle.snap_literal.specs.Hashes.{hashes, has_end}

@@ -1,6 +1,5 @@
 -- When a source is refused.
 use Rattle.std.specs.Prelude.{ℕ, List}
-use Rattle.snap_literal.specs.Literal.{literal_reads, Inside, IsRaw}
 use Rattle.snap_literal.specs.declared.error.LiteralError.{LiteralError}
 use Rattle.snap_literal.specs.declared.error.LiteralError.TheVariants.{NotLiteral, OutOfMemory}
 

@@ -1,5 +1,5 @@
 -- How an inline text is written as a literal.
-use Rattle.std.specs.Prelude.{◌≡◌, ℕ, ◌/◌, ◌%◌, List, [], ◌∷◌, ◌++◌, Bool, true, false, not, ◌==◌, ◌&&◌, ◌||◌, nat_lt, nat_le, if◌then◌else◌}
+use Rattle.std.specs.Prelude.{◌≡◌, ℕ, ◌/◌, ◌%◌, List, [], ◌∷◌, ◌++◌, Bool, true, not, ◌==◌, ◌&&◌, ◌||◌, nat_lt, nat_le, if◌then◌else◌}
 use Rattle.std.specs.Char.{digit_char}
 use Rattle.std.specs.List.{list_any, list_all, flat_map}
 use Rattle.snap_literal.specs.Hashes.{hashes, required}

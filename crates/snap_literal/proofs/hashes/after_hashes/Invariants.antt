@@ -1,4 +1,4 @@
-use Rattle.snap_literal.proofs.Prelude.{◌≡◌, length, Utf8, shadow, chars, past_hashes}
+use Rattle.snap_literal.proofs.Prelude.{◌≡◌, Utf8, shadow, chars, past_hashes}
 use Rattle.snap_literal.proofs.hashes.after_hashes.Given as goal
 
 abbrev pub invariant-loop-left : goal.invariant-loop-left

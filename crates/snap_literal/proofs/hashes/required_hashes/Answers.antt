@@ -1,4 +1,4 @@
-use Rattle.snap_literal.proofs.Prelude.{◌≡◌, ◌∷◌, ◌+◌, length, max, ap, ◌∙◌, rules, arith, chars, required}
+use Rattle.snap_literal.proofs.Prelude.{length, max, ap, ◌∙◌, rules, arith, chars, required}
 use Rattle.snap_literal.proofs.Hashed.{hashes-within, length-chars-le, required-quote}
 use Rattle.snap_literal.proofs.hashes.required_hashes.Goals as goal
 

@@ -1,4 +1,4 @@
-use Rattle.snap_literal.proofs.Prelude.{◌≡◌, ◌++◌, ◌≤◌, length, ap, ◌∙◌, arith, rules, chars, hashes}
+use Rattle.snap_literal.proofs.Prelude.{◌++◌, ap, ◌∙◌, arith, rules, chars, hashes}
 use Rattle.snap_literal.proofs.Hashed.{hashes-push, hashes-within, length-chars-le}
 use Rattle.snap_literal.proofs.hashes.split_hashes.Goals as goal
 

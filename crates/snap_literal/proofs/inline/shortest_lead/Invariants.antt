@@ -1,4 +1,4 @@
-use Rattle.snap_literal.proofs.Prelude.{◌≡◌, ◌++◌, length, Utf8, shadow, chars, shortest, indentation_of, lines}
+use Rattle.snap_literal.proofs.Prelude.{◌≡◌, length, Utf8, shadow, chars, shortest, indentation_of, lines}
 use Rattle.snap_literal.proofs.inline.shortest_lead.Given as goal
 
 abbrev pub invariant-loop-line : goal.invariant-loop-line

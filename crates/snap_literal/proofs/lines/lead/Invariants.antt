@@ -1,4 +1,4 @@
-use Rattle.snap_literal.proofs.Prelude.{◌≡◌, ◌++◌, length, Utf8, shadow, chars}
+use Rattle.snap_literal.proofs.Prelude.{length, Utf8, shadow, chars}
 use Rattle.snap_literal.proofs.LineLeads.{IsLead}
 use Rattle.snap_literal.proofs.lines.lead.Given as goal
 

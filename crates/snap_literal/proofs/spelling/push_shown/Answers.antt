@@ -1,4 +1,4 @@
-use Rattle.snap_literal.proofs.Prelude.{◌≡◌, ◌++◌, ◌∷◌, [], true, rules, flat_map, list_any, chars, framed_line, shown, line_parts, is_line_end}
+use Rattle.snap_literal.proofs.Prelude.{◌≡◌, ◌++◌, true, rules, list_any, chars, shown, is_line_end}
 use Rattle.snap_literal.proofs.LineParts.{framed_past, framed_end, on_ok}
 use Rattle.snap_literal.proofs.spelling.push_shown.Goals as goal
 

@@ -1,4 +1,4 @@
-use Rattle.snap_literal.proofs.Prelude.{◌≡◌, ◌++◌, ◌∷◌, length, Utf8, shadow, flat_map, chars, framed_line, line_parts}
+use Rattle.snap_literal.proofs.Prelude.{◌≡◌, ◌++◌, length, Utf8, shadow, flat_map, chars, framed_line, line_parts}
 use Rattle.snap_literal.proofs.spelling.push_shown.Given as goal
 
 abbrev pub invariant-loop-line : goal.invariant-loop-line
