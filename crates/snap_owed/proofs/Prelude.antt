@@ -20,8 +20,7 @@ pub use Rattle.snap_token.specs.Folding.{no_gap}
 pub use Rattle.snap_token.specs.Mark.{Mark}
 pub use Rattle.snap_token.specs.Place.{Place, before_nul, mark_of, skipped}
 pub use Rattle.snap_token.specs.Plain.{Plain, plain, plain_from, is_outside, ends_plain}
-pub use Rattle.snap_token.specs.Quoted.{double, hexadecimal, is_code, Quoted, double_from}
-unfoldable pub use Rattle.snap_token.specs.Quoted.{digits}
+pub use Rattle.snap_token.specs.Quoted.{double, hexadecimal, is_code, Quoted, double_from, digits}
 pub use Rattle.snap_token.specs.declared.folding.Fold.TheVariants.{Inline, Broken}
 pub use Rattle.snap_token.specs.declared.folding.Gap.{Gap}
 pub use Rattle.snap_token.specs.declared.token.Token.{Token}
