@@ -2,7 +2,8 @@
 use Rattle.snap_owed.proofs.Prelude.{◌≡◌, ℕ, zero, suc, ◌+◌, ◌/◌, ◌%◌, ◌<◌, List, [], ◌∷◌, ◌++◌, Bool, true, false, not, refl, ap, arith, nat_lt, append_assoc, nat_tests, ◌||◌, ◌&&◌, ◌==◌, slice_index, if◌then◌else◌, is_some, digit_glyph, flat_map, list_all, escaped, escaped_code, is_digit, before_nul, hexadecimal, Form, Forms, Entry, Entries, Scalar, bare, quote, square, curly, scalar, hollow, list, dict, last, item, simple, complex, only, pair, IsPrintable, ArePrintable, IsEntry, AreEntries, text_at, inside, entry_at, entries_at, value_block, spelled, blanks, is_scalar, is_start, is_tail, is_word_start, is_word_character, or_parts, and_parts, not_true}
 use Rattle.snap_owed.proofs.Escapes.{apart, glyph}
 use Rattle.snap_owed.proofs.Forms.{key_facts}
-use Rattle.snap_owed.proofs.Words.{word_character}
+use Rattle.snap_owed.proofs.Quotes.{small-code, pick-small}
+use Rattle.snap_owed.proofs.Words.{word_character, if-true, if-false}
 
 abbrev pub is_no_nul : ℕ → Bool
 is_no_nul c = not (c == 0)
@@ -43,13 +44,6 @@ pub pick : (P : List ℕ → Type 0) (b : Bool) (e f : List ℕ) → P e → (b 
 pick P true e f yes_ no_ = yes_
 pick P false e f yes_ no_ = no_ refl
 
-pub pick-small : (P : List ℕ → Type 0) (b : Bool) (e f : List ℕ) → (b ≡ true → P e) → (b ≡ false → P f) → P (if b then e else f)
-pick-small P true e f yes_ no_ = yes_ refl
-pick-small P false e f yes_ no_ = no_ refl
-
-pub small-code : (c : ℕ) → nat_lt c 32 || c == 127 ≡ true → c < 128
-small-code c h = grind (arith, nat_tests)
-
 no-nul-escaped : (c : ℕ) → has_no_nul (escaped c) ≡ true
 no-nul-escaped c =
     let P : List ℕ → Type 0 = λ e. has_no_nul e ≡ true in
@@ -65,14 +59,6 @@ no-nul-quoted [] = refl
 no-nul-quoted (c ∷ s) =
     let split : has_no_nul (escaped c ++ (flat_map escaped s ++ 34 ∷ [])) ≡ true = no-nul-append (escaped c) (flat_map escaped s ++ 34 ∷ []) (no-nul-escaped c) (no-nul-quoted s) in
     rw (append_assoc (escaped c) (flat_map escaped s) (34 ∷ [])) split
-
-pub if-true : (b x y : Bool) → b ≡ true → (if b then x else y) ≡ true → x ≡ true
-if-true true x y e h = h
-if-true false x y e h = cc
-
-pub if-false : (b x y : Bool) → b ≡ false → (if b then x else y) ≡ true → y ≡ true
-if-false false x y e h = h
-if-false true x y e h = cc
 
 abbrev Nulless : List ℕ → Type 0
 Nulless cs = (b : Bool) → is_tail b cs ≡ true → has_no_nul cs ≡ true

@@ -1,7 +1,13 @@
 -- Double quotes are read as the text that is escaped between them.
 use Rattle.snap_owed.proofs.Prelude.{◌≡◌, ℕ, suc, ◌+◌, ◌*◌, ◌<◌, ◌/◌, ◌%◌, List, [], ◌∷◌, ◌++◌, Bool, true, false, refl, ap, ◌∙◌, arith, sym, subst, Some, Option, nat_lt, length, append-nil, append_assoc, nat_tests, ◌||◌, ◌&&◌, ◌==◌, if◌then◌else◌, digit_glyph, flat_map, escaped, escaped_code, is_blank, is_break, is_document_indicator, no_gap, Place, skipped, Quoted, double, double_from, digits, is_code, Inline, Gap, spelled, quote, here, or_parts}
 use Rattle.snap_owed.proofs.Escapes.{coded, glyph, passed}
-use Rattle.snap_owed.proofs.Nuls.{small-code, pick-small}
+
+pub pick-small : (P : List ℕ → Type 0) (b : Bool) (e f : List ℕ) → (b ≡ true → P e) → (b ≡ false → P f) → P (if b then e else f)
+pick-small P true e f yes_ no_ = yes_ refl
+pick-small P false e f yes_ no_ = no_ refl
+
+pub small-code : (c : ℕ) → nat_lt c 32 || c == 127 ≡ true → c < 128
+small-code c h = grind (arith, nat_tests)
 
 -- a gap of blanks on one line
 abbrev pub gap_in_line : List ℕ → Gap

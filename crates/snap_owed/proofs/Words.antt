@@ -2,7 +2,14 @@
 use Rattle.snap_owed.proofs.Prelude.{◌≡◌, ℕ, zero, suc, ◌+◌, List, [], ◌∷◌, ◌++◌, Bool, true, false, refl, ◌∙◌, arith, add-zero, append_assoc, append-nil, zero-add, length, ◌⊎◌, inl, inr, Some, nat_tests, ◌||◌, ◌&&◌, ◌==◌, slice_index, not, if◌then◌else◌, is_break, is_blank, is_document_indicator, no_gap, Place, Plain, plain, is_outside, ends_plain, Broken, Gap, innermost, blanks, is_word_character, is_tail, here, or_parts, and_left, and_right, and_parts, not_true}
 use Rattle.snap_owed.proofs.Quotes.{gap_in_line}
 use Rattle.snap_owed.proofs.Skips.{stops_at}
-use Rattle.snap_owed.proofs.Nuls.{if-true, if-false}
+
+pub if-true : (b x y : Bool) → b ≡ true → (if b then x else y) ≡ true → x ≡ true
+if-true true x y e h = h
+if-true false x y e h = cc
+
+pub if-false : (b x y : Bool) → b ≡ false → (if b then x else y) ≡ true → y ≡ true
+if-false false x y e h = h
+if-false true x y e h = cc
 
 -- where a plain scalar ends behind a line
 abbrev pub EndsWord : List ℕ → ℕ → List ℕ → Type 0

@@ -16,9 +16,9 @@ pub use Rattle.snap_json.specs.declared.format.Format.TheVariants.{Condensed}
 pub use Rattle.snap_owed.proofs.Beginnings.{quote-kind, open_kind, close_kind, opened-kind, closed-kind, Starts, starts}
 pub use Rattle.snap_owed.proofs.Forms.{begins-hollow, steps-append}
 pub use Rattle.snap_owed.proofs.Keys.{key_at, insert-at}
-pub use Rattle.snap_owed.proofs.Nuls.{pick-small, has_no_nul, no-nul-append, no-nul-more, no-nul-code, no-nul-scalar, pick, without-nul}
+pub use Rattle.snap_owed.proofs.Nuls.{has_no_nul, no-nul-append, no-nul-more, no-nul-code, no-nul-scalar, pick, without-nul}
 pub use Rattle.snap_owed.proofs.Printables.{bare-int, AreDigits, decimal-digits}
-pub use Rattle.snap_owed.proofs.Quotes.{Passes, passes-letter, passes-same, passes-code, passes-other-by, quoted-by, closed_by}
+pub use Rattle.snap_owed.proofs.Quotes.{Passes, passes-letter, passes-same, passes-code, passes-other-by, quoted-by, closed_by, pick-small}
 pub use Rattle.snap_owed.proofs.Skips.{stops_at, to_next-stops}
 pub use Rattle.snap_owed.specs.Forms.{bare, Brackets, square, curly, open_sign, close_sign, open_token, close_token, is_bare, is_start, is_tail}
 pub use Rattle.snap_owed.specs.Stands.{here}
