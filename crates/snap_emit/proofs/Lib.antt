@@ -1,4 +1,5 @@
 mod Prelude
+mod Sizes
 mod Printing
 mod Magnitudes
 mod PlainRead

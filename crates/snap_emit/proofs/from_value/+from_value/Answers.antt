@@ -1,4 +1,5 @@
-use Rattle.snap_emit.proofs.Prelude.{List, length, sym, ap, subst, arith, into_iter_items, into_iter_len, Content}
+use Rattle.snap_emit.proofs.Prelude.{rules, List, length, sym, ap, subst, arith, into_iter_items, into_iter_len, Content}
+use Rattle.snap_emit.proofs.Sizes.{array-smaller, hash-smaller, all-left, item-smaller, fewer-left, all-pairs-left, key-smaller, value-smaller, fewer-pairs-left}
 use Rattle.snap_emit.proofs.PlainRead.{AreMade, ArePairsMade, hash-none, hash-some, hash-found, none-made, one-made, never-made, all-made, none-found, one-found, all-found, no-pairs-made, one-pair-made, key-never-made, value-never-made, all-pairs-made, none-found-in, one-found-in, all-found-in, nothing-left}
 use Rattle.snap_emit.proofs.from_value.+from_value.Goals as goal
 
@@ -28,6 +29,7 @@ trees_of-loop-item-preserved t c =
       counted = omega (arith, length_is);
       made = subst P (sym {A = List Content} c.in_ok-push-in-Some-2.ensures.items)
           (one-made c.loop-item.made.items left more c.args.items.items c.in-Some.item c.in-Some-2.item c.loop-item.invariant.made c.in-Some.ensures.steps.0 (rw c.in-Some-2.is at c.in_ok-tree_of.ensures.made));
+      left = fewer-left left more c.args.items.items c.in-Some.item c.loop-item.invariant.left c.in-Some.ensures.steps.0;
       number = one-found c.loop-item.found c.tree_of.new.found c.args.found.now left more c.args.items.items c.in-Some.item c.loop-item.invariant.number c.in-Some.ensures.steps.0
           (rw c.in-Some-2.is at c.in_ok-tree_of.ensures.number);
     }
@@ -42,6 +44,7 @@ trees_of-loop-item-init t c =
       is_finite = tt;
       counted = omega (arith, counted, c.into_iter-item-iterator.ensures.into_iter_gives.1, c.args.items.ok.0);
       made = subst P (sym c.in_ok-made.ensures.items) (none-made (into_iter_items c.into_iter-item-iterator.result) c.args.items.items same);
+      left = all-left (into_iter_items c.into_iter-item-iterator.result) c.args.items.items same;
       number = none-found c.args.found.now (into_iter_items c.into_iter-item-iterator.result) c.args.items.items same;
     }
 
@@ -70,6 +73,7 @@ pairs_of-loop-key-init t c =
       is_finite = tt;
       counted = omega (arith, counted, c.into_iter-key-iterator.ensures.into_iter_gives.1, c.args.pairs.ok.0);
       made = subst P (sym c.in_ok-made.ensures.items) (no-pairs-made (into_iter_items c.into_iter-key-iterator.result) c.args.pairs.items same);
+      left = all-pairs-left (into_iter_items c.into_iter-key-iterator.result) c.args.pairs.items same;
       number = none-found-in c.args.found.now (into_iter_items c.into_iter-key-iterator.result) c.args.pairs.items same;
     }
 
@@ -86,6 +90,7 @@ pairs_of-loop-key-preserved t c =
       made = subst P (sym {A = List (Content × Content)} c.in_ok-push.ensures.items)
           (one-pair-made c.loop-key.made.items left more c.args.pairs.items (c.in-Some.key, c.in-Some.value) (c.in-Some-2.key, c.in-Some-3.value) c.loop-key.invariant.made c.in-Some.ensures.steps.0
           (rw c.in-Some-2.is at c.in_ok-key.ensures.made) (rw c.in-Some-3.is at c.in_ok-value.ensures.made));
+      left = fewer-pairs-left left more c.args.pairs.items (c.in-Some.key, c.in-Some.value) c.loop-key.invariant.left c.in-Some.ensures.steps.0;
       number = one-found-in c.loop-key.found c.tree_of.new.found c.tree_of-in-loop-key.new.found c.args.found.now left more c.args.pairs.items (c.in-Some.key, c.in-Some.value) c.loop-key.invariant.number
           c.in-Some.ensures.steps.0 (rw c.in-Some-2.is at c.in_ok-key.ensures.number) (rw c.in-Some-3.is at c.in_ok-value.ensures.number);
     }
@@ -109,3 +114,26 @@ pub pairs_of-returns-clause-number : goal.pairs_of-returns-clause-number
 pairs_of-returns-clause-number t c =
     all-found-in c.loop-key.found c.args.found.now (into_iter_items c.loop-key.key-iterator) c.args.pairs.items c.loop-key.invariant.number
     (nothing-left (into_iter_items c.loop-key.key-iterator) (into_iter_len c.loop-key.key-iterator) c.loop-key.invariant.counted c.in-None.ensures.steps.0)
+
+pub tree_of-trees_of-requires : goal.tree_of-trees_of-requires
+tree_of-trees_of-requires t c =
+    let less = array-smaller c.args.value c.in-Array.items c.into_vec.result.items c.in-Array.is c.into_vec.ensures in search rules
+
+pub tree_of-pairs_of-requires : goal.tree_of-pairs_of-requires
+tree_of-pairs_of-requires t c =
+    let less = hash-smaller c.args.value c.in-Hash.pairs c.into_vec-in-Hash.result.items c.in-Hash.is c.into_vec-in-Hash.ensures in search rules
+
+pub trees_of-tree_of-requires : goal.trees_of-tree_of-requires
+trees_of-tree_of-requires t c =
+    let less = item-smaller (into_iter_items c.loop-item.item-iterator) (into_iter_items c.next.new.self) c.args.items.items c.in-Some.item c.loop-item.invariant.left c.in-Some.ensures.steps.0 in
+    search rules
+
+pub pairs_of-tree_of-requires : goal.pairs_of-tree_of-requires
+pairs_of-tree_of-requires t c =
+    let less = key-smaller (into_iter_items c.loop-key.key-iterator) (into_iter_items c.next.new.self) c.args.pairs.items (c.in-Some.key, c.in-Some.value) c.loop-key.invariant.left
+    c.in-Some.ensures.steps.0 in search rules
+
+pub pairs_of-tree_of-requires-in-loop-key : goal.pairs_of-tree_of-requires-in-loop-key
+pairs_of-tree_of-requires-in-loop-key t c =
+    let less = value-smaller (into_iter_items c.loop-key.key-iterator) (into_iter_items c.next.new.self) c.args.pairs.items (c.in-Some.key, c.in-Some.value) c.loop-key.invariant.left
+    c.in-Some.ensures.steps.0 in search rules
