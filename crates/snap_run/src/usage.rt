@@ -1,5 +1,6 @@
 //! What the program says of itself.
 ghost use Rattle.std.specs.Prelude.{◌≡◌, ◌++◌, List, ℕ, None, Some, MatchOption};
+ghost use Rattle.snap_outside.specs.Causes.{CountedIf};
 ghost use Rattle.snap_run.specs.Answers.{text_asked};
 ghost use Rattle.snap_run.specs.Status.{IsTold, says_write_fault};
 
