@@ -13,7 +13,7 @@ use Rattle.snap_assert.specs.Judging.{May}
 use Rattle.snap_assert.specs.Session.{empty_session}
 use Rattle.snap_assert.specs.Assertions.{Assertion, assertion_of, asked_in}
 use Rattle.snap_assert.specs.Outcomes.{IsAnswered, ErrorCause, left_by}
-use Rattle.snap_run.specs.declared.documents.DocumentError.TheVariants.{NoRequest, FileIo, WriteFault, OutOfMemory}
+use Rattle.snap_run.specs.declared.document_error.DocumentError.TheVariants.{NoRequest, FileIo, WriteFault, OutOfMemory}
 use Rattle.snap_assert.specs.declared.error.AssertError.{AssertError}
 use Rattle.snap_assert.specs.declared.error.AssertError.TheVariants as refusal
 use Rattle.snap_assert.specs.declared.outcome.Verdict.{Verdict}

@@ -9,6 +9,7 @@
 
 mod arguments;
 pub mod command;
+mod document_error;
 mod documents;
 pub mod laws;
 mod runner;
