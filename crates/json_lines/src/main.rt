@@ -20,8 +20,11 @@ fn add_text(
 ) -> Result<(), OutOfMemory> {
     match text {
         Ok(text) => add_escaped(alloc, told, text.as_str()),
-        Err(JsonError::JsonKey) => told.push_ascii(alloc, "! JsonKey"),
         Err(JsonError::OutOfMemory) => Err(OutOfMemory),
+        Err(error) => {
+            let why = format!(in alloc; "! {error}")?;
+            told.push_str(alloc, why.as_str())
+        }
     }
 }
 

@@ -1,10 +1,6 @@
-//! Tests of `snap_json` through its public calls.
+//! Tests of `snap_json` that rows can't say: several calls of one serializer.
 //! They stand apart, since a crate with tests is proved twice.
 #![tactic(auto)]
 
 #[cfg(test)]
-mod keys;
-#[cfg(test)]
-mod texts;
-#[cfg(test)]
-mod trees;
+mod serializers;
