@@ -3,40 +3,45 @@ use crate::shown::{add_metadata, add_snapshot};
 use row_lines::{add_escaped, first_column, text_of};
 use snap_content::{Error, OutOfMemory, Text};
 use snap_outside::SteadyStore;
-use snap_store::Snapshot;
 use snap_store::legacy::{legacy_metadata, legacy_text};
-use snap_store::split::split_file;
+use snap_store::split::{Headed, split_file};
+use snap_store::{MetaData, Snapshot};
 use snapshot_lines::bytes_of;
 use std::alloc::Global;
+
+/// Adds the header and the body of a file.
+fn add_headed(alloc: Global, line: &mut Text, headed: &Headed) -> Result<(), OutOfMemory> {
+    add_escaped(alloc, line, headed.header.as_str())?;
+    line.push_ascii(alloc, "\t")?;
+    add_escaped(alloc, line, headed.body.as_str())
+}
 
 /// The header and the body of a file.
 pub fn split_line(alloc: Global, columns: &str) -> Result<Text, OutOfMemory> {
     let file = text_of(alloc, columns)?;
     let mut line = Text::empty();
     match split_file(alloc, file.as_str())? {
-        Some(headed) => {
-            add_escaped(alloc, &mut line, headed.header.as_str())?;
-            line.push_ascii(alloc, "\t")?;
-            add_escaped(alloc, &mut line, headed.body.as_str())?;
-        }
+        Some(headed) => add_headed(alloc, &mut line, &headed)?,
         None => line.push_ascii(alloc, "no header")?,
     }
+    Ok(line)
+}
+
+/// What metadata tell, and a text behind them.
+fn told_before(alloc: Global, metadata: &MetaData, text: &Text) -> Result<Text, OutOfMemory> {
+    let mut line = Text::empty();
+    add_metadata(alloc, &mut line, metadata)?;
+    line.push_ascii(alloc, "\t")?;
+    add_escaped(alloc, &mut line, text.as_str())?;
     Ok(line)
 }
 
 /// The metadata and the body of a file that has no header.
 pub fn legacy_line(alloc: Global, columns: &str) -> Result<Text, OutOfMemory> {
     let file = text_of(alloc, columns)?;
+    let text = legacy_text(alloc, file.as_str())?;
     let metadata = legacy_metadata(alloc, file.as_str())?;
-    let mut line = Text::empty();
-    add_metadata(alloc, &mut line, &metadata)?;
-    line.push_ascii(alloc, "\t")?;
-    add_escaped(
-        alloc,
-        &mut line,
-        legacy_text(alloc, file.as_str())?.as_str(),
-    )?;
-    Ok(line)
+    told_before(alloc, &metadata, &text)
 }
 
 /// The snapshot of a store's file.
