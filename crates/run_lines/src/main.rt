@@ -9,6 +9,7 @@
 //! - `long`: the words, and of how many line ends the input is. The answer ends with how many of them were not read.
 //! - `request`: a document, and whether it is a request.
 //! - `status`: the name of a status, the number of its document, and its path or its kind. The answer is its exit status and what it says.
+//! - `conclude`: the same of a status that ends the program. The answer is the exit status, and what the sink of errors is told.
 //! - `usage` and `usage_lines`: whether the usage text has this part, and whether it has at most so many lines.
 //!
 //! An input that begins with `bytes ` is the bytes of the numbers behind it. A line that begins with `# ` is a heading, and is answered
@@ -28,7 +29,7 @@ mod usage;
 use crate::faulty::run_line;
 use crate::long::long_line;
 use crate::requests::request_line;
-use crate::statuses::status_line;
+use crate::statuses::{conclude_line, status_line};
 use crate::steady::steady_line;
 use crate::usage::{usage_length_line, usage_line};
 use row_lines::{answer_rows, first_column};
@@ -43,6 +44,7 @@ fn answer_case(alloc: Global, call: &str, columns: &str) -> Result<Text, anyhow:
         "long" => long_line(alloc, columns),
         "request" => request_line(alloc, columns),
         "status" => status_line(alloc, columns),
+        "conclude" => conclude_line(alloc, columns),
         "usage" => usage_line(alloc, columns),
         "usage_lines" => usage_length_line(alloc, columns),
         _ => Ok(Text::from_str(alloc, "! no such call")?),

@@ -1,7 +1,9 @@
 //! The text of each status.
-use crate::columns::add_number;
+use crate::columns::{add_bytes, add_number};
 use row_lines::{add_text_column, first_column, text_of};
 use snap_content::{OutOfMemory, Text};
+use snap_outside::SteadySink;
+use snap_run::command::conclude;
 use snap_run::{RefusalKind, Status};
 use std::alloc::Global;
 
@@ -49,14 +51,34 @@ fn status_named(
     }
 }
 
-/// The exit status of a status, and what it says.
-pub fn status_line(alloc: Global, columns: &str) -> Result<Text, anyhow::Error> {
+/// The status of these columns.
+fn status_of(alloc: Global, columns: &str) -> Result<Status, OutOfMemory> {
     let (name, rest) = first_column(columns);
     let (document, rest) = first_column(rest);
-    let status = status_named(alloc, name, document.parse().unwrap_or(0), rest)?;
+    status_named(alloc, name, document.parse().unwrap_or(0), rest)
+}
+
+/// The exit status of a status, and what it says.
+pub fn status_line(alloc: Global, columns: &str) -> Result<Text, anyhow::Error> {
+    let status = status_of(alloc, columns)?;
     let mut line = Text::empty();
     add_number(alloc, &mut line, "status", u64::from(status.code()))?;
     let said = status.describe(alloc)?;
     add_text_column(alloc, &mut line, said.as_str())?;
+    Ok(line)
+}
+
+/// The exit status that ends the program with a status, and what the sink of errors is told.
+pub fn conclude_line(alloc: Global, columns: &str) -> Result<Text, anyhow::Error> {
+    let status = status_of(alloc, columns)?;
+    Ok(concluded(alloc, &status)?)
+}
+
+fn concluded(alloc: Global, status: &Status) -> Result<Text, OutOfMemory> {
+    let mut errors = SteadySink::new(alloc);
+    let code = conclude(alloc, status, &mut errors);
+    let mut line = Text::empty();
+    add_number(alloc, &mut line, "status", u64::from(code))?;
+    add_bytes(alloc, &mut line, errors.written())?;
     Ok(line)
 }

@@ -14,8 +14,6 @@ pub mod laws;
 mod runner;
 pub mod running;
 pub mod status;
-#[cfg(test)]
-mod tests;
 pub mod usage;
 mod words;
 

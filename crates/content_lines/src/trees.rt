@@ -1,0 +1,45 @@
+//! Trees that are sorted, copied, read and written into.
+use crate::columns::{add_tree_column, add_word, equal_or_not};
+use row_lines::add_text_column;
+use snap_content::{Content, OutOfMemory, Text};
+use std::alloc::Global;
+
+/// The tree with its maps in order, and what it is when it is sorted once more.
+pub fn sort_line(alloc: Global, tree: &mut Content) -> Result<Text, OutOfMemory> {
+    let mut line = Text::empty();
+    tree.sort_maps(alloc)?;
+    add_tree_column(alloc, &mut line, tree)?;
+    tree.sort_maps(alloc)?;
+    add_tree_column(alloc, &mut line, tree)?;
+    Ok(line)
+}
+
+/// Whether a copy is equal, and what the copy is.
+pub fn copy_line(alloc: Global, tree: &Content) -> Result<Text, OutOfMemory> {
+    let copy = tree.try_clone(alloc)?;
+    let mut line = Text::empty();
+    add_word(alloc, &mut line, equal_or_not(copy == *tree))?;
+    add_tree_column(alloc, &mut line, &copy)?;
+    Ok(line)
+}
+
+/// The text that is read of the tree, and how many items are, of which it has one at most.
+pub fn read_line(alloc: Global, tree: &Content) -> Result<Text, OutOfMemory> {
+    let mut line = Text::empty();
+    if let Some(text) = tree.as_str() {
+        add_text_column(alloc, &mut line, text)?;
+    }
+    if let Some(items) = tree.as_slice() {
+        let word = format!(in alloc; "{} items", items.len())?;
+        add_word(alloc, &mut line, word.as_str())?;
+    }
+    Ok(line)
+}
+
+/// The tree, where the inner one is written inside its wrappers.
+pub fn inside_line(alloc: Global, mut tree: Content, inner: Content) -> Result<Text, OutOfMemory> {
+    *tree.resolve_inner_mut() = inner;
+    let mut line = Text::empty();
+    add_tree_column(alloc, &mut line, &tree)?;
+    Ok(line)
+}

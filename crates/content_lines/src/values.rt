@@ -1,0 +1,121 @@
+//! Trees that are made of values of std's types and of the house's.
+use crate::columns::add_tree_column;
+use crate::error::AskError;
+use row_lines::{first_column, text_of};
+use snap_content::{Content, OutOfMemory, Text, ToContent};
+use std::alloc::Global;
+use tree_lines::tree_of_column;
+
+/// The tree that is made of a value of a type, which stands in the other columns.
+pub fn value_line(alloc: Global, columns: &str) -> Result<Text, anyhow::Error> {
+    let (kind, rest) = first_column(columns);
+    let tree = tree_of_value(alloc, kind, rest)?;
+    Ok(tree_line(alloc, &tree)?)
+}
+
+fn tree_line(alloc: Global, tree: &Content) -> Result<Text, OutOfMemory> {
+    let mut line = Text::empty();
+    add_tree_column(alloc, &mut line, tree)?;
+    Ok(line)
+}
+
+/// The tree of a value.
+fn made<T: ToContent>(alloc: Global, value: &T) -> Result<Content, OutOfMemory> {
+    value.to_content(alloc)
+}
+
+fn tree_of_value(alloc: Global, kind: &str, rest: &str) -> Result<Content, anyhow::Error> {
+    match kind {
+        "Content" => of_tree(alloc, rest),
+        "Text" | "&str" | "from_str" => Ok(of_text(alloc, kind, rest)?),
+        "Vec<&str>" | "&[&str]" => Ok(of_list(alloc, kind, rest)?),
+        "Option<u8>" => Ok(made(alloc, &rest.parse::<u8>().ok())?),
+        "Option<bool>" => Ok(made(alloc, &truth(rest))?),
+        "()" => Ok(made(alloc, &())?),
+        "char" => of_character(alloc, rest),
+        _ => of_number(alloc, kind, rest),
+    }
+}
+
+fn of_tree(alloc: Global, column: &str) -> Result<Content, anyhow::Error> {
+    let tree = tree_of_column(alloc, column)?;
+    Ok(made(alloc, &tree)?)
+}
+
+fn of_text(alloc: Global, kind: &str, column: &str) -> Result<Content, OutOfMemory> {
+    let text = text_of(alloc, column)?;
+    match kind {
+        "Text" => made(alloc, &text),
+        "&str" => made(alloc, &text.as_str()),
+        _ => Content::from_str(alloc, text.as_str()),
+    }
+}
+
+/// The tree of a list of texts, one in each column.
+fn of_list(alloc: Global, kind: &str, columns: &str) -> Result<Content, OutOfMemory> {
+    let mut list = Vec::new(alloc);
+    for column in columns.split('\t') {
+        list.push(column)?;
+    }
+    if kind == "Vec<&str>" {
+        made(alloc, &list)
+    } else {
+        made(alloc, &list.as_slice())
+    }
+}
+
+fn truth(word: &str) -> Option<bool> {
+    match word {
+        "true" => Some(true),
+        "false" => Some(false),
+        _ => None,
+    }
+}
+
+fn of_character(alloc: Global, column: &str) -> Result<Content, anyhow::Error> {
+    match column.chars().next() {
+        Some(character) => Ok(made(alloc, &character)?),
+        None => Err(AskError::NoValue.into()),
+    }
+}
+
+/// The tree of a number of a type, where the digits are one.
+macro_rules! parsed {
+    ($alloc:expr, $digits:expr, $kind:ty) => {
+        match $digits.parse::<$kind>() {
+            Ok(number) => Ok(made($alloc, &number)?),
+            Err(_) => Err(AskError::NoValue.into()),
+        }
+    };
+}
+
+fn of_number(alloc: Global, kind: &str, digits: &str) -> Result<Content, anyhow::Error> {
+    match kind {
+        "u8" => parsed!(alloc, digits, u8),
+        "u16" => parsed!(alloc, digits, u16),
+        "u32" => parsed!(alloc, digits, u32),
+        "u64" => parsed!(alloc, digits, u64),
+        "u128" => parsed!(alloc, digits, u128),
+        "usize" => parsed!(alloc, digits, usize),
+        _ => of_signed_number(alloc, kind, digits),
+    }
+}
+
+fn of_signed_number(alloc: Global, kind: &str, digits: &str) -> Result<Content, anyhow::Error> {
+    match kind {
+        "i8" => parsed!(alloc, digits, i8),
+        "i16" => parsed!(alloc, digits, i16),
+        "i32" => parsed!(alloc, digits, i32),
+        "i64" => parsed!(alloc, digits, i64),
+        "i128" => parsed!(alloc, digits, i128),
+        "isize" => parsed!(alloc, digits, isize),
+        _ => of_truth(alloc, kind, digits),
+    }
+}
+
+fn of_truth(alloc: Global, kind: &str, word: &str) -> Result<Content, anyhow::Error> {
+    match (kind, truth(word)) {
+        ("bool", Some(value)) => Ok(made(alloc, &value)?),
+        _ => Err(AskError::NoValue.into()),
+    }
+}
