@@ -2,7 +2,7 @@
 //! Each line of standard input is a text, with `\n`, `\r`, `\0`, `\t` and `\\` for these characters.
 //! For each text the lines of `event_lines`, and an empty one.
 //! The gate runs it on short texts, on generated documents, and on the smallest text of each refusal,
-//! and compares with what the original's parser answered, or in four rows with what the rules say.
+//! and compares with what the original's parser answered.
 #![tactic(auto)]
 
 mod lines;
