@@ -9,7 +9,7 @@ use std::alloc::Global;
 use std::str;
 
 /// A place in this function and this file, below the workspace `w`.
-pub fn place_in(
+pub(crate) fn place_in(
     alloc: Global,
     function: &str,
     file: &str,
@@ -23,14 +23,14 @@ pub fn place_in(
 }
 
 /// The tree of one pair.
-pub fn pair_tree(alloc: Global, key: &str, number: u8) -> Result<Content, OutOfMemory> {
+pub(crate) fn pair_tree(alloc: Global, key: &str, number: u8) -> Result<Content, OutOfMemory> {
     let mut pairs = Pairs::new(alloc);
     pairs.push((Content::from_str(alloc, key)?, Content::U8(number)))?;
     Ok(Content::Map(pairs))
 }
 
 /// What an assertion of this tree answers.
-pub fn outcome_of(
+pub(crate) fn outcome_of(
     alloc: Global,
     store: &mut SteadyStore,
     update: Update,
@@ -74,7 +74,11 @@ fn add_file(
 }
 
 /// Adds a column with the file that is saved of the tree `id: 42` with these settings.
-pub fn add_saved(alloc: Global, line: &mut Text, settings: &Settings) -> Result<(), anyhow::Error> {
+pub(crate) fn add_saved(
+    alloc: Global,
+    line: &mut Text,
+    settings: &Settings,
+) -> Result<(), anyhow::Error> {
     let mut store = SteadyStore::new(alloc);
     let place = place_in(alloc, "m::test", "src/a.rs")??;
     let tree = pair_tree(alloc, "id", 42)?;

@@ -5,7 +5,7 @@ use snap_select::SelectError;
 use std::alloc::Global;
 
 /// Adds a column with what became of a selector: what is wrong in it and where, if something is. After want of memory there is none.
-pub fn add_taken(
+pub(crate) fn add_taken(
     alloc: Global,
     line: &mut Text,
     taken: Result<(), SelectError>,

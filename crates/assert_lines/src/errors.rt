@@ -40,7 +40,7 @@ fn error_named(alloc: Global, name: &str, rest: &str) -> Result<AssertError, Out
 }
 
 /// What is written of an error.
-pub fn error_line(alloc: Global, columns: &str) -> Result<Text, anyhow::Error> {
+pub(crate) fn error_line(alloc: Global, columns: &str) -> Result<Text, anyhow::Error> {
     let (name, rest) = first_column(columns);
     let error = error_named(alloc, name, rest)?;
     let written = format!(in alloc; "{error}")?;

@@ -49,7 +49,7 @@ fn store_of(alloc: Global, column: &str) -> Result<SteadyStore, OutOfMemory> {
 }
 
 /// The answer of an assertion of the tree `a: 1` that writes nothing, over a store that holds this file.
-pub fn judged_line(alloc: Global, column: &str) -> Result<Text, anyhow::Error> {
+pub(crate) fn judged_line(alloc: Global, column: &str) -> Result<Text, anyhow::Error> {
     let mut store = store_of(alloc, column)?;
     let place = place_in(alloc, "", "src/a.rs")??;
     let settings = Settings::new(alloc)?;

@@ -10,7 +10,7 @@ use snap_select::Redaction;
 use std::alloc::Global;
 
 /// The list of one redaction.
-pub fn list_of(
+pub(crate) fn list_of(
     alloc: Global,
     selector: &str,
     redaction: Redaction,
@@ -28,7 +28,7 @@ fn applied(alloc: Global, redactions: &Redactions) -> Result<Text, anyhow::Error
 }
 
 /// What a list of one redaction makes of 42.
-pub fn list_line(alloc: Global, columns: &str) -> Result<Text, anyhow::Error> {
+pub(crate) fn list_line(alloc: Global, columns: &str) -> Result<Text, anyhow::Error> {
     let (selector, text) = first_column(columns);
     let put = Content::String(text_of(alloc, text)?);
     let list = list_of(alloc, selector, Redaction::from_content(put))?;

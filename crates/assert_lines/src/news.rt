@@ -40,7 +40,7 @@ fn add_texts(alloc: Global, line: &mut Text, settings: &Settings) -> Result<(), 
 }
 
 /// What new settings say, a column each.
-pub fn new_settings_line(alloc: Global) -> Result<Text, anyhow::Error> {
+pub(crate) fn new_settings_line(alloc: Global) -> Result<Text, anyhow::Error> {
     let settings = Settings::new(alloc)?;
     let mut line = Text::empty();
     add_truths(alloc, &mut line, &settings)?;

@@ -7,7 +7,7 @@ use snap_outside::SteadyStore;
 use std::alloc::Global;
 
 /// Whether an assertion may stand in this file.
-pub fn place_line(alloc: Global, column: &str) -> Result<Text, anyhow::Error> {
+pub(crate) fn place_line(alloc: Global, column: &str) -> Result<Text, anyhow::Error> {
     let file = text_of(alloc, column)?;
     let told = match place_in(alloc, "m::test", file.as_str())? {
         Ok(_) => format!(in alloc; "taken")?,
@@ -17,7 +17,7 @@ pub fn place_line(alloc: Global, column: &str) -> Result<Text, anyhow::Error> {
 }
 
 /// The path of the snapshot of an assertion in this function of the file `src/a.b.rs`.
-pub fn path_line(alloc: Global, column: &str) -> Result<Text, anyhow::Error> {
+pub(crate) fn path_line(alloc: Global, column: &str) -> Result<Text, anyhow::Error> {
     let function = text_of(alloc, column)?;
     let place = place_in(alloc, function.as_str(), "src/a.b.rs")??;
     let settings = Settings::new(alloc)?;

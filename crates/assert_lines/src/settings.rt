@@ -14,7 +14,7 @@ fn word(text: &str) -> (&str, &str) {
 }
 
 /// What became of each thing, and the file that is saved then.
-pub fn settings_line(alloc: Global, columns: &str) -> Result<Text, anyhow::Error> {
+pub(crate) fn settings_line(alloc: Global, columns: &str) -> Result<Text, anyhow::Error> {
     let mut settings = Settings::new(alloc)?;
     let mut line = Text::empty();
     for said in columns.split('\t') {

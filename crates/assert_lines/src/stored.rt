@@ -28,7 +28,7 @@ impl Redactor for Numbered {
 }
 
 /// A stored function that puts a text in place of each value.
-pub fn function_line(alloc: Global, selector: &str) -> Result<Text, anyhow::Error> {
+pub(crate) fn function_line(alloc: Global, selector: &str) -> Result<Text, anyhow::Error> {
     let mut settings = Settings::new(alloc)?;
     let function = FnRedactor::new(Box::new(
         alloc,
@@ -44,7 +44,7 @@ pub fn function_line(alloc: Global, selector: &str) -> Result<Text, anyhow::Erro
 }
 
 /// A stored function that puts the count of the steps to a value in its place.
-pub fn depth_line(alloc: Global, selector: &str) -> Result<Text, anyhow::Error> {
+pub(crate) fn depth_line(alloc: Global, selector: &str) -> Result<Text, anyhow::Error> {
     let mut settings = Settings::new(alloc)?;
     let function = FnRedactor::new(Box::new(
         alloc,
@@ -60,7 +60,7 @@ pub fn depth_line(alloc: Global, selector: &str) -> Result<Text, anyhow::Error> 
 }
 
 /// An object that puts its number in place of each value.
-pub fn object_line(alloc: Global, columns: &str) -> Result<Text, anyhow::Error> {
+pub(crate) fn object_line(alloc: Global, columns: &str) -> Result<Text, anyhow::Error> {
     let (selector, digits) = first_column(columns);
     let number = digits.parse::<u8>().unwrap_or(0);
     let mut settings = Settings::new(alloc)?;

@@ -14,7 +14,7 @@ use std::alloc::Global;
 use tree_lines::tree_of_column;
 
 /// The answer to the question of that name.
-pub fn answered(alloc: Global, name: &str, columns: &str) -> Result<Text, anyhow::Error> {
+pub(crate) fn answered(alloc: Global, name: &str, columns: &str) -> Result<Text, anyhow::Error> {
     match name {
         "sort" | "copy" | "held" | "read" => of_one_tree(alloc, name, columns),
         "key" | "key_order" | "order" => of_trees(alloc, name, columns),

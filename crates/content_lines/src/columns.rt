@@ -4,7 +4,7 @@ use std::alloc::Global;
 use tree_lines::{add_column, tree_of_column};
 
 /// The trees of the columns.
-pub fn trees_of(alloc: Global, columns: &str) -> Result<Items, anyhow::Error> {
+pub(crate) fn trees_of(alloc: Global, columns: &str) -> Result<Items, anyhow::Error> {
     let mut trees = Items::new(alloc);
     for column in columns.split('\t') {
         let tree = tree_of_column(alloc, column)?;
@@ -14,7 +14,7 @@ pub fn trees_of(alloc: Global, columns: &str) -> Result<Items, anyhow::Error> {
 }
 
 /// Adds a column with this word, behind a tab where it is not the first.
-pub fn add_word(alloc: Global, line: &mut Text, word: &str) -> Result<(), OutOfMemory> {
+pub(crate) fn add_word(alloc: Global, line: &mut Text, word: &str) -> Result<(), OutOfMemory> {
     if !line.as_str().is_empty() {
         line.push_ascii(alloc, "\t")?;
     }
@@ -22,12 +22,16 @@ pub fn add_word(alloc: Global, line: &mut Text, word: &str) -> Result<(), OutOfM
 }
 
 /// Adds a column with this tree.
-pub fn add_tree_column(alloc: Global, line: &mut Text, tree: &Content) -> Result<(), OutOfMemory> {
+pub(crate) fn add_tree_column(
+    alloc: Global,
+    line: &mut Text,
+    tree: &Content,
+) -> Result<(), OutOfMemory> {
     add_word(alloc, line, "")?;
     add_column(alloc, line, tree)
 }
 
 /// Whether two values are equal, in a word.
-pub fn equal_or_not(is_equal: bool) -> &'static str {
+pub(crate) fn equal_or_not(is_equal: bool) -> &'static str {
     if is_equal { "equal" } else { "unequal" }
 }

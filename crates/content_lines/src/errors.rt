@@ -6,7 +6,7 @@ use std::alloc::Global;
 use std::fmt::Display;
 
 /// What is written of the error of that name, of the path where it has one.
-pub fn error_line(alloc: Global, columns: &str) -> Result<Text, anyhow::Error> {
+pub(crate) fn error_line(alloc: Global, columns: &str) -> Result<Text, anyhow::Error> {
     let (name, column) = first_column(columns);
     if name == "memory" {
         return Ok(told(alloc, &OutOfMemory)?);

@@ -5,7 +5,7 @@ use snap_content::{Blob, Content, Fields, Items, OutOfMemory, Pairs, Text};
 use std::alloc::Global;
 
 /// How many the tree holds, whether a copy of these is equal, and what the copy is: of fields, as a struct without a name.
-pub fn held_line(alloc: Global, tree: &Content) -> Result<Text, anyhow::Error> {
+pub(crate) fn held_line(alloc: Global, tree: &Content) -> Result<Text, anyhow::Error> {
     match tree {
         Content::Bytes(bytes) => Ok(bytes_line(alloc, bytes)?),
         Content::Seq(items) => Ok(items_line(alloc, items)?),

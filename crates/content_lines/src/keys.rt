@@ -5,7 +5,7 @@ use snap_content::{Content, Key, OutOfMemory, Text};
 use std::alloc::Global;
 
 /// What each tree is as a key.
-pub fn keys_line(alloc: Global, trees: &[Content]) -> Result<Text, OutOfMemory> {
+pub(crate) fn keys_line(alloc: Global, trees: &[Content]) -> Result<Text, OutOfMemory> {
     let mut line = Text::empty();
     for tree in trees {
         add_key(alloc, &mut line, tree.as_key())?;

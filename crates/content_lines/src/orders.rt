@@ -15,7 +15,7 @@ fn sign(order: Ordering, is_equal: bool) -> &'static str {
 }
 
 /// A column for each tree, with a sign for each tree.
-pub fn orders_line(alloc: Global, trees: &[Content]) -> Result<Text, OutOfMemory> {
+pub(crate) fn orders_line(alloc: Global, trees: &[Content]) -> Result<Text, OutOfMemory> {
     let mut line = Text::empty();
     for left in trees {
         add_signs(alloc, &mut line, left, trees)?;
@@ -38,7 +38,7 @@ fn add_signs(
 }
 
 /// A column for each tree as a key, with a sign for each tree as a key.
-pub fn key_orders_line(alloc: Global, trees: &[Content]) -> Result<Text, OutOfMemory> {
+pub(crate) fn key_orders_line(alloc: Global, trees: &[Content]) -> Result<Text, OutOfMemory> {
     let mut line = Text::empty();
     for left in trees {
         add_key_signs(alloc, &mut line, left.as_key(), trees)?;

@@ -6,7 +6,7 @@ use snap_content::{Lent, OutOfMemory, Text};
 use std::alloc::Global;
 
 /// The text that the steps make, and how many characters a copy has. It is empty before the first step.
-pub fn text_line(alloc: Global, columns: &str) -> Result<Text, anyhow::Error> {
+pub(crate) fn text_line(alloc: Global, columns: &str) -> Result<Text, anyhow::Error> {
     let mut text = Text::empty();
     for column in columns.split('\t') {
         let (call, rest) = column.split_once(' ').unwrap_or((column, ""));
@@ -55,7 +55,7 @@ fn copied_line(alloc: Global, text: &Text) -> Result<Text, OutOfMemory> {
 }
 
 /// Whether the first text is equal to the second, once borrowed and once held, and its characters where it is held.
-pub fn lent_line(alloc: Global, columns: &str) -> Result<Text, OutOfMemory> {
+pub(crate) fn lent_line(alloc: Global, columns: &str) -> Result<Text, OutOfMemory> {
     let (first, second) = first_column(columns);
     let held = Lent::owned(text_of(alloc, first)?);
     let (borrowed, other) = (Lent::borrowed(first), Lent::borrowed(second));

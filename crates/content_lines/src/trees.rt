@@ -5,7 +5,7 @@ use snap_content::{Content, OutOfMemory, Text};
 use std::alloc::Global;
 
 /// The tree with its maps in order, and what it is when it is sorted once more.
-pub fn sort_line(alloc: Global, tree: &mut Content) -> Result<Text, OutOfMemory> {
+pub(crate) fn sort_line(alloc: Global, tree: &mut Content) -> Result<Text, OutOfMemory> {
     let mut line = Text::empty();
     tree.sort_maps(alloc)?;
     add_tree_column(alloc, &mut line, tree)?;
@@ -15,7 +15,7 @@ pub fn sort_line(alloc: Global, tree: &mut Content) -> Result<Text, OutOfMemory>
 }
 
 /// Whether a copy is equal, and what the copy is.
-pub fn copy_line(alloc: Global, tree: &Content) -> Result<Text, OutOfMemory> {
+pub(crate) fn copy_line(alloc: Global, tree: &Content) -> Result<Text, OutOfMemory> {
     let copy = tree.try_clone(alloc)?;
     let mut line = Text::empty();
     add_word(alloc, &mut line, equal_or_not(copy == *tree))?;
@@ -24,7 +24,7 @@ pub fn copy_line(alloc: Global, tree: &Content) -> Result<Text, OutOfMemory> {
 }
 
 /// The text that is read of the tree, and how many items are, of which it has one at most.
-pub fn read_line(alloc: Global, tree: &Content) -> Result<Text, OutOfMemory> {
+pub(crate) fn read_line(alloc: Global, tree: &Content) -> Result<Text, OutOfMemory> {
     let mut line = Text::empty();
     if let Some(text) = tree.as_str() {
         add_text_column(alloc, &mut line, text)?;
@@ -37,7 +37,11 @@ pub fn read_line(alloc: Global, tree: &Content) -> Result<Text, OutOfMemory> {
 }
 
 /// The tree, where the inner one is written inside its wrappers.
-pub fn inside_line(alloc: Global, mut tree: Content, inner: Content) -> Result<Text, OutOfMemory> {
+pub(crate) fn inside_line(
+    alloc: Global,
+    mut tree: Content,
+    inner: Content,
+) -> Result<Text, OutOfMemory> {
     *tree.resolve_inner_mut() = inner;
     let mut line = Text::empty();
     add_tree_column(alloc, &mut line, &tree)?;

@@ -7,7 +7,7 @@ use std::alloc::Global;
 use tree_lines::tree_of_column;
 
 /// The tree that is made of a value of a type, which stands in the other columns.
-pub fn value_line(alloc: Global, columns: &str) -> Result<Text, anyhow::Error> {
+pub(crate) fn value_line(alloc: Global, columns: &str) -> Result<Text, anyhow::Error> {
     let (kind, rest) = first_column(columns);
     let tree = tree_of_value(alloc, kind, rest)?;
     Ok(tree_line(alloc, &tree)?)

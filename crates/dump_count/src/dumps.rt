@@ -6,7 +6,7 @@ use std::alloc::Global;
 use value_lines::value_of_line;
 
 /// The values of the lines. A line that is no value is passed over.
-pub fn values_of(alloc: Global, lines: &str) -> Result<Vec<Yaml>, OutOfMemory> {
+pub(crate) fn values_of(alloc: Global, lines: &str) -> Result<Vec<Yaml>, OutOfMemory> {
     let mut values = Vec::new(alloc);
     for line in lines.lines() {
         if let Some(value) = value_of_line(alloc, line)? {
@@ -17,7 +17,7 @@ pub fn values_of(alloc: Global, lines: &str) -> Result<Vec<Yaml>, OutOfMemory> {
 }
 
 /// How many bytes the dumps of the values have, each in a text of its own.
-pub fn dumped_bytes(alloc: Global, values: &[Yaml]) -> Result<u64, EmitError> {
+pub(crate) fn dumped_bytes(alloc: Global, values: &[Yaml]) -> Result<u64, EmitError> {
     let mut bytes: u64 = 0;
     for value in values {
         let mut text = Text::empty();

@@ -10,7 +10,7 @@ use tree_lines::tree_of_line;
 use value_lines::value_of_line;
 
 /// The text that a call gives.
-pub fn called(alloc: Global, name: &str, given: &str) -> Result<Text, anyhow::Error> {
+pub(crate) fn called(alloc: Global, name: &str, given: &str) -> Result<Text, anyhow::Error> {
     match name {
         "document" => document(alloc, given),
         "documents" => documents(alloc, given),

@@ -2,7 +2,7 @@
 use thiserror::Error;
 
 #[derive(Clone, Copy, Debug, Error)]
-pub enum CallError {
+pub(crate) enum CallError {
     /// The name is that of no call.
     #[error("NoCall")]
     NoCall,

@@ -6,7 +6,7 @@ use snap_emit::{Header, parse_header};
 use std::alloc::Global;
 
 /// Whether a number in the header is kept as its text, and what is printed of its tree; or why the text is refused.
-pub fn header_line(alloc: Global, text: &str) -> Result<Text, OutOfMemory> {
+pub(crate) fn header_line(alloc: Global, text: &str) -> Result<Text, OutOfMemory> {
     let path = Text::from_str(alloc, "a.snap")?;
     let mut line = Text::empty();
     match parse_header(alloc, text, &path) {

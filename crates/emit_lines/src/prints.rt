@@ -7,7 +7,7 @@ use std::alloc::Global;
 use tree_lines::{LineError, tree_of_line};
 
 /// What is printed of the tree of which these are the words.
-pub fn tree_line(alloc: Global, words: &str) -> Result<Text, OutOfMemory> {
+pub(crate) fn tree_line(alloc: Global, words: &str) -> Result<Text, OutOfMemory> {
     let mut line = Text::empty();
     match tree_of_line(alloc, words) {
         Ok(tree) => add_printed(alloc, &mut line, &tree)?,
@@ -25,7 +25,7 @@ fn add_no_tree(alloc: Global, line: &mut Text, error: LineError) -> Result<(), O
 }
 
 /// What is printed of the tree that a text is read as, or why it is refused.
-pub fn read_line(alloc: Global, text: &str) -> Result<Text, OutOfMemory> {
+pub(crate) fn read_line(alloc: Global, text: &str) -> Result<Text, OutOfMemory> {
     let path = Text::from_str(alloc, "a.snap")?;
     let mut line = Text::empty();
     match parse_str(alloc, text, &path) {
@@ -36,7 +36,11 @@ pub fn read_line(alloc: Global, text: &str) -> Result<Text, OutOfMemory> {
 }
 
 /// Adds what is printed of a tree.
-pub fn add_printed(alloc: Global, line: &mut Text, tree: &Content) -> Result<(), OutOfMemory> {
+pub(crate) fn add_printed(
+    alloc: Global,
+    line: &mut Text,
+    tree: &Content,
+) -> Result<(), OutOfMemory> {
     let printed = to_string(alloc, tree, false)?;
     add_escaped(alloc, line, printed.as_str())
 }

@@ -4,7 +4,11 @@ use snap_content::{Error, OutOfMemory, Text};
 use std::alloc::Global;
 
 /// Adds `!`, the name of the error and the path in it. After want of memory there is no line.
-pub fn add_refusal(alloc: Global, line: &mut Text, error: &Error) -> Result<(), OutOfMemory> {
+pub(crate) fn add_refusal(
+    alloc: Global,
+    line: &mut Text,
+    error: &Error,
+) -> Result<(), OutOfMemory> {
     match error {
         Error::FailedParsingYaml(path) => add_named(alloc, line, "! FailedParsingYaml ", path),
         Error::FloatText(path) => add_named(alloc, line, "! FloatText ", path),

@@ -6,7 +6,7 @@ use std::alloc::Global;
 
 /// A line for each value, `DEPTH NAME` and what it holds, a list before its items and a pair's key before its value;
 /// or `! MARK CODE` where the text is refused. A mark is its index, line and column.
-pub fn document_lines(alloc: Global, text: &str) -> Result<Text, OutOfMemory> {
+pub(crate) fn document_lines(alloc: Global, text: &str) -> Result<Text, OutOfMemory> {
     let mut lines = Text::empty();
     match YamlLoader::load_from_str(alloc, text) {
         Ok(documents) => add_items(alloc, &mut lines, 0, &documents)?,

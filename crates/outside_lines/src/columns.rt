@@ -5,12 +5,12 @@ use std::alloc::Global;
 use std::str;
 
 /// The first word of a column, and what stands behind the blank there.
-pub fn cut_word(column: &str) -> (&str, &str) {
+pub(crate) fn cut_word(column: &str) -> (&str, &str) {
     column.split_once(' ').unwrap_or((column, ""))
 }
 
 /// The numbers of a column, a blank between each two.
-pub fn numbers_of(alloc: Global, column: &str) -> Result<Vec<u64>, OutOfMemory> {
+pub(crate) fn numbers_of(alloc: Global, column: &str) -> Result<Vec<u64>, OutOfMemory> {
     let mut numbers = Vec::new(alloc);
     for digits in column.split(' ') {
         numbers.push(digits.parse::<u64>().unwrap_or(0))?;
@@ -19,7 +19,7 @@ pub fn numbers_of(alloc: Global, column: &str) -> Result<Vec<u64>, OutOfMemory> 
 }
 
 /// Adds a column with the text of these bytes behind a sign, which tells it from a word.
-pub fn add_bytes(alloc: Global, line: &mut Text, bytes: &[u8]) -> Result<(), OutOfMemory> {
+pub(crate) fn add_bytes(alloc: Global, line: &mut Text, bytes: &[u8]) -> Result<(), OutOfMemory> {
     match str::from_utf8(bytes) {
         Ok(text) => {
             add_text_column(alloc, line, "=")?;
@@ -27,15 +27,4 @@ pub fn add_bytes(alloc: Global, line: &mut Text, bytes: &[u8]) -> Result<(), Out
         }
         Err(_) => add_text_column(alloc, line, "! no text"),
     }
-}
-
-/// Adds a column with a number behind a word.
-pub fn add_number(
-    alloc: Global,
-    line: &mut Text,
-    word: &str,
-    number: u64,
-) -> Result<(), OutOfMemory> {
-    let told = format!(in alloc; "{word} {number}")?;
-    add_text_column(alloc, line, told.as_str())
 }

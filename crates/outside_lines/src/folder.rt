@@ -3,9 +3,9 @@
 //! Beside the calls of a store, a step may be one of the system: `folder PATH` and `file PATH BYTES` make what they name, `link PATH
 //! TARGET` a link to what may not be there, `name PATH FILE` a second name of a file, and `clear PATH` takes a folder away with all
 //! that it holds.
-use crate::columns::{add_number, cut_word};
+use crate::columns::cut_word;
 use crate::stores::{add_called, add_store_error};
-use row_lines::{add_text_column, first_column, text_of};
+use row_lines::{add_number_column, add_text_column, first_column, text_of};
 use snap_content::{OutOfMemory, Text};
 use snap_outside::{FolderStore, Names, Store, StoreError};
 use std::alloc::Global;
@@ -14,7 +14,7 @@ use std::os::unix::fs::symlink;
 use std::{fs, io};
 
 /// The answers of a store over the files.
-pub fn folder_line<R: Files + Alloc>(
+pub(crate) fn folder_line<R: Files + Alloc>(
     files: &R,
     alloc: Global,
     columns: &str,
@@ -64,7 +64,7 @@ fn add_prepared(alloc: Global, line: &mut Text, done: io::Result<()>) -> Result<
 }
 
 /// How many files of a folder were written, each with a name of 255 digits, and how many names are listed then.
-pub fn long_names_line<R: Files + Alloc>(
+pub(crate) fn long_names_line<R: Files + Alloc>(
     files: &R,
     alloc: Global,
     columns: &str,
@@ -74,7 +74,7 @@ pub fn long_names_line<R: Files + Alloc>(
     let mut store = FolderStore::new(files);
     let mut line = Text::empty();
     let written = long_names_written(alloc, &mut store, folder, count)?;
-    add_number(alloc, &mut line, "written", written)?;
+    add_number_column(alloc, &mut line, "written", written)?;
     let names = store.list(alloc, &text_of(alloc, folder)?);
     add_listed_count(alloc, &mut line, names)?;
     Ok(line)
@@ -97,13 +97,13 @@ fn long_names_written<S: Store>(
 }
 
 /// Adds how many names a list has, or its error.
-pub fn add_listed_count(
+pub(crate) fn add_listed_count(
     alloc: Global,
     line: &mut Text,
     answer: Result<Names, StoreError>,
 ) -> Result<(), OutOfMemory> {
     match answer {
-        Ok(names) => add_number(alloc, line, "listed", names.len() as u64),
+        Ok(names) => add_number_column(alloc, line, "listed", names.len() as u64),
         Err(error) => add_store_error(alloc, line, error),
     }
 }

@@ -2,9 +2,9 @@
 //!
 //! Beside the calls of a store, a step may be what is no call: `put PATH BYTES`, `get PATH` and `len`; and for a store that may fail
 //! `fail NUMBER..`, which lists the calls that fail, and `faults`.
-use crate::columns::{add_bytes, add_number, cut_word, numbers_of};
+use crate::columns::{add_bytes, cut_word, numbers_of};
 use crate::stores::add_called;
-use row_lines::{add_text_column, text_of};
+use row_lines::{add_number_column, add_text_column, text_of};
 use snap_content::{OutOfMemory, Text};
 use snap_outside::{MemoryStore, SteadyStore};
 use std::alloc::Global;
@@ -18,7 +18,7 @@ fn add_held(alloc: Global, line: &mut Text, held: Option<&[u8]>) -> Result<(), O
 }
 
 /// The answers of a store of which the listed calls fail.
-pub fn memory_line(alloc: Global, columns: &str) -> Result<Text, OutOfMemory> {
+pub(crate) fn memory_line(alloc: Global, columns: &str) -> Result<Text, OutOfMemory> {
     let mut store = MemoryStore::new(alloc);
     let mut line = Text::empty();
     for step in columns.split('\t') {
@@ -39,8 +39,8 @@ fn add_step(
             store.fail_at(numbers_of(alloc, rest)?);
             add_text_column(alloc, line, "set")
         }
-        "faults" => add_number(alloc, line, word, store.faults()),
-        "len" => add_number(alloc, line, word, store.len() as u64),
+        "faults" => add_number_column(alloc, line, word, store.faults()),
+        "len" => add_number_column(alloc, line, word, store.len() as u64),
         "get" => add_held(alloc, line, store.get(&text_of(alloc, rest)?)),
         "put" => add_put(alloc, line, store, rest),
         _ => add_called(alloc, line, store, word, rest),
@@ -60,7 +60,7 @@ fn add_put(
 }
 
 /// The answers of a store that never fails.
-pub fn steady_line(alloc: Global, columns: &str) -> Result<Text, OutOfMemory> {
+pub(crate) fn steady_line(alloc: Global, columns: &str) -> Result<Text, OutOfMemory> {
     let mut store = SteadyStore::new(alloc);
     let mut line = Text::empty();
     for step in columns.split('\t') {
@@ -77,7 +77,7 @@ fn add_steady_step(
 ) -> Result<(), OutOfMemory> {
     let (word, rest) = cut_word(step);
     match word {
-        "len" => add_number(alloc, line, word, store.len() as u64),
+        "len" => add_number_column(alloc, line, word, store.len() as u64),
         "get" => add_held(alloc, line, store.get(&text_of(alloc, rest)?)),
         "put" => add_steady_put(alloc, line, store, rest),
         _ => add_called(alloc, line, store, word, rest),

@@ -1,6 +1,5 @@
 //! Lists of names, and names of errors.
-use crate::columns::add_number;
-use row_lines::{add_text_column, first_column, text_of};
+use row_lines::{add_number_column, add_text_column, first_column, text_of};
 use snap_content::{OutOfMemory, Text};
 use snap_outside::{Fault, Names, StoreError};
 use std::alloc::Global;
@@ -33,14 +32,14 @@ fn order_word(order: Ordering) -> &'static str {
 }
 
 /// How the names of two columns compare, whether they are the same, and how many the first ones are.
-pub fn names_line(alloc: Global, columns: &str) -> Result<Text, OutOfMemory> {
+pub(crate) fn names_line(alloc: Global, columns: &str) -> Result<Text, OutOfMemory> {
     let (left, right) = first_column(columns);
     let names = names_of(alloc, left)?;
     let others = Names::from_vec(words_of(alloc, right)?);
     let mut line = Text::from_str(alloc, order_word(names.cmp(&others)))?;
     let same = if names == others { "same" } else { "other" };
     add_text_column(alloc, &mut line, same)?;
-    add_number(alloc, &mut line, "names", names.into_vec().len() as u64)?;
+    add_number_column(alloc, &mut line, "names", names.into_vec().len() as u64)?;
     Ok(line)
 }
 
@@ -50,7 +49,7 @@ fn store_error_line(alloc: Global, error: StoreError) -> Result<Text, OutOfMemor
 }
 
 /// How the error of this name is told; that of a store also for whoever looks for bugs.
-pub fn error_line(alloc: Global, name: &str) -> Result<Text, OutOfMemory> {
+pub(crate) fn error_line(alloc: Global, name: &str) -> Result<Text, OutOfMemory> {
     match name {
         "Fault" => {
             let told = format!(in alloc; "{}", Fault)?;

@@ -2,14 +2,14 @@
 //!
 //! A step is `write TEXT`, or for a sink that may fail `fail NUMBER..`, which lists the calls that fail. Behind the answers to the
 //! steps stands what is written then.
-use crate::columns::{add_bytes, add_number, cut_word, numbers_of};
-use row_lines::{add_text_column, text_of};
+use crate::columns::{add_bytes, cut_word, numbers_of};
+use row_lines::{add_number_column, add_text_column, text_of};
 use snap_content::{OutOfMemory, Text};
 use snap_outside::{Fault, MemorySink, Sink, SteadySink};
 use std::alloc::Global;
 
 /// Adds how many bytes a sink takes of a text.
-pub fn add_write<S: Sink>(
+pub(crate) fn add_write<S: Sink>(
     alloc: Global,
     line: &mut Text,
     sink: &mut S,
@@ -17,13 +17,13 @@ pub fn add_write<S: Sink>(
 ) -> Result<(), OutOfMemory> {
     let text = text_of(alloc, column)?;
     match sink.write(text.as_str().as_bytes()) {
-        Ok(count) => add_number(alloc, line, "took", count as u64),
+        Ok(count) => add_number_column(alloc, line, "took", count as u64),
         Err(Fault) => add_text_column(alloc, line, "! Fault"),
     }
 }
 
 /// Adds the answer to each write of the columns.
-pub fn add_writes<S: Sink>(
+pub(crate) fn add_writes<S: Sink>(
     alloc: Global,
     line: &mut Text,
     sink: &mut S,
@@ -37,7 +37,7 @@ pub fn add_writes<S: Sink>(
 }
 
 /// What a sink of which the listed calls fail takes.
-pub fn memory_sink_line(alloc: Global, columns: &str) -> Result<Text, OutOfMemory> {
+pub(crate) fn memory_sink_line(alloc: Global, columns: &str) -> Result<Text, OutOfMemory> {
     let mut sink = MemorySink::new(alloc);
     let mut line = Text::empty();
     for step in columns.split('\t') {
@@ -62,7 +62,7 @@ fn add_step(
 }
 
 /// What a sink that never fails takes.
-pub fn steady_sink_line(alloc: Global, columns: &str) -> Result<Text, OutOfMemory> {
+pub(crate) fn steady_sink_line(alloc: Global, columns: &str) -> Result<Text, OutOfMemory> {
     let mut sink = SteadySink::new(alloc);
     let mut line = Text::empty();
     add_writes(alloc, &mut line, &mut sink, columns)?;

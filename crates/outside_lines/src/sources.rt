@@ -10,7 +10,7 @@ use std::alloc::Global;
 
 /// How a source is made and read.
 #[derive(Clone, Copy, Debug)]
-pub struct Reading {
+pub(crate) struct Reading {
     /// How many bytes the source gives at most in one call.
     pub piece: usize,
     /// The number of the call that fails. The number 0 never comes.
@@ -22,7 +22,7 @@ pub struct Reading {
 }
 
 /// What the column says.
-pub fn reading_of(column: &str) -> Reading {
+pub(crate) fn reading_of(column: &str) -> Reading {
     let mut reading = Reading {
         piece: 1,
         fail: 0,
@@ -49,7 +49,7 @@ fn with_said(mut reading: Reading, name: &str, digits: &str) -> Reading {
 }
 
 /// Adds what each of so many reads gives.
-pub fn add_reads<S: Source>(
+pub(crate) fn add_reads<S: Source>(
     alloc: Global,
     line: &mut Text,
     source: &mut S,
@@ -80,7 +80,7 @@ fn held_of(alloc: Global, column: &str) -> Result<Blob, OutOfMemory> {
 }
 
 /// What a source of which a call fails gives.
-pub fn memory_source_line(alloc: Global, columns: &str) -> Result<Text, OutOfMemory> {
+pub(crate) fn memory_source_line(alloc: Global, columns: &str) -> Result<Text, OutOfMemory> {
     let (said, held) = first_column(columns);
     let reading = reading_of(said);
     let mut source = MemorySource::new(held_of(alloc, held)?, reading.piece);
@@ -91,7 +91,7 @@ pub fn memory_source_line(alloc: Global, columns: &str) -> Result<Text, OutOfMem
 }
 
 /// What a source that never fails gives.
-pub fn steady_source_line(alloc: Global, columns: &str) -> Result<Text, OutOfMemory> {
+pub(crate) fn steady_source_line(alloc: Global, columns: &str) -> Result<Text, OutOfMemory> {
     let (said, held) = first_column(columns);
     let reading = reading_of(said);
     let mut source = SteadySource::new(held_of(alloc, held)?, reading.piece);

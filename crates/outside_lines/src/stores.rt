@@ -10,7 +10,7 @@ use snap_outside::{Names, Store, StoreError};
 use std::alloc::Global;
 
 /// Adds the answer to a call that stands as a word and what is behind it.
-pub fn add_called<S: Store>(
+pub(crate) fn add_called<S: Store>(
     alloc: Global,
     line: &mut Text,
     store: &mut S,
@@ -93,7 +93,7 @@ fn add_removed(
 }
 
 /// Adds the names of a list in their order, or its error.
-pub fn add_listed(
+pub(crate) fn add_listed(
     alloc: Global,
     line: &mut Text,
     answer: Result<Names, StoreError>,
@@ -115,7 +115,7 @@ fn add_sorted(alloc: Global, line: &mut Text, mut names: Vec<Text>) -> Result<()
 }
 
 /// Adds the name of an error.
-pub fn add_store_error(
+pub(crate) fn add_store_error(
     alloc: Global,
     line: &mut Text,
     error: StoreError,

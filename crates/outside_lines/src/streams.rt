@@ -64,7 +64,7 @@ impl Write for Slow {
 }
 
 /// What a source over the bytes of a text gives.
-pub fn reader_line(alloc: Global, columns: &str) -> Result<Text, OutOfMemory> {
+pub(crate) fn reader_line(alloc: Global, columns: &str) -> Result<Text, OutOfMemory> {
     let (said, held) = first_column(columns);
     let text = text_of(alloc, held)?;
     let mut source = StreamSource::new(text.as_str().as_bytes());
@@ -74,7 +74,7 @@ pub fn reader_line(alloc: Global, columns: &str) -> Result<Text, OutOfMemory> {
 }
 
 /// What a source over a stubborn reader gives.
-pub fn stubborn_reader_line(alloc: Global, column: &str) -> Result<Text, OutOfMemory> {
+pub(crate) fn stubborn_reader_line(alloc: Global, column: &str) -> Result<Text, OutOfMemory> {
     let mut source = StreamSource::new(Stubborn { calls: 0 });
     let mut line = Text::empty();
     add_reads(alloc, &mut line, &mut source, reading_of(column))?;
@@ -82,7 +82,7 @@ pub fn stubborn_reader_line(alloc: Global, column: &str) -> Result<Text, OutOfMe
 }
 
 /// What a sink over a list of bytes takes.
-pub fn writer_line(alloc: Global, columns: &str) -> Result<Text, OutOfMemory> {
+pub(crate) fn writer_line(alloc: Global, columns: &str) -> Result<Text, OutOfMemory> {
     let mut sink = StreamSink::new(Vec::new(alloc));
     let mut line = Text::empty();
     add_writes(alloc, &mut line, &mut sink, columns)?;
@@ -90,7 +90,7 @@ pub fn writer_line(alloc: Global, columns: &str) -> Result<Text, OutOfMemory> {
 }
 
 /// What a sink over a stubborn writer takes.
-pub fn stubborn_writer_line(alloc: Global, columns: &str) -> Result<Text, OutOfMemory> {
+pub(crate) fn stubborn_writer_line(alloc: Global, columns: &str) -> Result<Text, OutOfMemory> {
     let mut sink = StreamSink::new(Stubborn { calls: 0 });
     let mut line = Text::empty();
     add_writes(alloc, &mut line, &mut sink, columns)?;
@@ -98,7 +98,7 @@ pub fn stubborn_writer_line(alloc: Global, columns: &str) -> Result<Text, OutOfM
 }
 
 /// What a sink over a slow writer takes.
-pub fn slow_writer_line(alloc: Global, columns: &str) -> Result<Text, OutOfMemory> {
+pub(crate) fn slow_writer_line(alloc: Global, columns: &str) -> Result<Text, OutOfMemory> {
     let mut sink = StreamSink::new(Slow);
     let mut line = Text::empty();
     add_writes(alloc, &mut line, &mut sink, columns)?;
@@ -107,7 +107,7 @@ pub fn slow_writer_line(alloc: Global, columns: &str) -> Result<Text, OutOfMemor
 
 /// What a sink over a file takes, through a writer that holds bytes back, and what a source over the same file gives behind each
 /// write, while the sink is still open.
-pub fn file_line<R: Files + Alloc>(
+pub(crate) fn file_line<R: Files + Alloc>(
     files: &R,
     alloc: Global,
     columns: &str,

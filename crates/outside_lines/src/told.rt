@@ -113,7 +113,7 @@ fn listed(alloc: Global, names: &[u8], times: u64) -> Result<Names, StoreError> 
 }
 
 /// The names that are listed of a folder that tells those of the column.
-pub fn told_line(alloc: Global, column: &str) -> Result<Text, OutOfMemory> {
+pub(crate) fn told_line(alloc: Global, column: &str) -> Result<Text, OutOfMemory> {
     let names = names_of(alloc, column)?;
     let mut line = Text::empty();
     add_listed(alloc, &mut line, listed(alloc, names.as_slice(), 1))?;
@@ -121,7 +121,7 @@ pub fn told_line(alloc: Global, column: &str) -> Result<Text, OutOfMemory> {
 }
 
 /// How many names are listed of a folder that tells those of the first column as often as the second one says.
-pub fn told_often_line(alloc: Global, columns: &str) -> Result<Text, OutOfMemory> {
+pub(crate) fn told_often_line(alloc: Global, columns: &str) -> Result<Text, OutOfMemory> {
     let (names, digits) = first_column(columns);
     let names = names_of(alloc, names)?;
     let times = digits.parse::<u64>().unwrap_or(0);

@@ -12,7 +12,7 @@ use std::alloc::Global;
 
 /// A line for each event, `MARK NAME` and its fields, up to StreamEnd; or `! MARK CODE` where the text is refused.
 /// A mark is its index, line and column.
-pub fn event_lines(alloc: Global, text: &str) -> Result<Text, OutOfMemory> {
+pub(crate) fn event_lines(alloc: Global, text: &str) -> Result<Text, OutOfMemory> {
     let mut lines = Text::empty();
     let mut parser = Parser::new(alloc, text);
     'events: while add_next(alloc, &mut lines, &mut parser)? {}

@@ -20,7 +20,7 @@ fn kind_name(kind: TextSnapshotKind) -> &'static str {
 }
 
 /// The contents of this kind that stand in a column.
-pub fn contents_of(
+pub(crate) fn contents_of(
     alloc: Global,
     kind: &str,
     column: &str,
@@ -30,7 +30,7 @@ pub fn contents_of(
 }
 
 /// The normal form, what is written of the text, and the text as it was given.
-pub fn form_line(alloc: Global, columns: &str) -> Result<Text, OutOfMemory> {
+pub(crate) fn form_line(alloc: Global, columns: &str) -> Result<Text, OutOfMemory> {
     let (kind, column) = first_column(columns);
     let given = contents_of(alloc, kind, column)?;
     let mut line = Text::empty();
@@ -54,7 +54,7 @@ fn add_forms(
 }
 
 /// Whether two texts match in the way of that name.
-pub fn match_line(alloc: Global, name: &str, columns: &str) -> Result<Text, OutOfMemory> {
+pub(crate) fn match_line(alloc: Global, name: &str, columns: &str) -> Result<Text, OutOfMemory> {
     let (kind, rest) = first_column(columns);
     let (column, others) = first_column(rest);
     let (other_kind, other_column) = first_column(others);
@@ -82,7 +82,7 @@ fn is_match(
 }
 
 /// Whether a copy is equal, and its kind and text.
-pub fn copy_line(alloc: Global, columns: &str) -> Result<Text, OutOfMemory> {
+pub(crate) fn copy_line(alloc: Global, columns: &str) -> Result<Text, OutOfMemory> {
     let (kind, column) = first_column(columns);
     let given = contents_of(alloc, kind, column)?;
     let copy = given.try_clone(alloc)?;

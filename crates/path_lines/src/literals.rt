@@ -6,7 +6,7 @@ use snap_text::{TextSnapshotContents, TextSnapshotKind, read_literal};
 use std::alloc::Global;
 
 /// The literal of an inline text, and whether contents that are read of it match the text.
-pub fn literal_line(alloc: Global, column: &str) -> Result<Text, anyhow::Error> {
+pub(crate) fn literal_line(alloc: Global, column: &str) -> Result<Text, anyhow::Error> {
     let given = contents_of(alloc, "inline", column)?;
     let literal = given.to_inline(alloc, "    ")?;
     let made = read_back(alloc, literal.as_str())?;

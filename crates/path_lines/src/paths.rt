@@ -5,7 +5,7 @@ use snap_path::{names_of_path, path_front, path_join, path_name, path_parent, pa
 use std::alloc::Global;
 
 /// The answer to the question of that name.
-pub fn path_line(alloc: Global, name: &str, columns: &str) -> Result<Text, OutOfMemory> {
+pub(crate) fn path_line(alloc: Global, name: &str, columns: &str) -> Result<Text, OutOfMemory> {
     let (first, second) = first_column(columns);
     let path = text_of(alloc, first)?;
     match name {

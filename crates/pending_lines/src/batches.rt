@@ -36,7 +36,7 @@ fn saved_again(alloc: Global, store: &mut MemoryStore, path: &Text) -> Result<Te
 }
 
 /// The answer to the text of a file.
-pub fn batch_line(alloc: Global, text: &str) -> Result<Text, OutOfMemory> {
+pub(crate) fn batch_line(alloc: Global, text: &str) -> Result<Text, OutOfMemory> {
     let path = Text::from_str(alloc, "a.pending-snap")?;
     let mut store = MemoryStore::new(alloc);
     store.put(&path, text.as_bytes())?;

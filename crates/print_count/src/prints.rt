@@ -15,7 +15,7 @@ fn tree_of(alloc: Global, line: &str) -> Result<Option<Content>, OutOfMemory> {
 }
 
 /// The trees of the lines. A line whose text has no tree is passed over.
-pub fn trees_of(alloc: Global, lines: &str) -> Result<Vec<Content>, OutOfMemory> {
+pub(crate) fn trees_of(alloc: Global, lines: &str) -> Result<Vec<Content>, OutOfMemory> {
     let mut trees = Vec::new(alloc);
     for line in lines.lines() {
         if let Some(tree) = tree_of(alloc, line)? {
@@ -26,7 +26,7 @@ pub fn trees_of(alloc: Global, lines: &str) -> Result<Vec<Content>, OutOfMemory>
 }
 
 /// How many bytes the texts of the trees have.
-pub fn printed_bytes(alloc: Global, trees: &[Content]) -> Result<u64, OutOfMemory> {
+pub(crate) fn printed_bytes(alloc: Global, trees: &[Content]) -> Result<u64, OutOfMemory> {
     let mut bytes: u64 = 0;
     for tree in trees {
         let text = to_string(alloc, tree, false)?;

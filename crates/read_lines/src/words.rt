@@ -9,7 +9,7 @@ use std::alloc::Global;
 ///
 /// `n` is null, `t` and `f` are truths, a number stands behind the name of its kind, a text behind `s`; `a` and how many of the
 /// trees before it are the items; `h` and how many pairs of the trees before it are the entries.
-pub fn tree_line(alloc: Global, text: &str) -> Result<Text, OutOfMemory> {
+pub(crate) fn tree_line(alloc: Global, text: &str) -> Result<Text, OutOfMemory> {
     let mut line = Text::empty();
     match parse_str(alloc, text, &Text::empty()) {
         Ok(content) => add_tree(alloc, &mut line, &content)?,

@@ -13,7 +13,7 @@ use snap_outside::MemoryStore;
 use std::alloc::Global;
 
 /// The answer to a row.
-pub fn called(alloc: Global, row: &str) -> Result<Text, OutOfMemory> {
+pub(crate) fn called(alloc: Global, row: &str) -> Result<Text, OutOfMemory> {
     let (call, columns) = first_column(row);
     let path = Text::from_ascii(alloc, "p")?;
     let mut store = MemoryStore::new(alloc);

@@ -30,7 +30,7 @@ fn record_of(alloc: Global, columns: &str) -> Result<PendingInlineSnapshot, OutO
 }
 
 /// Adds a record to the file.
-pub fn saved(
+pub(crate) fn saved(
     alloc: Global,
     store: &mut MemoryStore,
     path: &Text,
@@ -41,7 +41,7 @@ pub fn saved(
 }
 
 /// Loads the batch of a file of this text, and saves it there again.
-pub fn saved_again(
+pub(crate) fn saved_again(
     alloc: Global,
     store: &mut MemoryStore,
     path: &Text,

@@ -5,7 +5,7 @@ use snap_pending::PendingInlineSnapshot;
 use std::alloc::Global;
 
 /// Takes each step in turn, up to one that fails.
-pub fn taken(
+pub(crate) fn taken(
     alloc: Global,
     store: &mut MemoryStore,
     path: &Text,

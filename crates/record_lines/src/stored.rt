@@ -5,7 +5,7 @@ use snap_outside::MemoryStore;
 use std::alloc::Global;
 
 /// How many faults the store had, how many files it has, and the text of the file; or why the call failed.
-pub fn store_line(
+pub(crate) fn store_line(
     alloc: Global,
     store: &MemoryStore,
     path: &Text,

@@ -7,7 +7,7 @@ use std::alloc::Global;
 use tree_lines::tree_of_column;
 
 /// The tree of the first column, behind the redactions of the others, which stand two by two.
-pub fn redacted(alloc: Global, columns: &str) -> Result<Content, anyhow::Error> {
+pub(crate) fn redacted(alloc: Global, columns: &str) -> Result<Content, anyhow::Error> {
     let (first, others) = first_column(columns);
     let mut tree = tree_of_column(alloc, first)?;
     let mut selector = None;

@@ -13,10 +13,10 @@ use tree_lines::tree_of_column;
 /// A column that names nothing to put.
 #[derive(Clone, Copy, Debug, Error)]
 #[error("NoReplacement")]
-pub struct NoReplacement;
+pub(crate) struct NoReplacement;
 
 /// The tree with what is named in place of what the selector hits.
-pub fn put(
+pub(crate) fn put(
     alloc: Global,
     tree: Content,
     selector: &Selector<'_>,

@@ -17,6 +17,17 @@ pub fn add_text_column(alloc: Global, line: &mut Text, text: &str) -> Result<(),
     add_escaped(alloc, line, text)
 }
 
+/// Adds a column with a number behind a word.
+pub fn add_number_column(
+    alloc: Global,
+    line: &mut Text,
+    word: &str,
+    number: u64,
+) -> Result<(), OutOfMemory> {
+    let told = format!(in alloc; "{word} {number}")?;
+    add_text_column(alloc, line, told.as_str())
+}
+
 /// Adds the text of a file's bytes, or that there is no file or no text.
 pub fn add_file(alloc: Global, line: &mut Text, file: Option<&[u8]>) -> Result<(), OutOfMemory> {
     let Some(bytes) = file else {

@@ -8,5 +8,5 @@ pub mod laws;
 pub mod lines;
 
 pub use answers::{answer_lines, answer_rows, refusal_line};
-pub use columns::{add_file, add_text_column, first_column};
+pub use columns::{add_file, add_number_column, add_text_column, first_column};
 pub use lines::{add_escaped, text_of};

@@ -1,6 +1,6 @@
 //! What a run leaves, as columns.
-use crate::columns::{add_bytes, add_number};
-use row_lines::add_text_column;
+use crate::columns::add_bytes;
+use row_lines::{add_number_column, add_text_column};
 use snap_content::Text;
 use snap_outside::Store;
 use snap_run::Status;
@@ -10,13 +10,13 @@ use std::alloc::Global;
 const FOLDER: &str = "w/src/snapshots";
 
 /// Adds how a run ended, what is said of it, and what was written.
-pub fn add_ending(
+pub(crate) fn add_ending(
     alloc: Global,
     line: &mut Text,
     status: &Status,
     written: &[u8],
 ) -> Result<(), anyhow::Error> {
-    add_number(alloc, line, "status", u64::from(status.code()))?;
+    add_number_column(alloc, line, "status", u64::from(status.code()))?;
     let said = status.describe(alloc)?;
     add_text_column(alloc, line, said.as_str())?;
     add_bytes(alloc, line, written)?;
@@ -24,7 +24,7 @@ pub fn add_ending(
 }
 
 /// Adds the path and the bytes of each file of the folder.
-pub fn add_files<F: Store>(
+pub(crate) fn add_files<F: Store>(
     alloc: Global,
     line: &mut Text,
     store: &mut F,

@@ -5,7 +5,7 @@ use std::alloc::Global;
 
 /// How the outside behaves. A call of the number 0 never comes.
 #[derive(Clone, Copy, Debug)]
-pub struct Outside {
+pub(crate) struct Outside {
     /// How many bytes the source gives at most in one call.
     pub piece: usize,
     /// The number of the call of the source that fails.
@@ -20,7 +20,7 @@ pub struct Outside {
 
 /// The columns of a run.
 #[derive(Clone, Copy, Debug)]
-pub struct Case<'a> {
+pub(crate) struct Case<'a> {
     pub words: &'a str,
     pub outside: Outside,
     pub input: &'a str,
@@ -28,7 +28,7 @@ pub struct Case<'a> {
 }
 
 /// The case that stands in these columns.
-pub fn case_of(columns: &str) -> Case<'_> {
+pub(crate) fn case_of(columns: &str) -> Case<'_> {
     let (words, rest) = first_column(columns);
     let (outside, rest) = first_column(rest);
     let (input, files) = first_column(rest);
@@ -71,7 +71,7 @@ fn with_said(mut outside: Outside, name: &str, digits: &str) -> Outside {
 }
 
 /// The words of the command line: a blank stands between each two.
-pub fn words_of(alloc: Global, column: &str) -> Result<Vec<Text>, OutOfMemory> {
+pub(crate) fn words_of(alloc: Global, column: &str) -> Result<Vec<Text>, OutOfMemory> {
     let mut words = Vec::new(alloc);
     for word in column.split(' ') {
         words.push(text_of(alloc, word)?)?;
@@ -80,7 +80,7 @@ pub fn words_of(alloc: Global, column: &str) -> Result<Vec<Text>, OutOfMemory> {
 }
 
 /// The bytes that stand in a column.
-pub fn input_of(alloc: Global, column: &str) -> Result<Blob, OutOfMemory> {
+pub(crate) fn input_of(alloc: Global, column: &str) -> Result<Blob, OutOfMemory> {
     match column.strip_prefix("bytes ") {
         Some(numbers) => bytes_of(alloc, numbers),
         None => {
@@ -100,7 +100,7 @@ fn bytes_of(alloc: Global, numbers: &str) -> Result<Blob, OutOfMemory> {
 }
 
 /// The files that stand in columns, each as its path and its bytes.
-pub fn files_of(alloc: Global, columns: &str) -> Result<Vec<(Text, Text)>, OutOfMemory> {
+pub(crate) fn files_of(alloc: Global, columns: &str) -> Result<Vec<(Text, Text)>, OutOfMemory> {
     let mut files = Vec::new(alloc);
     let mut held = None;
     for column in columns.split('\t') {

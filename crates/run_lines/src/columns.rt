@@ -5,20 +5,9 @@ use std::alloc::Global;
 use std::str;
 
 /// Adds a column with the text of these bytes.
-pub fn add_bytes(alloc: Global, line: &mut Text, bytes: &[u8]) -> Result<(), OutOfMemory> {
+pub(crate) fn add_bytes(alloc: Global, line: &mut Text, bytes: &[u8]) -> Result<(), OutOfMemory> {
     match str::from_utf8(bytes) {
         Ok(text) => add_text_column(alloc, line, text),
         Err(_) => add_text_column(alloc, line, "! no text"),
     }
-}
-
-/// Adds a column with a number behind a word.
-pub fn add_number(
-    alloc: Global,
-    line: &mut Text,
-    word: &str,
-    number: u64,
-) -> Result<(), OutOfMemory> {
-    let told = format!(in alloc; "{word} {number}")?;
-    add_text_column(alloc, line, told.as_str())
 }

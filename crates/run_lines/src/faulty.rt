@@ -1,7 +1,7 @@
 //! Runs over forms of which a call may fail.
 use crate::answers::{add_ending, add_files};
 use crate::cases::{Case, case_of, files_of, input_of, words_of};
-use crate::columns::add_number;
+use row_lines::add_number_column;
 use snap_content::{OutOfMemory, Text};
 use snap_outside::{MemorySink, MemorySource, MemoryStore};
 use snap_run::run;
@@ -49,13 +49,13 @@ fn add_run(
 /// Adds how often the store failed, and its files. No call of it fails any more.
 fn add_store(alloc: Global, line: &mut Text, store: &mut MemoryStore) -> Result<(), anyhow::Error> {
     store.fail_at(Vec::new(alloc));
-    add_number(alloc, line, "faults", store.faults())?;
-    add_number(alloc, line, "files", store.len() as u64)?;
+    add_number_column(alloc, line, "faults", store.faults())?;
+    add_number_column(alloc, line, "files", store.len() as u64)?;
     add_files(alloc, line, store)
 }
 
 /// The answer to the columns of a case.
-pub fn run_line(alloc: Global, columns: &str) -> Result<Text, anyhow::Error> {
+pub(crate) fn run_line(alloc: Global, columns: &str) -> Result<Text, anyhow::Error> {
     let case = case_of(columns);
     let mut store = store_of(alloc, case)?;
     let mut line = Text::empty();

@@ -3,8 +3,7 @@ ghost use Rattle.std.specs.Prelude.{None};
 
 use crate::answers::add_ending;
 use crate::cases::words_of;
-use crate::columns::add_number;
-use row_lines::first_column;
+use row_lines::{add_number_column, first_column};
 use snap_content::Text;
 use snap_outside::{Fault, MemorySink, MemoryStore, Source};
 use snap_run::run;
@@ -30,7 +29,7 @@ impl Source for LineEnds {
 }
 
 /// How a run over so many line ends ends, how many files there are then, and how many line ends were not read.
-pub fn long_line(alloc: Global, columns: &str) -> Result<Text, anyhow::Error> {
+pub(crate) fn long_line(alloc: Global, columns: &str) -> Result<Text, anyhow::Error> {
     let (words, digits) = first_column(columns);
     let words = words_of(alloc, words)?;
     let mut source = LineEnds {
@@ -41,7 +40,7 @@ pub fn long_line(alloc: Global, columns: &str) -> Result<Text, anyhow::Error> {
     let mut line = Text::empty();
     let status = run(alloc, &words, &mut source, &mut sink, &mut store);
     add_ending(alloc, &mut line, &status, sink.written())?;
-    add_number(alloc, &mut line, "files", store.len() as u64)?;
-    add_number(alloc, &mut line, "left", source.left as u64)?;
+    add_number_column(alloc, &mut line, "files", store.len() as u64)?;
+    add_number_column(alloc, &mut line, "left", source.left as u64)?;
     Ok(line)
 }

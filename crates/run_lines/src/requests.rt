@@ -14,7 +14,7 @@ fn outcome(alloc: Global, document: &[u8]) -> Result<&'static str, OutOfMemory> 
 }
 
 /// Whether the document is a request.
-pub fn request_line(alloc: Global, column: &str) -> Result<Text, anyhow::Error> {
+pub(crate) fn request_line(alloc: Global, column: &str) -> Result<Text, anyhow::Error> {
     let document = input_of(alloc, column)?;
     let word = outcome(alloc, document.as_slice())?;
     Ok(Text::from_str(alloc, word)?)

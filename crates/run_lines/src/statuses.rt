@@ -1,6 +1,6 @@
 //! The text of each status.
-use crate::columns::{add_bytes, add_number};
-use row_lines::{add_text_column, first_column, text_of};
+use crate::columns::add_bytes;
+use row_lines::{add_number_column, add_text_column, first_column, text_of};
 use snap_content::{OutOfMemory, Text};
 use snap_outside::SteadySink;
 use snap_run::command::conclude;
@@ -59,17 +59,17 @@ fn status_of(alloc: Global, columns: &str) -> Result<Status, OutOfMemory> {
 }
 
 /// The exit status of a status, and what it says.
-pub fn status_line(alloc: Global, columns: &str) -> Result<Text, anyhow::Error> {
+pub(crate) fn status_line(alloc: Global, columns: &str) -> Result<Text, anyhow::Error> {
     let status = status_of(alloc, columns)?;
     let mut line = Text::empty();
-    add_number(alloc, &mut line, "status", u64::from(status.code()))?;
+    add_number_column(alloc, &mut line, "status", u64::from(status.code()))?;
     let said = status.describe(alloc)?;
     add_text_column(alloc, &mut line, said.as_str())?;
     Ok(line)
 }
 
 /// The exit status that ends the program with a status, and what the sink of errors is told.
-pub fn conclude_line(alloc: Global, columns: &str) -> Result<Text, anyhow::Error> {
+pub(crate) fn conclude_line(alloc: Global, columns: &str) -> Result<Text, anyhow::Error> {
     let status = status_of(alloc, columns)?;
     Ok(concluded(alloc, &status)?)
 }
@@ -78,7 +78,7 @@ fn concluded(alloc: Global, status: &Status) -> Result<Text, OutOfMemory> {
     let mut errors = SteadySink::new(alloc);
     let code = conclude(alloc, status, &mut errors);
     let mut line = Text::empty();
-    add_number(alloc, &mut line, "status", u64::from(code))?;
+    add_number_column(alloc, &mut line, "status", u64::from(code))?;
     add_bytes(alloc, &mut line, errors.written())?;
     Ok(line)
 }

@@ -1,7 +1,7 @@
 //! Runs over forms that never fail.
 use crate::answers::{add_ending, add_files};
 use crate::cases::{Case, case_of, files_of, input_of, words_of};
-use crate::columns::add_number;
+use row_lines::add_number_column;
 use snap_content::{OutOfMemory, Text};
 use snap_outside::{SteadySink, SteadySource, SteadyStore};
 use snap_run::run;
@@ -31,14 +31,14 @@ fn add_run(
 }
 
 /// The answer to the columns of a case.
-pub fn steady_line(alloc: Global, columns: &str) -> Result<Text, anyhow::Error> {
+pub(crate) fn steady_line(alloc: Global, columns: &str) -> Result<Text, anyhow::Error> {
     let case = case_of(columns);
     let mut store = store_of(alloc, case)?;
     let mut line = Text::empty();
     for _run in 0..case.outside.times {
         add_run(alloc, &mut line, case, &mut store)?;
     }
-    add_number(alloc, &mut line, "files", store.len() as u64)?;
+    add_number_column(alloc, &mut line, "files", store.len() as u64)?;
     add_files(alloc, &mut line, &mut store)?;
     Ok(line)
 }

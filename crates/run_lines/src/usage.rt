@@ -10,13 +10,13 @@ fn truth(alloc: Global, holds: bool) -> Result<Text, OutOfMemory> {
 }
 
 /// Whether the usage text has this part.
-pub fn usage_line(alloc: Global, column: &str) -> Result<Text, anyhow::Error> {
+pub(crate) fn usage_line(alloc: Global, column: &str) -> Result<Text, anyhow::Error> {
     let part = text_of(alloc, column)?;
     Ok(truth(alloc, USAGE.contains(part.as_str()))?)
 }
 
 /// Whether the usage text has at most so many lines.
-pub fn usage_length_line(alloc: Global, digits: &str) -> Result<Text, anyhow::Error> {
+pub(crate) fn usage_length_line(alloc: Global, digits: &str) -> Result<Text, anyhow::Error> {
     let most: usize = digits.parse().unwrap_or(0);
     Ok(truth(alloc, USAGE.lines().count() <= most)?)
 }

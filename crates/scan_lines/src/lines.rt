@@ -6,7 +6,7 @@ use std::alloc::Global;
 
 /// A line for each token, `MARK NAME` and its fields; then `! MARK CODE` where the text is refused, and else `= MARK`,
 /// the place that the scanner has come to. A mark is its index, line and column.
-pub fn token_lines(alloc: Global, text: &str) -> Result<Text, OutOfMemory> {
+pub(crate) fn token_lines(alloc: Global, text: &str) -> Result<Text, OutOfMemory> {
     let mut lines = Text::empty();
     let mut scanner = Scanner::new(alloc, text);
     add_tokens(alloc, &mut lines, &mut scanner)?;

@@ -7,7 +7,7 @@ use snap_select::{ContentPath, PathItem, SelectError, Selector, SelectorParseErr
 use std::alloc::Global;
 
 /// The answer to the question of that name.
-pub fn answered(alloc: Global, name: &str, columns: &str) -> Result<Text, anyhow::Error> {
+pub(crate) fn answered(alloc: Global, name: &str, columns: &str) -> Result<Text, anyhow::Error> {
     match name {
         "parse" => Ok(parsed(alloc, columns)?),
         "match" => matched(alloc, columns),

@@ -10,7 +10,7 @@ use std::alloc::Global;
 use tree_lines::tree_of_column;
 
 /// The path of the columns' steps. An empty column is none.
-pub fn path_of(alloc: Global, columns: &str) -> Result<Vec<PathItem>, anyhow::Error> {
+pub(crate) fn path_of(alloc: Global, columns: &str) -> Result<Vec<PathItem>, anyhow::Error> {
     let mut path = Vec::new(alloc);
     for column in columns.split('\t') {
         if !column.is_empty() {
@@ -27,7 +27,7 @@ fn add_step(path: &mut Vec<PathItem>, step: PathItem) -> Result<(), OutOfMemory>
 }
 
 /// The step that a column stands for.
-pub fn step_of(alloc: Global, column: &str) -> Result<PathItem, anyhow::Error> {
+pub(crate) fn step_of(alloc: Global, column: &str) -> Result<PathItem, anyhow::Error> {
     let (kind, rest) = column.split_once(' ').unwrap_or((column, ""));
     match kind {
         "field" => Ok(PathItem::Field(text_of(alloc, rest)?)),

@@ -8,7 +8,7 @@ use snap_str::cut::split_once;
 use std::alloc::Global;
 
 /// The answer to a row; empty where the row is none.
-pub fn answer(alloc: Global, row: &str) -> Result<Text, OutOfMemory> {
+pub(crate) fn answer(alloc: Global, row: &str) -> Result<Text, OutOfMemory> {
     let Some((operation, texts)) = split_once(row, '\t') else {
         return Ok(Text::empty());
     };

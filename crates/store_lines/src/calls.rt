@@ -14,7 +14,7 @@ use snap_content::{Error, OutOfMemory, Text};
 use std::alloc::Global;
 
 /// The answer to a row.
-pub fn called(alloc: Global, row: &str) -> Result<Text, Error> {
+pub(crate) fn called(alloc: Global, row: &str) -> Result<Text, Error> {
     let (call, columns) = first_column(row);
     match call {
         "split" => Ok(reading::split_line(alloc, columns)?),

@@ -22,7 +22,7 @@ fn metadata_copied(alloc: Global, metadata: &MetaData) -> Result<Text, OutOfMemo
 }
 
 /// The copy of metadata. Metadata that are alive make each early return dear to prove, so each function here has one behind them at most.
-pub fn metadata_line(alloc: Global, column: &str) -> Result<Text, OutOfMemory> {
+pub(crate) fn metadata_line(alloc: Global, column: &str) -> Result<Text, OutOfMemory> {
     let metadata = metadata_of(alloc, column)?;
     metadata_copied(alloc, &metadata)
 }
@@ -40,7 +40,7 @@ fn snapshot_copied(alloc: Global, snapshot: &Snapshot) -> Result<Text, OutOfMemo
 }
 
 /// The copy of a snapshot.
-pub fn snapshot_line(alloc: Global, columns: &str) -> Result<Text, OutOfMemory> {
+pub(crate) fn snapshot_line(alloc: Global, columns: &str) -> Result<Text, OutOfMemory> {
     let (snapshot, _) = snapshot_of(alloc, Text::empty(), TextSnapshotKind::File, columns)?;
     snapshot_copied(alloc, &snapshot)
 }
@@ -70,7 +70,7 @@ fn agree(
 }
 
 /// What the copy of contents is, and whether it agrees with them.
-pub fn contents_line(alloc: Global, column: &str) -> Result<Text, OutOfMemory> {
+pub(crate) fn contents_line(alloc: Global, column: &str) -> Result<Text, OutOfMemory> {
     let contents = contents_of(alloc, column)?;
     let copy = contents.try_clone(alloc)?;
     let kind = if copy.is_binary() {
@@ -84,7 +84,7 @@ pub fn contents_line(alloc: Global, column: &str) -> Result<Text, OutOfMemory> {
 }
 
 /// Whether the contents of two columns agree.
-pub fn agree_line(alloc: Global, columns: &str) -> Result<Text, OutOfMemory> {
+pub(crate) fn agree_line(alloc: Global, columns: &str) -> Result<Text, OutOfMemory> {
     let (left, right) = first_column(columns);
     let left = contents_of(alloc, left)?;
     let right = contents_of(alloc, right)?;

@@ -17,7 +17,7 @@ fn add_headed(alloc: Global, line: &mut Text, headed: &Headed) -> Result<(), Out
 }
 
 /// The header and the body of a file.
-pub fn split_line(alloc: Global, columns: &str) -> Result<Text, OutOfMemory> {
+pub(crate) fn split_line(alloc: Global, columns: &str) -> Result<Text, OutOfMemory> {
     let file = text_of(alloc, columns)?;
     let mut line = Text::empty();
     match split_file(alloc, file.as_str())? {
@@ -37,7 +37,7 @@ fn told_before(alloc: Global, metadata: &MetaData, text: &Text) -> Result<Text, 
 }
 
 /// The metadata and the body of a file that has no header.
-pub fn legacy_line(alloc: Global, columns: &str) -> Result<Text, OutOfMemory> {
+pub(crate) fn legacy_line(alloc: Global, columns: &str) -> Result<Text, OutOfMemory> {
     let file = text_of(alloc, columns)?;
     let text = legacy_text(alloc, file.as_str())?;
     let metadata = legacy_metadata(alloc, file.as_str())?;
@@ -53,7 +53,7 @@ fn snapshot_line(alloc: Global, store: &mut SteadyStore, path: &Text) -> Result<
 }
 
 /// The snapshot of a file at a path.
-pub fn read_line(alloc: Global, columns: &str) -> Result<Text, Error> {
+pub(crate) fn read_line(alloc: Global, columns: &str) -> Result<Text, Error> {
     let (path, file) = first_column(columns);
     let path = text_of(alloc, path)?;
     let file = text_of(alloc, file)?;
@@ -63,7 +63,7 @@ pub fn read_line(alloc: Global, columns: &str) -> Result<Text, Error> {
 }
 
 /// The snapshot of a file of these bytes, which may be no text.
-pub fn read_bytes_line(alloc: Global, columns: &str) -> Result<Text, Error> {
+pub(crate) fn read_bytes_line(alloc: Global, columns: &str) -> Result<Text, Error> {
     let (path, bytes) = first_column(columns);
     let path = text_of(alloc, path)?;
     let file = bytes_of(alloc, bytes)?;
@@ -73,7 +73,7 @@ pub fn read_bytes_line(alloc: Global, columns: &str) -> Result<Text, Error> {
 }
 
 /// What is read where no file is.
-pub fn missing_line(alloc: Global, columns: &str) -> Result<Text, Error> {
+pub(crate) fn missing_line(alloc: Global, columns: &str) -> Result<Text, Error> {
     let path = text_of(alloc, columns)?;
     let mut store = SteadyStore::new(alloc);
     snapshot_line(alloc, &mut store, &path)

@@ -29,7 +29,7 @@ fn saved(alloc: Global, path: &Text, snapshot: &Snapshot) -> Result<Text, Error>
 }
 
 /// The file of a snapshot that is saved.
-pub fn save_line(alloc: Global, columns: &str) -> Result<Text, Error> {
+pub(crate) fn save_line(alloc: Global, columns: &str) -> Result<Text, Error> {
     let (path, columns) = first_column(columns);
     let path = text_of(alloc, path)?;
     let (snapshot, _) = snapshot_of(alloc, Text::empty(), TextSnapshotKind::File, columns)?;
@@ -45,7 +45,7 @@ fn saved_new(alloc: Global, path: &Text, snapshot: &Snapshot) -> Result<Text, Er
 }
 
 /// The file in which a snapshot waits for a review.
-pub fn save_new_line(alloc: Global, columns: &str) -> Result<Text, Error> {
+pub(crate) fn save_new_line(alloc: Global, columns: &str) -> Result<Text, Error> {
     let (path, columns) = first_column(columns);
     let path = text_of(alloc, path)?;
     let (snapshot, _) = snapshot_of(alloc, Text::empty(), TextSnapshotKind::File, columns)?;

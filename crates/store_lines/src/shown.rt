@@ -5,7 +5,7 @@ use snap_store::{MetaData, Snapshot, SnapshotKind};
 use std::alloc::Global;
 
 /// Why there is no answer. After want of memory there is no line.
-pub fn refusal(alloc: Global, error: &Error) -> Result<Text, OutOfMemory> {
+pub(crate) fn refusal(alloc: Global, error: &Error) -> Result<Text, OutOfMemory> {
     if matches!(error, Error::OutOfMemory) {
         return Err(OutOfMemory);
     }
@@ -14,7 +14,7 @@ pub fn refusal(alloc: Global, error: &Error) -> Result<Text, OutOfMemory> {
 }
 
 /// Adds the fields that are shown, each with a tab behind it, and what the contents are.
-pub fn add_metadata(
+pub(crate) fn add_metadata(
     alloc: Global,
     line: &mut Text,
     metadata: &MetaData,
@@ -67,7 +67,7 @@ fn add_kind(alloc: Global, line: &mut Text, kind: &SnapshotKind) -> Result<(), O
 }
 
 /// Adds the word of a tree, as `snapshot_lines` reads it; `?` for a tree of which it has none.
-pub fn add_tree(alloc: Global, line: &mut Text, tree: &Content) -> Result<(), OutOfMemory> {
+pub(crate) fn add_tree(alloc: Global, line: &mut Text, tree: &Content) -> Result<(), OutOfMemory> {
     match tree {
         Content::String(text) => {
             line.push_ascii(alloc, "String ")?;
@@ -81,7 +81,7 @@ pub fn add_tree(alloc: Global, line: &mut Text, tree: &Content) -> Result<(), Ou
 }
 
 /// Adds whether the snapshot's file had a header, its names, its metadata, and its text or that its contents are a payload.
-pub fn add_snapshot(
+pub(crate) fn add_snapshot(
     alloc: Global,
     line: &mut Text,
     snapshot: &Snapshot,

@@ -31,13 +31,13 @@ fn told_line(alloc: Global, tree: &Content) -> Result<Text, Error> {
 }
 
 /// The metadata that a map tells.
-pub fn tree_line(alloc: Global, column: &str) -> Result<Text, Error> {
+pub(crate) fn tree_line(alloc: Global, column: &str) -> Result<Text, Error> {
     let map = map_of(alloc, column)?;
     told_line(alloc, &map)
 }
 
 /// The metadata that a map in a wrapper tells.
-pub fn wrapped_line(alloc: Global, column: &str) -> Result<Text, Error> {
+pub(crate) fn wrapped_line(alloc: Global, column: &str) -> Result<Text, Error> {
     let map = wrapped_map(alloc, column)?;
     told_line(alloc, &map)
 }
@@ -48,13 +48,13 @@ fn wrapped_map(alloc: Global, column: &str) -> Result<Content, OutOfMemory> {
 }
 
 /// The metadata that a tree of one word tells.
-pub fn other_line(alloc: Global, column: &str) -> Result<Text, Error> {
+pub(crate) fn other_line(alloc: Global, column: &str) -> Result<Text, Error> {
     let tree = tree_of_word(alloc, column)?;
     told_line(alloc, &tree)
 }
 
 /// The tree that is made of the metadata of a map.
-pub fn made_line(alloc: Global, column: &str) -> Result<Text, Error> {
+pub(crate) fn made_line(alloc: Global, column: &str) -> Result<Text, Error> {
     let map = map_of(alloc, column)?;
     let metadata = MetaData::from_content(alloc, &map)?;
     Ok(pairs_line(alloc, metadata.to_content(alloc)?)?)

@@ -10,7 +10,7 @@ use std::alloc::Global;
 use value_lines::value_of_line;
 
 /// The answer to the question of that name.
-pub fn answered(alloc: Global, name: &str, columns: &str) -> Result<Text, anyhow::Error> {
+pub(crate) fn answered(alloc: Global, name: &str, columns: &str) -> Result<Text, anyhow::Error> {
     match name {
         "plain" => Ok(plain(alloc, columns)?),
         "tagged" => Ok(tagged(alloc, columns)?),
@@ -33,7 +33,7 @@ fn answered_of_lists(alloc: Global, name: &str, columns: &str) -> Result<Text, a
 }
 
 /// The value that stands in the columns.
-pub fn read_value(alloc: Global, columns: &str) -> Result<Yaml, anyhow::Error> {
+pub(crate) fn read_value(alloc: Global, columns: &str) -> Result<Yaml, anyhow::Error> {
     match value_of_line(alloc, columns)? {
         Some(value) => Ok(value),
         None => Err(AskError::NoValue.into()),

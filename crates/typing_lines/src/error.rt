@@ -2,7 +2,7 @@
 use thiserror::Error;
 
 #[derive(Clone, Copy, Debug, Error)]
-pub enum AskError {
+pub(crate) enum AskError {
     /// The name is that of no question.
     #[error("NoQuestion")]
     NoQuestion,

@@ -7,7 +7,7 @@ use std::alloc::Global;
 use std::cmp::Ordering;
 
 /// Whether a list is empty, how long it is, and what stands at the index of it.
-pub fn list_line(alloc: Global, index: usize, value: Yaml) -> Result<Text, anyhow::Error> {
+pub(crate) fn list_line(alloc: Global, index: usize, value: Yaml) -> Result<Text, anyhow::Error> {
     match value {
         Yaml::Array(items) => Ok(array_line(alloc, index, items)?),
         Yaml::Hash(pairs) => Ok(hash_line(alloc, index, pairs)?),
@@ -70,7 +70,7 @@ fn add_pair(
 }
 
 /// Whether a copy is equal, and what it is.
-pub fn copied_line(alloc: Global, value: &Yaml) -> Result<Text, OutOfMemory> {
+pub(crate) fn copied_line(alloc: Global, value: &Yaml) -> Result<Text, OutOfMemory> {
     let copy = value.try_clone(alloc)?;
     let mut line = Text::empty();
     add_word(
@@ -93,7 +93,7 @@ fn sign(left: &Yaml, right: &Yaml) -> &'static str {
 }
 
 /// A word for each item of an array, with a sign for each item.
-pub fn order_line(alloc: Global, value: &Yaml) -> Result<Text, anyhow::Error> {
+pub(crate) fn order_line(alloc: Global, value: &Yaml) -> Result<Text, anyhow::Error> {
     match value {
         Yaml::Array(items) => Ok(orders_line(alloc, items.as_slice())?),
         _ => Err(AskError::NoList.into()),

@@ -7,7 +7,7 @@ use snap_yaml::Yaml;
 use std::alloc::Global;
 
 /// The name of each reader that gives something, and what it gives. The value is read anew for each reader that takes it.
-pub fn readers_line(alloc: Global, columns: &str) -> Result<Text, anyhow::Error> {
+pub(crate) fn readers_line(alloc: Global, columns: &str) -> Result<Text, anyhow::Error> {
     let mut line = Text::empty();
     add_borrowed(alloc, &mut line, &read_value(alloc, columns)?)?;
     add_taken(alloc, &mut line, columns)?;

@@ -5,7 +5,7 @@ use snap_yaml::{Array, Hash, Yaml};
 use std::alloc::Global;
 
 /// Adds a word, behind a tab where it is not the first.
-pub fn add_word(alloc: Global, line: &mut Text, word: &str) -> Result<(), OutOfMemory> {
+pub(crate) fn add_word(alloc: Global, line: &mut Text, word: &str) -> Result<(), OutOfMemory> {
     if !line.as_str().is_empty() {
         line.push_ascii(alloc, "\t")?;
     }
@@ -14,7 +14,7 @@ pub fn add_word(alloc: Global, line: &mut Text, word: &str) -> Result<(), OutOfM
 
 /// Adds the words of a value.
 #[cycle(words)]
-pub fn add_value(alloc: Global, line: &mut Text, value: &Yaml) -> Result<(), OutOfMemory> {
+pub(crate) fn add_value(alloc: Global, line: &mut Text, value: &Yaml) -> Result<(), OutOfMemory> {
     match value {
         Yaml::Real(text) => add_text(alloc, line, "r", text.as_str()),
         Yaml::Integer(number) => add_number(alloc, line, *number),
@@ -63,7 +63,7 @@ fn add_text(alloc: Global, line: &mut Text, kind: &str, text: &str) -> Result<()
 }
 
 /// The words of a value that was found, or of none.
-pub fn found_line(alloc: Global, found: Option<&Yaml>) -> Result<Text, OutOfMemory> {
+pub(crate) fn found_line(alloc: Global, found: Option<&Yaml>) -> Result<Text, OutOfMemory> {
     let mut line = Text::empty();
     match found {
         Some(value) => add_value(alloc, &mut line, value)?,
