@@ -1,7 +1,7 @@
 -- What an outcome says, and what decides it.
-use Rattle.snap_select.proofs.Prelude.{◌≡◌, ℕ, suc, ◌+◌, List, [], ◌∷◌, ◌++◌, length, Option, Some, None, refl, sym, ap, subst, same_Some, IsSelector, Parts, Place, before_part, step, ended, flaw, since, Outcome, selects, refuses, at_end, going, stepped, outcome, SelectFault, BadToken}
+use Rattle.snap_select.proofs.Prelude.{◌≡◌, ℕ, suc, ◌+◌, List, [], ◌∷◌, ◌++◌, length, Option, Some, None, refl, ap, subst, same_Some, IsSelector, Parts, Place, before_part, step, ended, flaw, since, Outcome, selects, refuses, at_end, going, stepped, outcome, SelectFault, BadToken}
 use Rattle.snap_select.specs.Selected.{parts_in, selected}
-use Rattle.snap_select.proofs.Fitting.{Fitting, fitting_leads, fitting_fits, leads_fitting, PlaceFits, fit_at_end, fit_before_end}
+use Rattle.snap_select.proofs.Fitting.{Fitting, fitting_leads, fitting_fits, leads_fitting, fit_end}
 use Rattle.snap_select.proofs.Places.{end_kept}
 use Rattle.snap_select.proofs.Starts.{leads_means, spelled_on}
 
@@ -75,30 +75,27 @@ why_so [] s = end_why s (ended s) refl
 why_so (c ∷ cs) s = flaw_why s c cs (flaw s c) refl (why_so cs)
 
 pub why : (s : Place) (text : List ℕ) (o : Outcome) → outcome s text ≡ o → Why s text o
-why s text o e = let P : Outcome → Type 0 = λ x. Why s text x in subst P e (why_so text s)
+why s text o e = subst (Why s text) e (why_so text s)
 
 fitting_selects : (s : Place) (t : List ℕ) (z : Place) (parts : Parts) → Fitting s t z → ended z ≡ Some parts → outcome s t ≡ selects parts
-fitting_selects s [] z parts h e = let P : Place → Type 0 = λ x. at_end (ended x) ≡ selects parts in subst P (sym h) (rw e refl)
+fitting_selects s [] z parts h e = rw (h, e) refl
 fitting_selects s (c ∷ cs) z parts h e = rw (h.1, h.2) (fitting_selects h.0 cs z parts h.3 e)
-
-pub starts_fit : PlaceFits (before_part [])
-starts_fit = tt
 
 -- a text selects exactly where it is a selector
 pub selector_selects : (t : List ℕ) (parts : Parts) → IsSelector t parts → outcome (before_part []) t ≡ selects parts
 selector_selects t parts h =
     let k = spelled_on t parts h.0 in
-    fitting_selects (before_part []) t k.to parts (leads_fitting (before_part []) t k.to k.leads (fit_before_end k.to parts k.at.end h.1)).0 k.at.end
+    fitting_selects (before_part []) t k.to parts (leads_fitting (before_part []) t k.to k.leads ((fit_end k.to parts k.at.end).1 h.1)).0 k.at.end
 
 is_selected : (t : List ℕ) (parts : Parts) → Selected (before_part []) t parts → IsSelector t parts
 is_selected t parts k = (
   end_kept k.to t parts (leads_means t k.to (fitting_leads (before_part []) t k.to k.fitting)) k.end,
-  fit_at_end k.to parts k.end (fitting_fits (before_part []) t k.to k.fitting starts_fit),
+  (fit_end k.to parts k.end).0 (fitting_fits (before_part []) t k.to k.fitting tt),
 )
 
 by_why : (t : List ℕ) (parts : Parts) → Why (before_part []) t (selects parts) → IsSelector t parts
 by_why t parts (by_end others e h) =
-    let same : others ≡ parts = cc in let P : Parts → Type 0 = λ x. IsSelector t x in subst P same (is_selected t others h)
+    let same : others ≡ parts = cc in subst (IsSelector t) same (is_selected t others h)
 by_why t parts (by_stuck left e h) = absurd (cc)
 by_why t parts (by_flaw kind left e h) = absurd (cc)
 
@@ -108,7 +105,7 @@ selects_selector t parts h = by_why t parts (why (before_part []) t (selects par
 -- the same of what is selected
 selected_by : (t : List ℕ) (parts : Parts) (o : Outcome) → outcome (before_part []) t ≡ o → parts_in o ≡ Some parts → IsSelector t parts
 selected_by t parts (selects others) e h =
-    let P : Parts → Type 0 = λ x. IsSelector t x in subst P (same_Some others parts h) (selects_selector t others e)
+    subst (IsSelector t) (same_Some others parts h) (selects_selector t others e)
 selected_by t parts (refuses kind left) e h = absurd (cc)
 
 pub selected_selector : (t : List ℕ) (parts : Parts) → selected t ≡ Some parts → IsSelector t parts
