@@ -4,7 +4,7 @@ use Rattle.snap_content.specs.Front.{begins}
 use Rattle.snap_select.proofs.Fitting.{Fitting, TokenFits, tokens_fit, far_less, near_over, fits_near}
 use Rattle.snap_select.proofs.Outcomes.{Stuck}
 use Rattle.snap_select.proofs.Oversize.{unfit_far, is_large, counted_since, spills, colon_flaw, gap_since}
-use Rattle.snap_select.proofs.PieceFacts.{cut_at, past_fails, front_passes, digit_no_minus}
+use Rattle.snap_select.proofs.PieceFacts.{cut_at, past_fails, past_ends, front_passes, digit_no_minus, number_is}
 use Rattle.snap_select.proofs.Tokens.{either}
 use Rattle.snap_select.proofs.Walks.{Spot, behind_bracket, behind_colon, opening, counting, number_on, name_on, at_number, gap_behind, colon_move, digit_is, no_blank}
 use Rattle.snap_content.proofs.Booleans.{and_nothing, or_left, or_right}
@@ -27,14 +27,7 @@ flawed_here s c cs kind h = rw h refl
 -- blanks that change nothing
 skip : (s : Place) → ((c : ℕ) → is_blank c ≡ true → step s c ≡ Some s) → ((c : ℕ) → is_blank c ≡ true → flaw s c ≡ None) → (text : List ℕ) → outcome s text ≡ outcome s (past is_blank text)
 skip s e f [] = refl
-skip s e f (c ∷ cs) = by_blank (is_blank c) refl (skip s e f cs)
-  where
-    by_blank : (b : Bool) → is_blank c ≡ b → outcome s cs ≡ outcome s (past is_blank cs) → outcome s (c ∷ cs) ≡ outcome s (cond b (past is_blank cs) (c ∷ cs))
-    by_blank true h k = one_step s c cs s (e c h) (f c h) ∙ k
-    by_blank false h k = refl
-
-pub past_ends : (p : ℕ → Bool) (text rest : List ℕ) → rest ≡ past p text → Fails p rest
-past_ends p text rest e = subst (Fails p) (sym e) (past_fails p text)
+skip s e f (c ∷ cs) = either (is_blank c) _ (λ h. rw h (one_step s c cs s (e c h) (f c h) ∙ skip s e f cs)) (λ h. rw h refl)
 
 pub bracket_at : (text t : List ℕ) → t ≡ past is_blank text → (ps : Parts) (ss : List Segment) → outcome (inside ps ss bracket) text ≡ outcome (inside ps ss bracket) t
 bracket_at text t e ps ss = skip (inside ps ss bracket) (λ c h. rw h refl) (λ c h. refl) text ∙ ap (outcome (inside ps ss bracket)) (sym e)
@@ -108,15 +101,7 @@ gap_fits ps ss negative digits gap b h = (tokens_fit ps ss (number negative digi
     still_fits [] = h
     still_fits (c ∷ cs) = h
 
--- a number is its minus, where it has one, and its digits
-number_is : (num : List ℕ) → num ≡ signed (begins 45 num) (unsigned num)
-number_is [] = refl
-number_is (c ∷ cs) = by_minus (c == 45) refl
-  where
-    by_minus : (b : Bool) → (c == 45) ≡ b → c ∷ cs ≡ signed b (cond b cs (c ∷ cs))
-    by_minus true e = ap (λ x. x ∷ cs) (eqb-true c 45 e)
-    by_minus false e = refl
-
+-- a number, by its minus and its digits
 number_text : (text num after : List ℕ) → text ≡ num ++ after → text ≡ signed (begins 45 num) (unsigned num) ++ after
 number_text text num after is = is ∙ ap (λ x. x ++ after) (number_is num)
 
@@ -368,14 +353,7 @@ bracket_here ps cs = refl
 
 first_dotted : (ps : Parts) (text : List ℕ) → goes_on_dot text ≡ true → outcome (first_dot ps) text ≡ outcome (inside ps [] dot) text
 first_dotted ps [] h = absurd (cc)
-first_dotted ps (c ∷ cs) h = by_name (begins_name c) refl h
-  where
-    star_same : (c : ℕ) → c ≡ 42 → outcome (first_dot ps) (c ∷ cs) ≡ outcome (inside ps [] dot) (c ∷ cs)
-    star_same c e = ap (λ x. outcome (first_dot ps) (x ∷ cs)) e ∙ star_here ps cs ∙ ap (λ x. outcome (inside ps [] dot) (x ∷ cs)) (sym e)
-
-    by_name : (b : Bool) → begins_name c ≡ b → b || (c == 42) ≡ true → outcome (first_dot ps) (c ∷ cs) ≡ outcome (inside ps [] dot) (c ∷ cs)
-    by_name true e h = rw e refl
-    by_name false e h = star_same c (eqb-true c 42 h)
+first_dotted ps (c ∷ cs) h = either (begins_name c) _ (λ e. rw e refl) (λ e. rw (eqb-true c 42 (rw e at h)) (star_here ps cs))
 
 pub dotted_part : (ps : Parts) (text body : List ℕ) → text ≡ 46 ∷ body → goes_on_dot body ≡ true → outcome (before_part ps) text ≡ outcome (ready ps []) text
 dotted_part ps text body e h = ap (λ x. outcome (before_part ps) x) e ∙ first_dotted ps body h ∙ ap (λ x. outcome (ready ps []) x) (sym e)
@@ -383,22 +361,13 @@ dotted_part ps text body e h = ap (λ x. outcome (before_part ps) x) e ∙ first
 -- behind a first dot that no name and no star follows
 pub led_part : (ps : Parts) (text : List ℕ) → goes_on_dot text ≡ false → begins 91 text ≡ true → outcome (first_dot ps) text ≡ outcome (ready ps []) text
 led_part ps [] h k = absurd (cc)
-led_part ps (c ∷ cs) h k = bracket_same c (eqb-true c 91 k)
-  where
-    bracket_same : (c : ℕ) → c ≡ 91 → outcome (first_dot ps) (c ∷ cs) ≡ outcome (ready ps []) (c ∷ cs)
-    bracket_same c e = ap (λ x. outcome (first_dot ps) (x ∷ cs)) e ∙ bracket_here ps cs ∙ ap (λ x. outcome (ready ps []) (x ∷ cs)) (sym e)
+led_part ps (c ∷ cs) h k = rw (eqb-true c 91 k) (bracket_here ps cs)
 
 -- a part that begins with a segment
 pub unled_part : (ps : Parts) (text : List ℕ) → begins_segment text ≡ true → ((cs : List ℕ) → text ≡ 46 ∷ cs → goes_on_dot cs ≡ true) → outcome (before_part ps) text ≡ outcome (ready ps []) text
 unled_part ps [] h k = absurd (cc)
-unled_part ps (c ∷ cs) h k = by_dot (c == 46) refl h
-  where
-    opened : (c : ℕ) → c ≡ 91 → outcome (before_part ps) (c ∷ cs) ≡ outcome (ready ps []) (c ∷ cs)
-    opened c e = ap (λ x. outcome (before_part ps) (x ∷ cs)) e ∙ ap (λ x. outcome (ready ps []) (x ∷ cs)) (sym e)
-
-    by_dot : (b : Bool) → (c == 46) ≡ b → b || (c == 91) ≡ true → outcome (before_part ps) (c ∷ cs) ≡ outcome (ready ps []) (c ∷ cs)
-    by_dot true e h = let is = ap (λ x. x ∷ cs) (eqb-true c 46 e) in dotted_part ps (c ∷ cs) cs is (k cs is)
-    by_dot false e h = opened c (eqb-true c 91 h)
+unled_part ps (c ∷ cs) h k =
+    either (c == 46) _ (λ e. let is = ap (λ x. x ∷ cs) (eqb-true c 46 e) in dotted_part ps (c ∷ cs) cs is (k cs is)) (λ e. rw (eqb-true c 91 (rw e at h)) refl)
 
 -- behind a part
 pub comma_on : (ps : Parts) (text t later : List ℕ) → t ≡ past is_blank text → t ≡ 44 ∷ later → outcome (behind_part ps) text ≡ outcome (before_part ps) later

@@ -1,5 +1,6 @@
 -- What has been read of a segment, and what one more character makes of it.
 use Rattle.snap_select.proofs.Prelude.{◌≡◌, ℕ, ℤ, ◌<◌, Bool, true, false, inl, inr, List, [], ◌∷◌, ◌++◌, length, Option, Some, None, cond, refl, sym, ap, ◌∙◌, subst, append_assoc, append-nil, arith, length-append, eqb-true, eqb-false, and_from, and_parts, ltb-true, is_digit, digit_value, list_all, ⊤, IsTrue, ◌==◌, ◌&&◌, not, IsNumeral, AllDigits, digits_value, is_xid_continue, is_blank, AreBlanks, begins_name, IsName, Quoted, Quotes, dotted, bracketed, signed, signed_value, SpellsBound, MayBound, unbounded, bounded, Spells, Token, dot, in_name, star, bracket, in_quotes, backslash, minus, number, behind_number, colon, to_minus, to_number, closing, Move, on, ends, ended_before, nowhere, behind, move, Segment, Key, Index, Range}
+use Rattle.std.proofs.lemmas.Int.Digits.{digits_push}
 
 -- an opened range, up to the blanks behind its colon
 pub record OpenRange (from : Option ℤ) (text : List ℕ) : Type 0 where
@@ -72,15 +73,11 @@ name_more : (name : List ℕ) (c : ℕ) → IsName name → is_xid_continue c �
 name_more [] c h k = absurd h
 name_more (d ∷ ds) c h k = (h.0, all_more is_xid_continue ds c h.1 k)
 
-digits_more : (ds : List ℕ) (c : ℕ) → AllDigits 10 ds → digit_value c < 10 → AllDigits 10 (ds ++ c ∷ [])
-digits_more [] c h k = (k, tt)
-digits_more (d ∷ ds) c h k = (h.0, digits_more ds c h.1 k)
-
 pub numeral_more : (ds : List ℕ) (c : ℕ) → AllDigits 10 ds → is_digit c 10 ≡ true → IsNumeral 10 (ds ++ c ∷ [])
-numeral_more ds c h k = (omega (arith, length-append ds (c ∷ [])), digits_more ds c h (ltb-true (digit_value c) 10 k))
+numeral_more ds c h k = (omega (arith, length-append ds (c ∷ [])), digits_push 10 ds c h (ltb-true (digit_value c) 10 k))
 
 quotes_more : (key inside : List ℕ) (c : ℕ) (tail : List ℕ) → Quotes key inside → Quoted c tail [] → Quotes (key ++ c ∷ []) (inside ++ tail)
-quotes_more [] inside c tail h k = let P : List ℕ → Type 0 = λ x. Quotes (c ∷ []) (x ++ tail) in subst P (sym h) ([], k, refl)
+quotes_more [] inside c tail h k = rw h ([], k, refl)
 quotes_more (d ∷ ds) inside c tail h k =
     (h.0 ++ tail, elim h.1 [ inl p ↦ inl (ap (λ x. x ++ tail) p.0, p.1, p.2) | inr e ↦ inr (ap (λ x. x ++ tail) e) ], quotes_more ds h.0 c tail h.2 k)
 

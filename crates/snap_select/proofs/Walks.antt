@@ -1,6 +1,7 @@
 -- From place to place along a text: every spelled text leads to its parts.
-use Rattle.snap_select.proofs.Prelude.{◌≡◌, ℕ, ℤ, suc, ◌+◌, ◌<◌, Bool, true, false, ◌⊎◌, inl, inr, List, [], ◌∷◌, ◌++◌, length, Option, Some, None, refl, sym, ap, ◌∙◌, subst, append_assoc, append-nil, arith, eqb-true, ne_eqb, lt-ltb, and_parts, same_Some, is_digit, digit_value, list_all, IsTrue, ◌==◌, ◌||◌, IsNumeral, AllDigits, digits_value, is_xid_start, is_xid_continue, unicode_ident, is_blank, AreBlanks, IsName, Quotes, InQuotes, dotted, bracketed, Bracketed, signed, signed_value, MayBound, unbounded, bounded, SpellsBounds, Spells, SpellsEach, Parts, dot, in_name, star, bracket, in_quotes, backslash, minus, number, behind_number, colon, to_minus, to_number, closing, Place, before_part, ready, inside, behind_part, step, ended, Segment, DeepWildcard, Wildcard, Key, Index, Range, Token, on, ends, move, moved}
-use Rattle.snap_select.proofs.PieceFacts.{digit_no_minus}
+use Rattle.snap_select.proofs.Prelude.{◌≡◌, ℕ, ℤ, suc, ◌+◌, ◌<◌, Bool, true, false, inl, inr, List, [], ◌∷◌, ◌++◌, length, Option, Some, None, refl, sym, ap, ◌∙◌, subst, append_assoc, append-nil, arith, eqb-true, ne_eqb, lt-ltb, and_parts, same_Some, is_digit, digit_value, list_all, IsTrue, ◌==◌, IsNumeral, AllDigits, digits_value, is_xid_start, is_xid_continue, unicode_ident, is_blank, AreBlanks, IsName, Quotes, InQuotes, dotted, bracketed, Bracketed, signed, signed_value, MayBound, unbounded, bounded, SpellsBounds, Spells, SpellsEach, Parts, dot, in_name, star, bracket, in_quotes, backslash, minus, number, behind_number, colon, to_minus, to_number, closing, Place, before_part, ready, inside, behind_part, step, ended, Segment, DeepWildcard, Wildcard, Key, Index, Range, Token, on, ends, move, moved}
+use Rattle.snap_select.proofs.PieceFacts.{digit_no_minus, digit_apart}
+use Rattle.snap_select.proofs.Tokens.{either}
 
 abbrev pub Leads : Place → List ℕ → Place → Type 0
 Leads s [] z = s ≡ z
@@ -32,16 +33,9 @@ pub tokens_lead : (ps : Parts) (ss : List Segment) (s : Token) (cs : List ℕ) (
 tokens_lead ps ss s [] z h = ap (inside ps ss) h
 tokens_lead ps ss s (c ∷ cs) z h = (inside ps ss h.0, ap (moved ps ss c) h.1, tokens_lead ps ss h.0 cs z h.2)
 
--- what a blank is
-blank_is : (c : ℕ) → is_blank c ≡ true → (c ≡ 32) ⊎ (c ≡ 9)
-blank_is c h = pick (c == 32) (c == 9) h (λ e. inl (eqb-true c 32 e)) (λ e. inr (eqb-true c 9 e))
-  where
-    pick : (a b : Bool) → a || b ≡ true → (a ≡ true → (c ≡ 32) ⊎ (c ≡ 9)) → (b ≡ true → (c ≡ 32) ⊎ (c ≡ 9)) → (c ≡ 32) ⊎ (c ≡ 9)
-    pick true b e f g = f refl
-    pick false b e f g = g e
-
+-- what holds of a blank and of a tab
 pub at_blank : (P : ℕ → Type 0) (c : ℕ) → is_blank c ≡ true → P 32 → P 9 → P c
-at_blank P c h k m = elim (blank_is c h) [ inl e ↦ subst P (sym e) k | inr e ↦ subst P (sym e) m ]
+at_blank P c h k m = either (c == 32) (P c) (λ e. subst P (sym (eqb-true c 32 e)) k) (λ e. subst P (sym (eqb-true c 9 (rw e at h))) m)
 
 -- along blanks, where a blank changes nothing
 pub along_blanks : (s : Place) (cs : List ℕ) → ((c : ℕ) → is_blank c ≡ true → step s c ≡ Some s) → AreBlanks cs → Leads s cs s
@@ -61,10 +55,6 @@ name_on (c ∷ cs) h = (in_name (c ∷ []), rw h.0 refl, in_name_on (c ∷ []) c
 
 pub digit_is : (c : ℕ) → digit_value c < 10 → is_digit c 10 ≡ true
 digit_is c h = lt-ltb (digit_value c) 10 h
-
--- a digit is no other character that is told apart
-digit_apart : (c d : ℕ) → digit_value c < 10 → (digit_value d < 10 → ⊥) → (c == d) ≡ false
-digit_apart c d h k = ne_eqb c d (λ e. k (subst (λ x. digit_value x < 10) e h))
 
 pub no_blank : (c : ℕ) → digit_value c < 10 → is_blank c ≡ false
 no_blank c h = let a = digit_apart c 32 h (λ k. omega arith) in let b = digit_apart c 9 h (λ k. omega arith) in rw (a, b) refl
@@ -255,10 +245,9 @@ from_leads ps ss None bound gap more k b b' =
     (leads_on (inside ps ss bracket) gap (58 ∷ more) (inside ps ss bracket) z (along_blanks (inside ps ss bracket) gap (bracket_blank ps ss) b)
     (z, refl, along_blanks z more (colon_blank ps ss None) b'))
 from_leads ps ss (Some v) bound gap more k b b' =
-    let P : ℤ → Type 0 = λ x. Leads (inside ps ss bracket) (bound ++ gap ++ 58 ∷ more) (inside ps ss (colon (Some x))) in
     let z = inside ps ss (colon (Some (signed_value k.negative k.digits))) in
     let m = at_number k.negative k.digits gap in
-    subst P k.value
+    subst (λ x. Leads (inside ps ss bracket) (bound ++ gap ++ 58 ∷ more) (inside ps ss (colon (Some x)))) k.value
     (leads_as (inside ps ss bracket) (signed k.negative k.digits ++ gap ++ 58 ∷ more) (bound ++ gap ++ 58 ∷ more) z (ap (λ x. x ++ gap ++ 58 ∷ more) (sym k.is))
     (leads_on (inside ps ss bracket) (signed k.negative k.digits ++ gap) (58 ∷ more) (inside ps ss m) z (gap_leads ps ss k.negative k.digits gap k.numeral b)
     (z, ap (moved ps ss 58) (colon_move k.negative k.digits gap), along_blanks z more (colon_blank ps ss (Some (signed_value k.negative k.digits))) b')))
@@ -271,9 +260,8 @@ to_end ps ss from None second after k b =
     leads_as (inside ps ss (colon from)) ([] ++ (after ++ 93 ∷ [])) (second ++ (after ++ 93 ∷ [])) z (ap (λ x. x ++ (after ++ 93 ∷ [])) (sym k))
     (leads_on (inside ps ss (colon from)) after (93 ∷ []) (inside ps ss (colon from)) z (along_blanks (inside ps ss (colon from)) after (colon_blank ps ss from) b) (z, refl, refl))
 to_end ps ss from (Some v) second after k b =
-    let P : ℤ → Type 0 = λ x. Leads (inside ps ss (colon from)) (second ++ (after ++ 93 ∷ [])) (ready ps (ss ++ Range from (Some x) ∷ [])) in
     let z = ready ps (ss ++ Range from (Some (signed_value k.negative k.digits)) ∷ []) in
-    subst P k.value
+    subst (λ x. Leads (inside ps ss (colon from)) (second ++ (after ++ 93 ∷ [])) (ready ps (ss ++ Range from (Some x) ∷ []))) k.value
     (leads_as (inside ps ss (colon from)) (signed k.negative k.digits ++ (after ++ 93 ∷ [])) (second ++ (after ++ 93 ∷ [])) z (ap (λ x. x ++ (after ++ 93 ∷ [])) (sym k.is))
     (leads_on (inside ps ss (colon from)) (signed k.negative k.digits) (after ++ 93 ∷ []) (inside ps ss (to_number from k.negative k.digits)) z
     (tokens_lead ps ss (colon from) (signed k.negative k.digits) (to_number from k.negative k.digits) (number_on (behind_colon from) k.negative k.digits k.numeral)) (shut after b)))
@@ -293,11 +281,9 @@ range_on : (s : Place) (ps : Parts) (ss : List Segment) (from to : Option ℤ) (
     → text ≡ 91 ∷ before ++ held ++ after ++ 93 ∷ [] → SpellsBounds from to held → LeadsToEnd s text ps (ss ++ Range from to ∷ [])
 range_on s ps ss from to before held after text h b b' is (unbounded none e f) =
     let z = ready ps (ss ++ Range None None ∷ []) in
-    let P : Option ℤ → Type 0 = λ x. LeadsToEnd s text ps (ss ++ Range x to ∷ []) in
-    let Q : Option ℤ → Type 0 = λ x. LeadsToEnd s text ps (ss ++ Range None x ∷ []) in
-    subst P (sym e) (subst Q (sym f) (through s ps ss (Range None None) before held after text h b is
+    rw (e, f) (through s ps ss (Range None None) before held after text h b is
     (leads_as (inside ps ss bracket) ([] ++ (after ++ 93 ∷ [])) (held ++ (after ++ 93 ∷ [])) z (ap (λ x. x ++ (after ++ 93 ∷ [])) (sym none))
-    (leads_on (inside ps ss bracket) after (93 ∷ []) (inside ps ss bracket) z (along_blanks (inside ps ss bracket) after (bracket_blank ps ss) b') (z, refl, refl)))))
+    (leads_on (inside ps ss bracket) after (93 ∷ []) (inside ps ss bracket) z (along_blanks (inside ps ss bracket) after (bracket_blank ps ss) b') (z, refl, refl))))
 range_on s ps ss from to before held after text h b b' is (bounded first gap more second e k g g' m) =
     let z = ready ps (ss ++ Range from to ∷ []) in
     through s ps ss (Range from to) before held after text h b is
@@ -306,28 +292,24 @@ range_on s ps ss from to before held after text h b b' is (bounded first gap mor
     (leads_on (inside ps ss bracket) (first ++ gap ++ 58 ∷ more) (second ++ (after ++ 93 ∷ [])) (inside ps ss (colon from)) z (from_leads ps ss from first gap more k g g') (to_end ps ss from to second after m b')))
 
 along : (s : Place) (text same : List ℕ) (ps : Parts) (ss : List Segment) → text ≡ same → LeadsToEnd s same ps ss → LeadsToEnd s text ps ss
-along s text same ps ss e h = let P : List ℕ → Type 0 = λ x. LeadsToEnd s x ps ss in subst P (sym e) h
+along s text same ps ss e h = subst (λ x. LeadsToEnd s x ps ss) (sym e) h
 
 segment_on : (s : Place) (ps : Parts) (ss : List Segment) (seg : Segment) (text : List ℕ) → AtEnd s ps ss → Spells seg text → LeadsToEnd s text ps (ss ++ seg ∷ [])
 segment_on s ps ss (Key key) text h (dotted is name) = along s text (46 ∷ key) ps (ss ++ Key key ∷ []) is (key_dotted s ps ss key h name)
 segment_on s ps ss (Key key) text h (bracketed k) = key_bracketed s ps ss key text h k
 segment_on s ps ss (Index index) text h k =
-    let P : ℕ → Type 0 = λ x. LeadsToEnd s text ps (ss ++ Index x ∷ []) in
-    subst P k.holds.1 (index_on s ps ss k.inside k.before k.after text h k.blank_before k.blank_after k.holds.0 k.is)
+    subst (λ x. LeadsToEnd s text ps (ss ++ Index x ∷ [])) k.holds.1 (index_on s ps ss k.inside k.before k.after text h k.blank_before k.blank_after k.holds.0 k.is)
 segment_on s ps ss DeepWildcard text h k = along s text (46 ∷ 42 ∷ 42 ∷ []) ps (ss ++ DeepWildcard ∷ []) k (deep_on s ps ss h)
 segment_on s ps ss Wildcard text h k = along s text (46 ∷ 42 ∷ []) ps (ss ++ Wildcard ∷ []) k (wildcard_on s ps ss h)
 segment_on s ps ss (Range from to) text h k = range_on s ps ss from to k.before k.inside k.after text h k.blank_before k.blank_after k.is k.holds
 
 pub each_on : (s : Place) (ps : Parts) (xs ss : List Segment) (text : List ℕ) → AtEnd s ps xs → SpellsEach ss text → LeadsToEnd s text ps (xs ++ ss)
-each_on s ps xs [] text h k =
-    let P : List Segment → Type 0 = λ x. AtEnd s ps x in
-    along s text [] ps (xs ++ []) k (record { to = s; leads = refl; at = subst P (sym (append-nil xs)) h })
+each_on s ps xs [] text h k = along s text [] ps (xs ++ []) k (record { to = s; leads = refl; at = subst (AtEnd s ps) (sym (append-nil xs)) h })
 each_on s ps xs (y ∷ ys) text h k =
     let one = segment_on s ps xs y k.front h k.first in
     let others = each_on one.to ps (xs ++ y ∷ []) ys k.back one.at k.second in
-    let P : List Segment → Type 0 = λ x. AtEnd others.to ps x in
     along s text (k.front ++ k.back) ps (xs ++ y ∷ ys) k.is (record {
       to = others.to;
       leads = leads_on s k.front k.back one.to others.to one.leads others.leads;
-      at = subst P (append_assoc xs (y ∷ []) ys) others.at;
+      at = subst (AtEnd others.to ps) (append_assoc xs (y ∷ []) ys) others.at;
     })

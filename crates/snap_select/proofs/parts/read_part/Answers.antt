@@ -1,5 +1,6 @@
 use Rattle.snap_select.proofs.Prelude.{length, ap, sym, ◌∙◌, arith, chars, is_blank, first_dot, before_part}
-use Rattle.snap_select.proofs.Readers.{past_ends, past_shorter, past_within, dot_first, start_skipped, part_read}
+use Rattle.snap_select.proofs.PieceFacts.{past_ends}
+use Rattle.snap_select.proofs.Readers.{past_shorter, past_within, dot_first, start_skipped, part_read}
 use Rattle.snap_select.proofs.parts.read_part.Goals as goal
 
 pub read_unled-requires-clause-no_blank : goal.read_unled-requires-clause-no_blank

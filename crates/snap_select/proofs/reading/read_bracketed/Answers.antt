@@ -1,5 +1,6 @@
 use Rattle.snap_select.proofs.Prelude.{[], length, ap, ◌∙◌, arith, chars, is_blank, outcome, inside, bracket, in_quotes}
-use Rattle.snap_select.proofs.Readers.{past_within, past_ends, bracket_at, read_on}
+use Rattle.snap_select.proofs.PieceFacts.{past_ends}
+use Rattle.snap_select.proofs.Readers.{past_within, bracket_at, read_on}
 use Rattle.snap_select.proofs.reading.read_bracketed.Goals as goal
 
 pub read_numbers-requires-clause-no_blank : goal.read_numbers-requires-clause-no_blank

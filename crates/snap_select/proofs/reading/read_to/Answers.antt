@@ -1,5 +1,6 @@
 use Rattle.snap_select.proofs.Prelude.{length, refl, ap, sym, ◌∙◌, arith, chars, is_blank, colon}
-use Rattle.snap_select.proofs.Readers.{to_closed, past_shorter, past_within, past_ends, colon_at, read_on}
+use Rattle.snap_select.proofs.PieceFacts.{past_ends}
+use Rattle.snap_select.proofs.Readers.{to_closed, past_shorter, past_within, colon_at, read_on}
 use Rattle.snap_select.proofs.reading.read_to.Goals as goal
 
 pub returns-in-Some-clause-ok : goal.returns-in-Some-clause-ok
