@@ -214,16 +214,8 @@ deep_counted (s ∷ ss) = one_more (is_deep s) (has_deep ss) (deep_count ss) (de
     one_more false f n h = h
 
 count_more : (ss : List Segment) (seg : Segment) → deep_count (ss ++ seg ∷ []) ≡ deep_count ss + cond (is_deep seg) 1 0
-count_more [] seg = last (is_deep seg)
-  where
-    last : (b : Bool) → cond b (suc 0) 0 ≡ 0 + cond b 1 0
-    last true = omega arith
-    last false = omega arith
-count_more (s ∷ ss) seg = first (is_deep s) (deep_count (ss ++ seg ∷ [])) (deep_count ss) (cond (is_deep seg) 1 0) (count_more ss seg)
-  where
-    first : (b : Bool) (m n k : ℕ) → m ≡ n + k → cond b (suc m) m ≡ cond b (suc n) n + k
-    first true m n k e = omega (arith, e)
-    first false m n k e = e
+count_more [] seg = grind arith
+count_more (s ∷ ss) seg = grind (arith, count_more ss seg)
 
 one_deep : (d f : Bool) (n : ℕ) → IsCount f n → ((n ≤ 1) × (d && f ≡ false)) ↔ (n + cond d 1 0 ≤ 1)
 one_deep true true n h = (λ k. absurd (cc (k.1)), λ k. absurd (omega arith))

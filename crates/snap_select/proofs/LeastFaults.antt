@@ -3,7 +3,7 @@ use Rattle.snap_select.proofs.Prelude.{◌≡◌, ℕ, suc, ℤ, ◌+◌, ◌≤
 use Rattle.snap_select.specs.Faults.{neither}
 use Rattle.snap_select.proofs.Fitting.{Fitting, fitting_leads}
 use Rattle.snap_select.proofs.Oversize.{far_unfit, unfit_far, over_unfit, over_far, unfit_over, is_large, counted_since, spills, colon_flaw, gap_since}
-use Rattle.snap_select.proofs.Outcomes.{Stuck, StuckAt, FlawAt, Why, by_end, by_stuck, by_flaw, why, selector_selects}
+use Rattle.snap_select.proofs.Outcomes.{Stuck, Clear, Refused, by_stuck, by_flaw, why, selector_selects}
 use Rattle.snap_select.proofs.Places.{Means, Opened}
 use Rattle.snap_select.proofs.Starts.{leads_means, spelled_on, leads_begins, begins_leads, MayOpen, opens_leads}
 use Rattle.snap_select.proofs.Tokens.{TokenMeans, OpenNumber, OpenRange, signed_more, numeral_more}
@@ -26,6 +26,12 @@ cuts (p ∷ ps) b (q ∷ qs) y e = cuts_more p q ps b qs y (cc) (cuts ps b qs y 
 none_some : (A : Type 0) (o : Option A) (x : A) → o ≡ None → o ≡ Some x → ⊥
 none_some A o x h k = cc
 
+-- where a front of a text leads, the rest leads on from there
+onward : (front other m : List ℕ) (z near : Place) → Leads (before_part []) front z → Leads (before_part []) other near → other ≡ front ++ m → Leads z m near
+onward front other m z near h k e =
+    let w = leads_half (before_part []) front m near (leads_as (before_part []) other (front ++ m) near e k) in
+    subst (λ x. Leads x m near) (leads_once (before_part []) front w.0 z w.1 h) w.2
+
 -- a front from which the text goes on isn't stuck
 not_stuck : (front back whole m : List ℕ) (c : ℕ) (rest : List ℕ) (z : Place) → Leads (before_part []) whole z → whole ≡ front ++ c ∷ m → back ≡ c ∷ rest → IsStuck front back → ⊥
 not_stuck front back whole m c rest z h e f k =
@@ -40,8 +46,8 @@ stuck_so front [] z h k = λ parts spelled.
     none_some Parts (ended z) parts k (subst (λ x. ended x ≡ Some parts) (leads_once (before_part []) front w.to z w.leads h) w.at.end)
 stuck_so front (c ∷ cs) z h k = λ begins.
     let w = begins_leads (front ++ c ∷ []) begins in
-    let v = leads_half (before_part []) front (c ∷ []) w.0 w.1 in
-    none_some Place (step z c) v.2.0 k.0 (subst (λ x. step x c ≡ Some v.2.0) (leads_once (before_part []) front v.0 z v.1 h) v.2.1)
+    let v = onward front (front ++ c ∷ []) (c ∷ []) z w.0 h w.1 refl in
+    none_some Place (step z c) v.0 k.0 v.1
 
 -- from one character to the next, at most one more has been read of a number or a wildcard
 abbrev move_since : Move → ℕ
@@ -52,13 +58,9 @@ abbrev place_since : Option Place → ℕ
 place_since None = 0
 place_since (Some z) = since z
 
-signed_longer : (negative : Bool) (ds : List ℕ) (c : ℕ) → length (signed negative (ds ++ c ∷ [])) ≤ suc (length (signed negative ds))
-signed_longer true ds c = omega (arith, length-append ds (c ∷ []))
-signed_longer false ds c = omega (arith, length-append ds (c ∷ []))
-
 token_since : (token : Token) (c : ℕ) → move_since (move token c) ≤ suc (since_in token)
-token_since (number negative digits) c = grind (arith, signed_longer negative digits c)
-token_since (to_number from negative digits) c = grind (arith, signed_longer negative digits c)
+token_since (number negative digits) c = grind (arith, length-append digits (c ∷ []))
+token_since (to_number from negative digits) c = grind (arith, length-append digits (c ∷ []))
 token_since _ c = grind arith
 
 moved_since : (n : ℕ) (ps : Parts) (ss : List Segment) (c : ℕ) (m : Move) → move_since m ≤ suc n → place_since (moved ps ss c m) ≤ suc n
@@ -297,23 +299,25 @@ unflawed other rest front m d back c kind z near h k flawed e f =
     let clear = fitting_half (before_part []) other d m z near (subst (λ x. Fitting (before_part []) x z) e h) k in
     none_some SelectFault (flaw near c) kind (subst (λ x. flaw near x ≡ None) same clear) flawed
 
--- of a text that is stuck, there is no flaw
-no_flaw : (text : List ℕ) (left : ℕ) (kind : SelectFault) (place : ℕ) → StuckAt (before_part []) text left → Flawed text kind place → ⊥
-no_flaw text left kind place h k =
-    let leads = fitting_leads (before_part []) h.front h.to h.fitting in
-    elim (cuts h.front h.back k.front (k.c ∷ k.back) (sym h.is ∙ k.is)) [
-      | ahead m e f ↦ flaw_ahead h.front h.back k.front k.back m k.c h.to k.near leads h.stuck k.leads k.flawed e f
-      | short c m e f ↦ unflawed k.front k.back h.front m c h.back k.c kind h.to k.near h.fitting k.leads k.flawed e f
-    ]
-  where
-    flaw_ahead : (front back other rest m : List ℕ) (c : ℕ) (z near : Place) → Leads (before_part []) front z → Stuck z back → Leads (before_part []) other near → flaw near c ≡ Some kind → other ≡ front ++ m → back ≡ m ++ c ∷ rest → ⊥
-    flaw_ahead front back other rest [] c z near h stuck k flawed e f =
-        let same = leads_once (before_part []) front near z (leads_as (before_part []) other front near (e ∙ append-nil front) k) h in
-        none_some SelectFault (flaw z c) kind (subst (Stuck z) f stuck).1 (subst (λ x. flaw x c ≡ Some kind) same flawed)
-    flaw_ahead front back other rest (d ∷ ds) c z near h stuck k flawed e f =
-        let w = leads_half (before_part []) front (d ∷ ds) near (leads_as (before_part []) other (front ++ d ∷ ds) near e k) in
-        let same = leads_once (before_part []) front w.0 z w.1 h in
-        none_some Place (step z d) w.2.0 (subst (Stuck z) f stuck).0 (subst (λ x. step x d ≡ Some w.2.0) same w.2.1)
+-- behind a front without a flaw, a flaw stands no earlier
+flaw_later : (text : List ℕ) (h : Clear (before_part []) text) (kind : SelectFault) (place : ℕ) (k : Flawed text kind place)
+    → (m : List ℕ) × (k.front ≡ h.front ++ m) × (h.back ≡ m ++ k.c ∷ k.back) × Leads h.near m k.near
+flaw_later text h kind place k = elim (cuts h.front h.back k.front (k.c ∷ k.back) (sym h.is ∙ k.is)) [
+  | ahead m e f ↦ (m, e, f, onward h.front k.front m h.near k.near (fitting_leads (before_part []) h.front h.near h.fitting) k.leads e)
+  | short c m e f ↦ absurd (unflawed k.front k.back h.front m c h.back k.c kind h.near k.near h.fitting k.leads k.flawed e f)
+]
+
+-- and where the text is stuck, there is none
+stuck_unflawed : (z near : Place) (back m : List ℕ) (c : ℕ) (rest : List ℕ) (kind : SelectFault) → Stuck z back → Leads z m near → back ≡ m ++ c ∷ rest → flaw near c ≡ Some kind → ⊥
+stuck_unflawed z near back [] c rest kind s l f e = none_some SelectFault (flaw near c) kind (subst (λ x. flaw x c ≡ None) l (subst (Stuck z) f s).1) e
+stuck_unflawed z near back (d ∷ ds) c rest kind s l f e = none_some Place (step z d) l.0 (subst (Stuck z) f s).0 l.1
+
+-- nor does a token stand earlier with which nothing goes on
+bad_later : (text front back : List ℕ) (z : Place) (place : ℕ) → Leads (before_part []) front z → text ≡ front ++ back → BadTokenAt text place → length front + 1 ≤ place
+bad_later text front back z place leads is b = elim (cuts front back b.front b.back (sym is ∙ b.is)) [
+  | ahead m e f ↦ omega (arith, ap length e, length-append front m, b.place)
+  | short c m e f ↦ absurd (not_stuck b.front b.back front m c (m ++ back) z leads e f b.stuck)
+]
 
 any_flawed : (text : List ℕ) (kind : SelectFault) (place : ℕ) → FaultAt text kind place → BadTokenAt text place ⊎ Flawed text kind place
 any_flawed text BadToken place h = inl h
@@ -323,97 +327,41 @@ any_flawed text TooLarge place h = inr (large_flawed text place h)
 refused_so : (text : List ℕ) (kind : SelectFault) (left : ℕ) → outcome (before_part []) text ≡ refuses kind left → (parts : Parts) → ¬ IsSelector text parts
 refused_so text kind left h parts = λ k. let e = selector_selects text parts k in cc
 
-stuck_first : (text : List ℕ) (left column : ℕ) → StuckAt (before_part []) text left → column + left ≡ length text + 1 → (other : SelectFault) (place : ℕ) → FaultAt text other place → column ≤ place
-stuck_first text left column h count other place k = elim (any_flawed text other place k) [ inl b ↦ least b | inr f ↦ absurd (no_flaw text left other place h f) ]
-  where
-    leads : Leads (before_part []) h.front h.to
-    leads = fitting_leads (before_part []) h.front h.to h.fitting
+stuck_first : (text : List ℕ) (h : Clear (before_part []) text) (column : ℕ) → Stuck h.near h.back → column ≡ length h.front + 1 → (other : SelectFault) (place : ℕ) → FaultAt text other place → column ≤ place
+stuck_first text h column stuck at other place k = elim (any_flawed text other place k) [
+  | inl b ↦ omega (arith, at, bad_later text h.front h.back h.near place (fitting_leads (before_part []) h.front h.near h.fitting) h.is b)
+  | inr f ↦ absurd (let w = flaw_later text h other place f in stuck_unflawed h.near f.near h.back w.0 f.c f.back other stuck w.3 w.2 f.flawed)
+]
 
-    least : BadTokenAt text place → column ≤ place
-    least b = elim (cuts h.front h.back b.front b.back (sym h.is ∙ b.is)) [
-      | ahead m e f ↦ omega (arith, h.count, ap length h.is, length-append h.front h.back, ap length e, length-append h.front m, b.place, count)
-      | short c m e f ↦ absurd (not_stuck b.front b.back h.front m c (m ++ h.back) h.to leads e f b.stuck)
-    ]
-
-pub stuck_fault : (text : List ℕ) (left column : ℕ) → outcome (before_part []) text ≡ refuses BadToken left → StuckAt (before_part []) text left → column + left ≡ length text + 1 → IsFault text BadToken column
-stuck_fault text left column h k count =
-    let leads = fitting_leads (before_part []) k.front k.to k.fitting in
-    record {
-      here = record {
-        front = k.front;
-        back = k.back;
-        is = k.is;
-        place = omega (arith, k.count, ap length k.is, length-append k.front k.back, count);
-        begins = leads_begins k.front k.to leads;
-        stuck = stuck_so k.front k.back k.to leads k.stuck;
-      };
-      first = stuck_first text left column k count;
-      refused = refused_so text BadToken left h;
-    }
-
--- behind a flaw, none begins further left
-flaw_order : (text : List ℕ) (kind other : SelectFault) (left column place : ℕ) (h : FlawAt (before_part []) text kind left) → column + since h.near ≡ length h.front + 1 → Flawed text other place → column ≤ place
-flaw_order text kind other left column place h at k =
-    elim (cuts h.front (h.c ∷ h.back) k.front (k.c ∷ k.back) (sym h.is ∙ k.is)) [
-      | ahead m e f ↦ farther m e
-      | short c m e f ↦ absurd (unflawed k.front k.back h.front m c (h.c ∷ h.back) k.c other h.near k.near h.fitting k.leads k.flawed e f)
-    ]
-  where
-    farther : (m : List ℕ) → k.front ≡ h.front ++ m → column ≤ place
-    farther m e =
-        let w = leads_half (before_part []) h.front m k.near (leads_as (before_part []) k.front (h.front ++ m) k.near e k.leads) in
-        let same = leads_once (before_part []) h.front w.0 h.near w.1 (fitting_leads (before_part []) h.front h.near h.fitting) in
-        let s = since_along w.0 m k.near w.2 in
-        omega (arith, at, k.at, ap length e, length-append h.front m, s, ap since same)
-
-flaw_first : (text : List ℕ) (kind : SelectFault) (left column : ℕ) (h : FlawAt (before_part []) text kind left) → column + since h.near ≡ length h.front + 1 → (other : SelectFault) (place : ℕ) → FaultAt text other place → column ≤ place
-flaw_first text kind left column h at other place k = elim (any_flawed text other place k) [ inl b ↦ least b | inr f ↦ flaw_order text kind other left column place h at f ]
-  where
-    least : BadTokenAt text place → column ≤ place
-    least b = elim (cuts h.front (h.c ∷ h.back) b.front b.back (sym h.is ∙ b.is)) [
-      | ahead m e f ↦ omega (arith, at, ap length e, length-append h.front m, b.place)
-      | short c m e f ↦ absurd (not_stuck b.front b.back h.front m c (m ++ h.c ∷ h.back) h.near (fitting_leads (before_part []) h.front h.near h.fitting) e f b.stuck)
-    ]
-
-flaw_place : (text : List ℕ) (kind : SelectFault) (left column : ℕ) (h : FlawAt (before_part []) text kind left) → column + left ≡ length text + 1 → column + since h.near ≡ length h.front + 1
-flaw_place text kind left column h count = omega (arith, h.count, ap length h.is, length-append h.front (h.c ∷ h.back), count)
-
-pub flaw_fault : (text : List ℕ) (kind : SelectFault) (left column : ℕ) → outcome (before_part []) text ≡ refuses kind left → FlawAt (before_part []) text kind left → column + left ≡ length text + 1 → IsFault text kind column
-flaw_fault text kind left column h k count =
-    let at = flaw_place text kind left column k count in
-    let means = leads_means k.front k.near (fitting_leads (before_part []) k.front k.near k.fitting) in
-    record {
-      here = flaw_here k.near k.front k.back text k.c column kind means k.flawed k.is at;
-      first = flaw_first text kind left column k at;
-      refused = refused_so text kind left h;
-    }
+flaw_first : (text : List ℕ) (h : Clear (before_part []) text) (column : ℕ) → column + since h.near ≡ length h.front + 1 → (other : SelectFault) (place : ℕ) → FaultAt text other place → column ≤ place
+flaw_first text h column at other place k = elim (any_flawed text other place k) [
+  | inl b ↦ omega (arith, at, bad_later text h.front h.back h.near place (fitting_leads (before_part []) h.front h.near h.fitting) h.is b)
+  | inr f ↦ let w = flaw_later text h other place f in omega (arith, at, f.at, ap length w.1, length-append h.front w.0, since_along h.near w.0 f.near w.3)
+]
 
 -- every refusal, by what shows it
-by_why : (text : List ℕ) (kind : SelectFault) (left column : ℕ) → outcome (before_part []) text ≡ refuses kind left → column + left ≡ length text + 1 → Why (before_part []) text (refuses kind left) → IsFault text kind column
-by_why text kind left column h count (by_end parts e w) = absurd (cc)
-by_why text kind left column h count (by_stuck left' e w) =
-    let same : left' ≡ left = cc in
-    let bad : BadToken ≡ kind = cc in
-    subst (λ x. outcome (before_part []) text ≡ refuses x left → IsFault text x column) bad (λ g. stuck_fault text left column g (subst (StuckAt (before_part []) text) same w) count) h
-by_why text kind left column h count (by_flaw kind' left' e w) =
-    let same : left' ≡ left = cc in
-    let kinds : kind' ≡ kind = cc in
-    flaw_fault text kind left column h (subst (FlawAt (before_part []) text kind) same (subst (λ x. FlawAt (before_part []) text x left') kinds w)) count
+fault_why : (text : List ℕ) (kind : SelectFault) (left column : ℕ) → outcome (before_part []) text ≡ refuses kind left → column + left ≡ length text + 1 → Refused (before_part []) text kind left → IsFault text kind column
+fault_why text kind left column o count (by_stuck h bad n stuck) =
+    let leads = fitting_leads (before_part []) h.front h.near h.fitting in
+    let at : column ≡ length h.front + 1 = omega (arith, n, ap length h.is, length-append h.front h.back, count) in
+    let here : BadTokenAt text column =
+    record { front = h.front; back = h.back; is = h.is; place = at; begins = leads_begins h.front h.near leads; stuck = stuck_so h.front h.back h.near leads stuck } in
+    record { here = subst (λ x. FaultAt text x column) bad here; first = stuck_first text h column stuck at; refused = refused_so text kind left o }
+fault_why text kind left column o count (by_flaw h c rest e n flawed) =
+    let means = leads_means h.front h.near (fitting_leads (before_part []) h.front h.near h.fitting) in
+    let is : text ≡ h.front ++ c ∷ rest = h.is ∙ ap (λ x. h.front ++ x) e in
+    let at : column + since h.near ≡ length h.front + 1 = omega (arith, n, ap length is, length-append h.front (c ∷ rest), count) in
+    record { here = flaw_here h.near h.front rest text c column kind means flawed is at; first = flaw_first text h column at; refused = refused_so text kind left o }
 
 pub fault_of : (text : List ℕ) (kind : SelectFault) (left column : ℕ) → outcome (before_part []) text ≡ refuses kind left → column + left ≡ length text + 1 → IsFault text kind column
-fault_of text kind left column h count = by_why text kind left column h count (why (before_part []) text (refuses kind left) h)
+fault_of text kind left column h count = fault_why text kind left column h count (why (before_part []) text (refuses kind left) h)
 
 -- from a fault on, no more is left than the text has
-since_within : (front : List ℕ) (z : Place) → Leads (before_part []) front z → since z ≤ length front
-since_within front z h = let k = since_along (before_part []) front z h in omega (arith, k)
-
-within_why : (text : List ℕ) (kind : SelectFault) (left : ℕ) → Why (before_part []) text (refuses kind left) → left ≤ length text
-within_why text kind left (by_end parts e w) = absurd (cc)
-within_why text kind left (by_stuck left' e w) = let same : left' ≡ left = cc in omega (arith, same, w.count, ap length w.is, length-append w.front w.back)
-within_why text kind left (by_flaw kind' left' e w) =
-    let same : left' ≡ left = cc in
-    let k = since_within w.front w.near (fitting_leads (before_part []) w.front w.near w.fitting) in
-    omega (arith, same, k, w.count, ap length w.is, length-append w.front (w.c ∷ w.back))
+within_why : (text : List ℕ) (kind : SelectFault) (left : ℕ) → Refused (before_part []) text kind left → left ≤ length text
+within_why text kind left (by_stuck h bad n k) = omega (arith, n, ap length h.is, length-append h.front h.back)
+within_why text kind left (by_flaw h c rest e n f) =
+    let k = since_along (before_part []) h.front h.near (fitting_leads (before_part []) h.front h.near h.fitting) in
+    omega (arith, k, n, ap length h.is, ap length e, length-append h.front h.back)
 
 pub left_within : (text : List ℕ) (kind : SelectFault) (left : ℕ) → outcome (before_part []) text ≡ refuses kind left → left ≤ length text
 left_within text kind left h = within_why text kind left (why (before_part []) text (refuses kind left) h)

@@ -241,49 +241,41 @@ pub from_leads : (ps : Parts) (ss : List Segment) (from : Option ℤ) (bound gap
     → Leads (inside ps ss bracket) (bound ++ gap ++ 58 ∷ more) (inside ps ss (colon from))
 from_leads ps ss None bound gap more k b b' =
     let z = inside ps ss (colon None) in
-    leads_as (inside ps ss bracket) ([] ++ gap ++ 58 ∷ more) (bound ++ gap ++ 58 ∷ more) z (ap (λ x. x ++ gap ++ 58 ∷ more) (sym k))
-    (leads_on (inside ps ss bracket) gap (58 ∷ more) (inside ps ss bracket) z (along_blanks (inside ps ss bracket) gap (bracket_blank ps ss) b)
-    (z, refl, along_blanks z more (colon_blank ps ss None) b'))
+    rw k (leads_on (inside ps ss bracket) gap (58 ∷ more) (inside ps ss bracket) z (along_blanks (inside ps ss bracket) gap (bracket_blank ps ss) b) (z, refl, along_blanks z more (colon_blank ps ss None) b'))
 from_leads ps ss (Some v) bound gap more k b b' =
     let z = inside ps ss (colon (Some (signed_value k.negative k.digits))) in
     let m = at_number k.negative k.digits gap in
-    subst (λ x. Leads (inside ps ss bracket) (bound ++ gap ++ 58 ∷ more) (inside ps ss (colon (Some x)))) k.value
-    (leads_as (inside ps ss bracket) (signed k.negative k.digits ++ gap ++ 58 ∷ more) (bound ++ gap ++ 58 ∷ more) z (ap (λ x. x ++ gap ++ 58 ∷ more) (sym k.is))
+    rw (k.is, ← (k.value))
     (leads_on (inside ps ss bracket) (signed k.negative k.digits ++ gap) (58 ∷ more) (inside ps ss m) z (gap_leads ps ss k.negative k.digits gap k.numeral b)
-    (z, ap (moved ps ss 58) (colon_move k.negative k.digits gap), along_blanks z more (colon_blank ps ss (Some (signed_value k.negative k.digits))) b')))
+    (z, ap (moved ps ss 58) (colon_move k.negative k.digits gap), along_blanks z more (colon_blank ps ss (Some (signed_value k.negative k.digits))) b'))
 
 -- the second bound, and the end
 to_end : (ps : Parts) (ss : List Segment) (from to : Option ℤ) (second after : List ℕ) → MayBound to second → AreBlanks after
     → Leads (inside ps ss (colon from)) (second ++ (after ++ 93 ∷ [])) (ready ps (ss ++ Range from to ∷ []))
 to_end ps ss from None second after k b =
     let z = ready ps (ss ++ Range from None ∷ []) in
-    leads_as (inside ps ss (colon from)) ([] ++ (after ++ 93 ∷ [])) (second ++ (after ++ 93 ∷ [])) z (ap (λ x. x ++ (after ++ 93 ∷ [])) (sym k))
-    (leads_on (inside ps ss (colon from)) after (93 ∷ []) (inside ps ss (colon from)) z (along_blanks (inside ps ss (colon from)) after (colon_blank ps ss from) b) (z, refl, refl))
+    rw k (leads_on (inside ps ss (colon from)) after (93 ∷ []) (inside ps ss (colon from)) z (along_blanks (inside ps ss (colon from)) after (colon_blank ps ss from) b) (z, refl, refl))
 to_end ps ss from (Some v) second after k b =
     let z = ready ps (ss ++ Range from (Some (signed_value k.negative k.digits)) ∷ []) in
-    subst (λ x. Leads (inside ps ss (colon from)) (second ++ (after ++ 93 ∷ [])) (ready ps (ss ++ Range from (Some x) ∷ []))) k.value
-    (leads_as (inside ps ss (colon from)) (signed k.negative k.digits ++ (after ++ 93 ∷ [])) (second ++ (after ++ 93 ∷ [])) z (ap (λ x. x ++ (after ++ 93 ∷ [])) (sym k.is))
+    rw (k.is, ← (k.value))
     (leads_on (inside ps ss (colon from)) (signed k.negative k.digits) (after ++ 93 ∷ []) (inside ps ss (to_number from k.negative k.digits)) z
-    (tokens_lead ps ss (colon from) (signed k.negative k.digits) (to_number from k.negative k.digits) (number_on (behind_colon from) k.negative k.digits k.numeral)) (shut after b)))
+    (tokens_lead ps ss (colon from) (signed k.negative k.digits) (to_number from k.negative k.digits) (number_on (behind_colon from) k.negative k.digits k.numeral)) (shut after b))
   where
-    shut : (after : List ℕ) → AreBlanks after
-        → Leads (inside ps ss (to_number from k.negative k.digits)) (after ++ 93 ∷ []) (ready ps (ss ++ Range from (Some (signed_value k.negative k.digits)) ∷ []))
-    shut [] b = (ready ps (ss ++ Range from (Some (signed_value k.negative k.digits)) ∷ []), refl, refl)
+    segment : Segment
+    segment = Range from (Some (signed_value k.negative k.digits))
+
+    shut : (after : List ℕ) → AreBlanks after → Leads (inside ps ss (to_number from k.negative k.digits)) (after ++ 93 ∷ []) (ready ps (ss ++ segment ∷ []))
+    shut [] b = (ready ps (ss ++ segment ∷ []), refl, refl)
     shut (c ∷ cs) b =
         let q = and_parts (is_blank c) (list_all is_blank cs) b in
-        let segment = Range from (Some (signed_value k.negative k.digits)) in (
-          inside ps ss (closing segment),
-          at_blank (λ x. step (inside ps ss (to_number from k.negative k.digits)) x ≡ Some (inside ps ss (closing (Range from (Some (signed_value k.negative k.digits)))))) c q.0 refl refl,
-          closes ps ss segment cs q.1,
-        )
+        (inside ps ss (closing segment), at_blank (λ x. step (inside ps ss (to_number from k.negative k.digits)) x ≡ Some (inside ps ss (closing segment))) c q.0 refl refl, closes ps ss segment cs q.1)
 
 range_on : (s : Place) (ps : Parts) (ss : List Segment) (from to : Option ℤ) (before held after text : List ℕ) → AtEnd s ps ss → AreBlanks before → AreBlanks after
     → text ≡ 91 ∷ before ++ held ++ after ++ 93 ∷ [] → SpellsBounds from to held → LeadsToEnd s text ps (ss ++ Range from to ∷ [])
 range_on s ps ss from to before held after text h b b' is (unbounded none e f) =
     let z = ready ps (ss ++ Range None None ∷ []) in
     rw (e, f) (through s ps ss (Range None None) before held after text h b is
-    (leads_as (inside ps ss bracket) ([] ++ (after ++ 93 ∷ [])) (held ++ (after ++ 93 ∷ [])) z (ap (λ x. x ++ (after ++ 93 ∷ [])) (sym none))
-    (leads_on (inside ps ss bracket) after (93 ∷ []) (inside ps ss bracket) z (along_blanks (inside ps ss bracket) after (bracket_blank ps ss) b') (z, refl, refl))))
+    (rw none (leads_on (inside ps ss bracket) after (93 ∷ []) (inside ps ss bracket) z (along_blanks (inside ps ss bracket) after (bracket_blank ps ss) b') (z, refl, refl))))
 range_on s ps ss from to before held after text h b b' is (bounded first gap more second e k g g' m) =
     let z = ready ps (ss ++ Range from to ∷ []) in
     through s ps ss (Range from to) before held after text h b is
