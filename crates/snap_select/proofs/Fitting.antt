@@ -60,7 +60,7 @@ TokenFits ss (to_number from negative digits) = MayFit from × (is_far (signed_v
 TokenFits ss (closing segment) = MayStand ss segment
 TokenFits ss _ = ⊤
 
--- where a move leads, that is what fits; it is so exactly where the other statement holds
+-- the statement holds exactly where what the move leads to fits
 abbrev MoveFits : Type 0 → List Segment → Move → Type 0
 MoveFits B ss (on token) = B ↔ TokenFits ss token
 MoveFits B ss (ends segment) = B ↔ MayStand ss segment

@@ -87,31 +87,22 @@ comma_between ps t h =
     let comma = commas_more h.earlier s.front h.last (s.back ++ 44 ∷ []) s.first (record { part = s.back; is = refl; spelled = s.second }) in
     record { front = s.front ++ (s.back ++ 44 ∷ []); blanks = []; is = ap (λ x. x ++ 44 ∷ []) s.is ∙ simp (append_assoc, append-nil); commas = rw (h.are) comma; blank = refl }
 
-part_blank : (last : List Segment) (back : List ℕ) (c : ℕ) → SpellsPart last back → is_blank c ≡ true → SpellsPart last (back ++ c ∷ [])
-part_blank last back c h e = record {
-  before = h.before;
-  inside = h.inside;
-  after = h.after ++ c ∷ [];
-  is = ap (λ x. x ++ c ∷ []) h.is ∙ append_assoc (h.before ++ h.inside) h.after (c ∷ []);
-  blank_before = h.blank_before;
-  blank_after = all_more is_blank h.after c h.blank_after e;
-  stands = h.stands;
-  filled = h.filled;
-}
-
 spelled_blank : (ps : Parts) (t : List ℕ) (c : ℕ) → IsSpelled t ps → is_blank c ≡ true → IsSpelled (t ++ c ∷ []) ps
-spelled_blank ps t c h e = record {
-  earlier = h.earlier;
-  last = h.last;
-  are = h.are;
-  spelled = record {
-    front = h.spelled.front;
-    back = h.spelled.back ++ c ∷ [];
-    is = ap (λ x. x ++ c ∷ []) h.spelled.is ∙ append_assoc h.spelled.front h.spelled.back (c ∷ []);
-    first = h.spelled.first;
-    second = part_blank h.last h.spelled.back c h.spelled.second e;
-  };
-}
+spelled_blank ps t c h e =
+    let s = h.spelled in
+    let p = s.second in
+    let part : SpellsPart h.last (s.back ++ c ∷ []) = record {
+      before = p.before;
+      inside = p.inside;
+      after = p.after ++ c ∷ [];
+      is = ap (λ x. x ++ c ∷ []) p.is ∙ append_assoc (p.before ++ p.inside) p.after (c ∷ []);
+      blank_before = p.blank_before;
+      blank_after = all_more is_blank p.after c p.blank_after e;
+      stands = p.stands;
+      filled = p.filled;
+    } in
+    let is = ap (λ x. x ++ c ∷ []) s.is ∙ append_assoc s.front s.back (c ∷ []) in
+    record { earlier = h.earlier; last = h.last; are = h.are; spelled = record { front = s.front; back = s.back ++ c ∷ []; is = is; first = s.first; second = part } }
 
 -- earlier parts, blanks and a body are whole
 pub whole_part : (ps : Parts) (ss : List Segment) (lead body t : List ℕ) → t ≡ lead ++ body → Between ps lead → Stands ss body → body ≢ [] → IsSpelled t (ps ++ ss ∷ [])

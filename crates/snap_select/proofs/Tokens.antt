@@ -1,6 +1,7 @@
 -- What has been read of a segment, and what one more character makes of it.
 use Rattle.snap_select.proofs.Prelude.{◌≡◌, ℕ, ℤ, ◌<◌, Bool, true, false, inl, inr, List, [], ◌∷◌, ◌++◌, length, Option, Some, None, cond, refl, sym, ap, ◌∙◌, subst, append_assoc, append-nil, arith, length-append, eqb-true, eqb-false, and_from, and_parts, ltb-true, is_digit, digit_value, list_all, ⊤, IsTrue, ◌==◌, ◌&&◌, not, IsNumeral, AllDigits, digits_value, is_xid_continue, is_blank, AreBlanks, begins_name, IsName, Quoted, Quotes, dotted, bracketed, signed, signed_value, SpellsBound, MayBound, unbounded, bounded, Spells, Token, dot, in_name, star, bracket, in_quotes, backslash, minus, number, behind_number, colon, to_minus, to_number, closing, Move, on, ends, ended_before, nowhere, behind, move, Segment, Key, Index, Range}
 use Rattle.std.proofs.lemmas.Int.Digits.{digits_push}
+use Rattle.std.proofs.lemmas.List.Folds.{list_all-append}
 
 -- an opened range, up to the blanks behind its colon
 pub record OpenRange (from : Option ℤ) (text : List ℕ) : Type 0 where
@@ -45,9 +46,6 @@ MoveMeans t more (ended_before segment) = Spells segment t
 MoveMeans t more nowhere = ⊤
 
 -- groups of texts
-one_more : (p s c : List ℕ) → ((p ++ s) ++ []) ++ c ≡ (p ++ (s ++ c)) ++ []
-one_more p s c = ap (λ x. x ++ c) (append-nil (p ++ s)) ∙ append_assoc p s c ∙ sym (append-nil (p ++ (s ++ c)))
-
 twice_nothing : (p q : List ℕ) → p ++ q ≡ ((p ++ []) ++ []) ++ q
 twice_nothing p q = sym (ap (λ x. x ++ q) (append-nil (p ++ []) ∙ append-nil p))
 
@@ -65,9 +63,7 @@ either false Q f g = g refl
 
 -- one character more
 pub all_more : (p : ℕ → Bool) (cs : List ℕ) (c : ℕ) → IsTrue (list_all p cs) → p c ≡ true → IsTrue (list_all p (cs ++ c ∷ []))
-all_more p [] c h k = rw k refl
-all_more p (d ∷ ds) c h k =
-    let q = and_parts (p d) (list_all p ds) h in and_from (p d) (list_all p (ds ++ c ∷ [])) q.0 (all_more p ds c q.1 k)
+all_more p cs c h k = rw list_all-append (and_from (list_all p cs) (list_all p (c ∷ [])) h (rw k refl))
 
 name_more : (name : List ℕ) (c : ℕ) → IsName name → is_xid_continue c ≡ true → IsName (name ++ c ∷ [])
 name_more [] c h k = absurd h
@@ -132,7 +128,7 @@ gap_more negative digits gap t c h e = record {
 number_more : (negative : Bool) (digits t : List ℕ) (c : ℕ) → OpenNumber negative digits [] t → is_digit c 10 ≡ true → OpenNumber negative (digits ++ c ∷ []) [] (t ++ c ∷ [])
 number_more negative digits t c h e = record {
   blanks = h.blanks;
-  is = ap (λ x. x ++ c ∷ []) h.is ∙ one_more (91 ∷ h.blanks) (signed negative digits) (c ∷ []) ∙ ap (λ x. (91 ∷ h.blanks ++ x) ++ []) (signed_more negative digits (c ∷ []));
+  is = ap (λ x. x ++ c ∷ []) h.is ∙ (simp (append-nil, append_assoc)) ∙ ap (λ x. (91 ∷ h.blanks ++ x) ++ []) (signed_more negative digits (c ∷ []));
   blank = h.blank;
   numeral = numeral_more digits c h.numeral.1 e;
   blank_gap = refl;
@@ -172,20 +168,12 @@ range_spelled from to front second after h k b = record {
   holds = bounded h.bound h.gap h.more second refl h.may h.blank_gap h.blank_more k;
 }
 
-spelled_as : (segment : Segment) (x y : List ℕ) → x ≡ y → Spells segment x → Spells segment y
-spelled_as segment x y e h = subst (Spells segment) e h
-
 range_closed : (from to : Option ℤ) (front second t : List ℕ) (c : ℕ) → OpenRange from front → MayBound to second → t ≡ front ++ second → (c == 93) ≡ true → Spells (Range from to) (t ++ c ∷ [])
-range_closed from to front second t c h k is e =
-    spelled_as (Range from to) ((front ++ second) ++ 93 ∷ []) (t ++ c ∷ [])
-    (ap (λ x. (front ++ second) ++ x ∷ []) (sym (eqb-true c 93 e)) ∙ ap (λ x. x ++ c ∷ []) (sym is))
-    (spelled_as (Range from to) ((front ++ second) ++ [] ++ 93 ∷ []) ((front ++ second) ++ 93 ∷ []) (ap (λ x. x ++ 93 ∷ []) (append-nil (front ++ second))) (range_spelled from to front second [] h k refl))
+range_closed from to front second t c h k is e = rw (is, eqb-true c 93 e) (rw append-nil at (range_spelled from to front second [] h k refl))
 
 range_closing : (from to : Option ℤ) (front second t : List ℕ) (c : ℕ) → OpenRange from front → MayBound to second → t ≡ front ++ second → is_blank c ≡ true → TokenMeans (closing (Range from to)) (t ++ c ∷ [])
-range_closing from to front second t c h k is e =
-    λ blanks b. spelled_as (Range from to) ((front ++ second) ++ (c ∷ blanks) ++ 93 ∷ []) ((t ++ c ∷ []) ++ blanks ++ 93 ∷ [])
-    (ap (λ x. x ++ c ∷ blanks ++ 93 ∷ []) (sym is) ∙ ap (λ x. x ++ 93 ∷ []) (sym (append_assoc t (c ∷ []) blanks)))
-    (range_spelled from to front second (c ∷ blanks) h k (and_from (is_blank c) (list_all is_blank blanks) e b))
+range_closing from to front second t c h k is e = λ blanks b.
+    rw (is, append_assoc (front ++ second) (c ∷ []) blanks) (range_spelled from to front second (c ∷ blanks) h k (and_from (is_blank c) (list_all is_blank blanks) e b))
 
 empty_range : (blanks t : List ℕ) (c : ℕ) → t ≡ 91 ∷ blanks → AreBlanks blanks → (c == 93) ≡ true → Spells (Range None None) (t ++ c ∷ [])
 empty_range blanks t c is h e = record {
@@ -264,6 +252,5 @@ token_on (to_number from negative digits) t c h =
     (λ g. pick (c == 93) _ _ P (λ e. range_closed from to h.0 (signed negative digits) t c h.1 spelled h.2 e) (λ g. tt)))
 token_on (closing segment) t c h =
     let P = MoveMeans t (t ++ c ∷ []) in
-    pick (is_blank c) _ _ P
-    (λ e blanks b. spelled_as segment (t ++ (c ∷ blanks) ++ 93 ∷ []) ((t ++ c ∷ []) ++ blanks ++ 93 ∷ []) (simp append_assoc) (h (c ∷ blanks) (and_from (is_blank c) (list_all is_blank blanks) e b)))
-    (λ f. pick (c == 93) _ _ P (λ e. spelled_as segment (t ++ [] ++ 93 ∷ []) (t ++ c ∷ []) (ap (λ x. x ++ 93 ∷ []) (append-nil t) ∙ ap (λ x. t ++ x ∷ []) (sym (eqb-true c 93 e))) (h [] refl)) (λ g. tt))
+    pick (is_blank c) _ _ P (λ e blanks b. rw (append_assoc t (c ∷ []) blanks) (h (c ∷ blanks) (and_from (is_blank c) (list_all is_blank blanks) e b)))
+    (λ f. pick (c == 93) _ _ P (λ e. rw (eqb-true c 93 e) (rw append-nil at (h [] refl))) (λ g. tt))
