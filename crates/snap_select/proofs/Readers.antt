@@ -1,5 +1,5 @@
 -- What each reader reads, as outcomes.
-use Rattle.snap_select.proofs.Prelude.{Result, Ok, Err, IfOk, IfErr, Bor, ◌≡◌, ℕ, suc, ℤ, ◌+◌, ◌^◌, ◌<◌, ◌≤◌, Bool, true, false, List, [], ◌∷◌, ◌++◌, length, Option, Some, None, cond, refl, sym, ap, ◌∙◌, subst, append_assoc, append-nil, arith, length-append, MatchOption, is_some, eqb-true, ne_eqb, le-leb, lt-leb, ◌==◌, ◌&&◌, ◌||◌, not, chars, IsNumeral, AllDigits, digits_value, is_xid_start, is_xid_continue, unicode_ident, is_deep, has_deep, is_blank, AreBlanks, begins_name, signed, signed_value, FitsBound, Parts, past, front, is_decimal, Fails, IsNameThen, goes_on_dot, begins_segment, unsigned, IsNumber, number_value, IsNumberThen, Token, dot, in_name, star, bracket, minus, number, colon, to_minus, to_number, closing, Place, before_part, first_dot, ready, inside, behind_part, step, flaw, since, is_far, is_over, Outcome, selects, refuses, outcome, IsStop, GoesOn, StopsAt, Closes, ClosesNot, IsNumberBehind, once_deep, ReadsWildcard, ReadsDotted, ReadsSegment, ReadsPart, StopsPart, SelectFault, BadToken, DeepTwice, TooLarge, Segment, Stop, DeepWildcard, Wildcard, Key, Index, Range, moved}
+use Rattle.snap_select.proofs.Prelude.{Result, Ok, Err, IfOk, IfErr, Bor, ◌≡◌, ℕ, suc, ℤ, ◌+◌, ◌^◌, ◌<◌, ◌≤◌, Bool, true, false, List, [], ◌∷◌, ◌++◌, length, Option, Some, None, cond, refl, sym, ap, ◌∙◌, subst, append_assoc, append-nil, arith, length-append, MatchOption, is_some, eqb-true, ne_eqb, le-leb, lt-leb, ◌==◌, ◌&&◌, not, chars, IsNumeral, AllDigits, digits_value, is_xid_start, is_xid_continue, unicode_ident, is_deep, has_deep, is_blank, AreBlanks, begins_name, signed, signed_value, FitsBound, Parts, past, front, is_decimal, Fails, IsNameThen, goes_on_dot, begins_segment, unsigned, IsNumber, number_value, IsNumberThen, Token, dot, in_name, star, bracket, minus, number, colon, to_minus, to_number, closing, Place, before_part, first_dot, ready, inside, behind_part, step, flaw, since, is_far, is_over, Outcome, refuses, outcome, IsStop, GoesOn, StopsAt, Closes, ClosesNot, IsNumberBehind, once_deep, ReadsWildcard, ReadsDotted, ReadsSegment, ReadsPart, StopsPart, SelectFault, BadToken, DeepTwice, TooLarge, Segment, Stop, DeepWildcard, Wildcard, Key, Index, Range, moved}
 use Rattle.snap_content.specs.Front.{begins}
 use Rattle.snap_select.proofs.Fitting.{Fitting, TokenFits, tokens_fit, far_less, near_over, fits_near}
 use Rattle.snap_select.proofs.Outcomes.{Stuck}
@@ -7,7 +7,7 @@ use Rattle.snap_select.proofs.Oversize.{unfit_far, is_large, counted_since, spil
 use Rattle.snap_select.proofs.PieceFacts.{cut_at, past_fails, past_ends, front_passes, digit_no_minus, number_is}
 use Rattle.snap_select.proofs.Tokens.{either}
 use Rattle.snap_select.proofs.Walks.{Spot, behind_bracket, behind_colon, opening, counting, number_on, name_on, at_number, gap_behind, colon_move, digit_is, no_blank}
-use Rattle.snap_content.proofs.Booleans.{and_nothing, or_left, or_right}
+use Rattle.snap_content.proofs.Booleans.{and_nothing}
 
 -- along a text, and where it stops
 one_step : (s : Place) (c : ℕ) (cs : List ℕ) (z : Place) → step s c ≡ Some z → flaw s c ≡ None → outcome s (c ∷ cs) ≡ outcome z cs
@@ -38,11 +38,11 @@ colon_at from text t e ps ss = skip (inside ps ss (colon from)) (λ c h. rw h re
 skip_closing : (ps : Parts) (ss : List Segment) (segment : Segment) (text : List ℕ) → outcome (inside ps ss (closing segment)) text ≡ outcome (inside ps ss (closing segment)) (past is_blank text)
 skip_closing ps ss segment text = skip (inside ps ss (closing segment)) (λ c h. rw h refl) (λ c h. refl) text
 
-pub skip_start : (ps : Parts) (text : List ℕ) → outcome (before_part ps) text ≡ outcome (before_part ps) (past is_blank text)
-skip_start ps text = skip (before_part ps) (λ c h. rw h refl) (λ c h. refl) text
+pub start_at : (ps : Parts) (text more : List ℕ) → past is_blank text ≡ more → outcome (before_part ps) text ≡ outcome (before_part ps) more
+start_at ps text more e = skip (before_part ps) (λ c h. rw h refl) (λ c h. refl) text ∙ ap (outcome (before_part ps)) e
 
-pub skip_behind : (ps : Parts) (text : List ℕ) → outcome (behind_part ps) text ≡ outcome (behind_part ps) (past is_blank text)
-skip_behind ps text = skip (behind_part ps) (λ c h. rw h refl) (λ c h. refl) text
+pub behind_at : (ps : Parts) (text more : List ℕ) → past is_blank text ≡ more → outcome (behind_part ps) text ≡ outcome (behind_part ps) more
+behind_at ps text more e = skip (behind_part ps) (λ c h. rw h refl) (λ c h. refl) text ∙ ap (outcome (behind_part ps)) e
 
 -- a character that the text doesn't begin with
 apart : (c d : ℕ) (cs : List ℕ) → ((more : List ℕ) → c ∷ cs ≡ d ∷ more → ⊥) → (c == d) ≡ false
@@ -145,56 +145,38 @@ colon_near text num after later h e u ps ss =
     behind_gap ps ss negative digits text after (58 ∷ later) (number_text text num after h.is) h.numeral (sym e) (near_over negative digits near)
     ∙ one_step (inside ps ss (at_number negative digits gap)) 58 later (inside ps ss (colon (Some (number_value num)))) (ap (moved ps ss 58) (colon_move negative digits gap)) (colon_flaw ps ss negative digits gap false near)
 
--- no number, and nothing else that may stand behind a bracket or a colon
-minus_stops : (ps : Parts) (ss : List Segment) (text : List ℕ) → Fails is_decimal text → outcome (inside ps ss minus) text ≡ refuses BadToken (length text)
-minus_stops ps ss [] h = refl
-minus_stops ps ss (c ∷ cs) h = rw h refl
-
+-- no number, and nothing else that may stand behind a colon
 to_minus_stops : (ps : Parts) (ss : List Segment) (from : Option ℤ) (text : List ℕ) → Fails is_decimal text → outcome (inside ps ss (to_minus from)) text ≡ refuses BadToken (length text)
 to_minus_stops ps ss from [] h = refl
 to_minus_stops ps ss from (c ∷ cs) h = rw h refl
 
-pub no_number : (text : List ℕ) → Fails is_blank text → ((cs : List ℕ) → text ≡ 34 ∷ cs → ⊥) → ((cs : List ℕ) → text ≡ 93 ∷ cs → ⊥) → ((cs : List ℕ) → text ≡ 58 ∷ cs → ⊥) → Fails is_decimal (unsigned text)
-    → (ps : Parts) (ss : List Segment) → outcome (inside ps ss bracket) text ≡ refuses BadToken (length (unsigned text))
-no_number [] h k m n f ps ss = refl
-no_number (c ∷ cs) h k m n f ps ss = by_minus (c == 45) refl f
+pub to_no_number : (from : Option ℤ) (text : List ℕ) → Fails is_blank text → ((cs : List ℕ) → text ≡ 93 ∷ cs → ⊥) → Fails is_decimal (unsigned text)
+    → (ps : Parts) (ss : List Segment) → outcome (inside ps ss (colon from)) text ≡ refuses BadToken (length (unsigned text))
+to_no_number from [] h m f ps ss = refl
+to_no_number from (c ∷ cs) h m f ps ss = by_minus (c == 45) refl f
   where
-    by_minus : (b : Bool) → (c == 45) ≡ b → Fails is_decimal (cond b cs (c ∷ cs)) → outcome (inside ps ss bracket) (c ∷ cs) ≡ refuses BadToken (length (cond b cs (c ∷ cs)))
-    by_minus true e f = let q = apart c 34 cs k in one_step (inside ps ss bracket) c cs (inside ps ss minus) (rw (h, q, e) refl) refl ∙ minus_stops ps ss cs f
-    by_minus false e f = let a = apart c 34 cs k in let b = apart c 93 cs m in let d = apart c 58 cs n in stuck_here (inside ps ss bracket) (c ∷ cs) (rw (h, a, e, f, d, b) refl, refl)
-
-pub to_no_number : (from : Option ℤ) (text rest : List ℕ) → rest ≡ past is_blank text → ((cs : List ℕ) → rest ≡ 93 ∷ cs → ⊥) → Fails is_decimal (unsigned rest)
-    → (ps : Parts) (ss : List Segment) → outcome (inside ps ss (colon from)) text ≡ refuses BadToken (length (unsigned rest))
-to_no_number from text rest e m f ps ss = colon_at from text rest e ps ss ∙ stops rest (past_ends is_blank text rest e) m f
-  where
-    stops : (rest : List ℕ) → Fails is_blank rest → ((cs : List ℕ) → rest ≡ 93 ∷ cs → ⊥) → Fails is_decimal (unsigned rest) → outcome (inside ps ss (colon from)) rest ≡ refuses BadToken (length (unsigned rest))
-    stops [] h m f = refl
-    stops (c ∷ cs) h m f = by_minus (c == 45) refl f
-      where
-        by_minus : (b : Bool) → (c == 45) ≡ b → Fails is_decimal (cond b cs (c ∷ cs)) → outcome (inside ps ss (colon from)) (c ∷ cs) ≡ refuses BadToken (length (cond b cs (c ∷ cs)))
-        by_minus true e f = one_step (inside ps ss (colon from)) c cs (inside ps ss (to_minus from)) (rw (h, e) refl) refl ∙ to_minus_stops ps ss from cs f
-        by_minus false e f = let b = apart c 93 cs m in stuck_here (inside ps ss (colon from)) (c ∷ cs) (rw (h, e, f, b) refl, refl)
+    by_minus : (b : Bool) → (c == 45) ≡ b → Fails is_decimal (cond b cs (c ∷ cs)) → outcome (inside ps ss (colon from)) (c ∷ cs) ≡ refuses BadToken (length (cond b cs (c ∷ cs)))
+    by_minus true e f = one_step (inside ps ss (colon from)) c cs (inside ps ss (to_minus from)) (rw (h, e) refl) refl ∙ to_minus_stops ps ss from cs f
+    by_minus false e f = let b = apart c 93 cs m in stuck_here (inside ps ss (colon from)) (c ∷ cs) (rw (h, e, f, b) refl, refl)
 
 -- the second bound
 pub to_closed : (from : Option ℤ) (text rest : List ℕ) → past is_blank text ≡ 93 ∷ rest → (ps : Parts) (ss : List Segment) → outcome (inside ps ss (colon from)) text ≡ outcome (ready ps (ss ++ Range from None ∷ [])) rest
 to_closed from text rest h ps ss = colon_at from text (93 ∷ rest) (sym h) ps ss
 
-pub to_far : (from : Option ℤ) (text t num rest : List ℕ) → t ≡ past is_blank text → IsNumberThen t num rest → ¬ FitsBound (number_value num)
-    → (ps : Parts) (ss : List Segment) → outcome (inside ps ss (colon from)) text ≡ refuses TooLarge (length t)
-to_far from text t num rest e h u ps ss =
-    colon_at from text t e ps ss ∙ large_text ps ss (behind_colon from) (begins 45 num) (unsigned num) t rest (number_text t num rest h.is) h.numeral (unfit_far (number_value num) u)
+pub to_far : (from : Option ℤ) (text num rest : List ℕ) → IsNumberThen text num rest → ¬ FitsBound (number_value num) → (ps : Parts) (ss : List Segment) → outcome (inside ps ss (colon from)) text ≡ refuses TooLarge (length text)
+to_far from text num rest h u ps ss = large_text ps ss (behind_colon from) (begins 45 num) (unsigned num) text rest (number_text text num rest h.is) h.numeral (unfit_far (number_value num) u)
 
 to_as_closing : (ps : Parts) (ss : List Segment) (from : Option ℤ) (negative : Bool) (digits rest : List ℕ) → Fails is_decimal rest
     → outcome (inside ps ss (to_number from negative digits)) rest ≡ outcome (inside ps ss (closing (Range from (Some (signed_value negative digits))))) rest
 to_as_closing ps ss from negative digits [] h = refl
 to_as_closing ps ss from negative digits (c ∷ cs) h = rw h refl
 
-pub to_near : (from : Option ℤ) (text t num rest : List ℕ) → t ≡ past is_blank text → IsNumberThen t num rest → FitsBound (number_value num)
+pub to_near : (from : Option ℤ) (text num rest : List ℕ) → IsNumberThen text num rest → FitsBound (number_value num)
     → (ps : Parts) (ss : List Segment) → outcome (inside ps ss (colon from)) text ≡ outcome (inside ps ss (closing (Range from (Some (number_value num))))) rest
-to_near from text t num rest e h u ps ss =
+to_near from text num rest h u ps ss =
     let negative = begins 45 num in
     let digits = unsigned num in
-    colon_at from text t e ps ss ∙ ap (outcome (inside ps ss (colon from))) (number_text t num rest h.is)
+    ap (outcome (inside ps ss (colon from))) (number_text text num rest h.is)
     ∙ along (inside ps ss (colon from)) (signed negative digits) (inside ps ss (to_number from negative digits)) rest (number_fitting ps ss (behind_colon from) negative digits h.numeral (fits_near (number_value num) u))
     ∙ to_as_closing ps ss from negative digits rest h.ends
 
@@ -293,10 +275,6 @@ name_read text name key rest h e ps ss =
     ap (λ x. outcome (inside ps ss dot) x) h.is ∙ along (inside ps ss dot) name (inside ps ss (in_name name)) rest (tokens_fit ps ss dot name (in_name name) (name_on name h.named) tt).0
     ∙ name_ends ps ss name rest h.ends ∙ ap (λ x. outcome (ready ps (ss ++ Key x ∷ [])) rest) (sym e)
 
-pub no_name : (text : List ℕ) → Fails begins_name text → ((cs : List ℕ) → text ≡ 42 ∷ cs → ⊥) → (ps : Parts) (ss : List Segment) → outcome (inside ps ss dot) text ≡ refuses BadToken (length text)
-no_name [] h k ps ss = refl
-no_name (c ∷ cs) h k ps ss = let a = apart c 42 cs k in rw (h, a) refl
-
 pub one_star : (text : List ℕ) → ((cs : List ℕ) → text ≡ 42 ∷ cs → ⊥) → (ps : Parts) (ss : List Segment) → outcome (inside ps ss star) text ≡ outcome (ready ps (ss ++ Wildcard ∷ [])) text
 one_star [] h ps ss = refl
 one_star (c ∷ cs) h ps ss = let a = apart c 42 cs h in ready_ended ps ss star Wildcard c cs (rw a refl) (rw a refl)
@@ -320,11 +298,7 @@ wildcard_read text rest segment more e h ps ss =
 pub plain_reads : (ps : Parts) (ss : List Segment) (segment : Segment) (left : ℕ) (rest : List ℕ) → is_deep segment ≡ false → outcome (ready ps (ss ++ segment ∷ [])) rest ≡ once_deep ps ss segment left rest
 plain_reads ps ss segment left rest h = rw h refl
 
--- behind blanks
-pub past_stays : (p : ℕ → Bool) (text : List ℕ) → Fails p text → past p text ≡ text
-past_stays p [] h = refl
-past_stays p (c ∷ cs) h = rw h refl
-
+-- what is left is no longer
 pub number_longer : (text num rest : List ℕ) → text ≡ num ++ rest → length rest ≤ length text
 number_longer text num rest e = omega (arith, ap length e, length-append num rest)
 
@@ -337,10 +311,6 @@ same_near n v e h = subst FitsBound e h
 -- a segment in brackets
 pub bracketed_read : (text t : List ℕ) (s : Segment) (rest : List ℕ) → text ≡ 91 ∷ t → GoesOn bracket t s rest → ReadsSegment text s rest
 bracketed_read text t s rest e h ps ss = ap (λ x. outcome (ready ps ss) x) e ∙ h.1 ps ss ∙ plain_reads ps ss s (length text) rest h.0
-
--- behind the last segment of a part
-separated : (ps : Parts) (ss : List Segment) (c : ℕ) (cs : List ℕ) → (c == 46) || (c == 91) ≡ false → outcome (ready ps ss) (c ∷ cs) ≡ outcome (behind_part (ps ++ ss ∷ [])) (c ∷ cs)
-separated ps ss c cs h = rw (or_left (c == 46) (c == 91) h, or_right (c == 46) (c == 91) h) refl
 
 -- where a part begins
 star_here : (ps : Parts) (cs : List ℕ) → outcome (first_dot ps) (42 ∷ cs) ≡ outcome (inside ps [] dot) (42 ∷ cs)
@@ -370,29 +340,20 @@ unled_part ps (c ∷ cs) h k =
     either (c == 46) _ (λ e. let is = ap (λ x. x ∷ cs) (eqb-true c 46 e) in dotted_part ps (c ∷ cs) cs is (k cs is)) (λ e. rw (eqb-true c 91 (rw e at h)) refl)
 
 -- behind a part
-pub comma_on : (ps : Parts) (text t later : List ℕ) → t ≡ past is_blank text → t ≡ 44 ∷ later → outcome (behind_part ps) text ≡ outcome (before_part ps) later
-comma_on ps text t later e h = skip_behind ps text ∙ ap (λ x. outcome (behind_part ps) x) (sym e ∙ h)
-
-pub part_end : (ps : Parts) (text t : List ℕ) → t ≡ past is_blank text → t ≡ [] → outcome (behind_part ps) text ≡ selects ps
-part_end ps text t e h = skip_behind ps text ∙ ap (λ x. outcome (behind_part ps) x) (sym e ∙ h)
-
 no_comma_here : (ps : Parts) (t : List ℕ) → Fails is_blank t → ((cs : List ℕ) → t ≡ 44 ∷ cs → ⊥) → 0 < length t → outcome (behind_part ps) t ≡ refuses BadToken (length t)
 no_comma_here ps [] h k n = absurd (omega arith)
 no_comma_here ps (c ∷ cs) h k n = let a = apart c 44 cs k in rw (h, a) refl
 
 pub no_comma : (ps : Parts) (text t : List ℕ) → t ≡ past is_blank text → ((cs : List ℕ) → t ≡ 44 ∷ cs → ⊥) → 0 < length t → outcome (behind_part ps) text ≡ refuses BadToken (length t)
-no_comma ps text t e k n = skip_behind ps text ∙ ap (λ x. outcome (behind_part ps) x) (sym e) ∙ no_comma_here ps t (past_ends is_blank text t e) k n
+no_comma ps text t e k n = behind_at ps text t (sym e) ∙ no_comma_here ps t (past_ends is_blank text t e) k n
 
 -- from a test that nothing is left
-is_left : (a b c : Bool) → a ≡ not b → b ≡ c → a ≡ not c
-is_left a b c h k = h ∙ ap not k
-
 pub none_left : {A : Type 0} (o : Option A) (cs : List ℕ) (Q : A → Type 0) (b : Bool) → MatchOption o (cs ≡ []) Q → is_some o ≡ not b → b ≡ true → cs ≡ []
 none_left None cs Q b h e k = h
-none_left (Some x) cs Q b h e k = absurd (let f = is_left true b true e k in cc)
+none_left (Some x) cs Q b h e k = cc
 
 pub some_left : (o : Option (ℕ × Bor (List ℕ))) (cs : List ℕ) (b : Bool) → MatchOption o (cs ≡ []) (λ p. cs ≡ p.0 ∷ chars p.1.now) → is_some o ≡ not b → b ≡ false → 0 < length cs
-some_left None cs b h e k = absurd (let f = is_left false b false e k in cc)
+some_left None cs b h e k = cc
 some_left (Some p) cs b h e k = omega (arith, ap length h)
 
 -- what is read of a part
@@ -402,9 +363,3 @@ PartRead place text r = IfOk r (λ p. ReadsPart place text p.0 (chars p.1.now)) 
 pub part_read : (place near : Parts → Place) (text t : List ℕ) (r : Result (List Segment × Bor (List ℕ)) Stop) → ((ps : Parts) → outcome (place ps) text ≡ outcome (near ps) t) → length t ≤ length text → PartRead near t r → PartRead place text r
 part_read place near text t (Ok p) e n h = (λ ps. e ps ∙ h.0 ps, tt, omega (arith, n, h.2))
 part_read place near text t (Err s) e n h = (tt, λ ps. stop_along (outcome (place ps) text) (outcome (near ps) t) s (e ps) (h.1 ps), tt)
-
-pub dot_first : (text t body : List ℕ) → t ≡ past is_blank text → t ≡ 46 ∷ body → (ps : Parts) → outcome (before_part ps) text ≡ outcome (first_dot ps) body
-dot_first text t body e h ps = skip_start ps text ∙ ap (λ x. outcome (before_part ps) x) (sym e ∙ h)
-
-pub start_skipped : (text t : List ℕ) → t ≡ past is_blank text → (ps : Parts) → outcome (before_part ps) text ≡ outcome (before_part ps) t
-start_skipped text t e ps = skip_start ps text ∙ ap (λ x. outcome (before_part ps) x) (sym e)

@@ -1,6 +1,6 @@
-use Rattle.snap_select.proofs.Prelude.{length, ap, sym, ◌∙◌, arith, chars, is_blank, first_dot, before_part}
+use Rattle.snap_select.proofs.Prelude.{◌∷◌, length, ap, sym, ◌∙◌, arith, chars, is_blank, first_dot, before_part}
 use Rattle.snap_select.proofs.PieceFacts.{past_ends}
-use Rattle.snap_select.proofs.Readers.{past_shorter, past_within, dot_first, start_skipped, part_read}
+use Rattle.snap_select.proofs.Readers.{past_shorter, past_within, start_at, part_read}
 use Rattle.snap_select.proofs.parts.read_part.Goals as goal
 
 pub read_unled-requires-clause-no_blank : goal.read_unled-requires-clause-no_blank
@@ -12,7 +12,7 @@ returns-in-Some c =
     let body = chars c.in-Some.body.now in
     let e = c.past_blanks-text.ensures in
     let k = c.read_led.ensures in
-    let w = part_read before_part first_dot text body c.read_led.result (dot_first text (chars c.past_blanks-text.result.now) body e c.in-Some.ensures)
+    let w = part_read before_part first_dot text body c.read_led.result (λ ps. start_at ps text (46 ∷ body) (sym e ∙ c.in-Some.ensures))
     (omega (arith, past_shorter is_blank text, ap length (sym e ∙ c.in-Some.ensures))) (k.ok, k.stop, k.within) in
     record { ok = w.0; stop = w.1; within = w.2 }
 
@@ -22,5 +22,5 @@ returns-in_default c =
     let t = chars c.past_blanks-text.result.now in
     let e = c.past_blanks-text.ensures in
     let k = c.read_unled.ensures in
-    let w = part_read before_part before_part text t c.read_unled.result (start_skipped text t e) (past_within is_blank text t e) (k.ok, k.stop, k.within) in
+    let w = part_read before_part before_part text t c.read_unled.result (λ ps. start_at ps text t (sym e)) (past_within is_blank text t e) (k.ok, k.stop, k.within) in
     record { ok = w.0; stop = w.1; within = w.2 }
