@@ -1,5 +1,5 @@
 -- What each reader reads, as outcomes.
-use Rattle.snap_select.proofs.Prelude.{Result, Ok, Err, IfOk, IfErr, Bor, ◌≡◌, ℕ, suc, ℤ, ◌+◌, ◌^◌, ◌<◌, ◌≤◌, Bool, true, false, List, [], ◌∷◌, ◌++◌, length, Option, Some, None, cond, refl, sym, ap, ◌∙◌, subst, append_assoc, append-nil, arith, length-append, MatchOption, is_some, eqb-true, ne_eqb, le-leb, lt-leb, ◌==◌, ◌&&◌, not, chars, IsNumeral, AllDigits, digits_value, is_xid_start, is_xid_continue, unicode_ident, is_deep, has_deep, is_blank, AreBlanks, begins_name, signed, signed_value, FitsBound, Parts, past, front, is_decimal, Fails, IsNameThen, goes_on_dot, begins_segment, unsigned, IsNumber, number_value, IsNumberThen, Token, dot, in_name, star, bracket, minus, number, colon, to_minus, to_number, closing, Place, before_part, first_dot, ready, inside, behind_part, step, flaw, since, is_far, is_over, Outcome, refuses, outcome, IsStop, GoesOn, StopsAt, Closes, ClosesNot, IsNumberBehind, once_deep, ReadsWildcard, ReadsDotted, ReadsSegment, ReadsPart, StopsPart, SelectFault, BadToken, DeepTwice, TooLarge, Segment, Stop, DeepWildcard, Wildcard, Key, Index, Range, moved}
+use Rattle.snap_select.proofs.Prelude.{Result, Ok, Err, IfOk, IfErr, Bor, ◌≡◌, ℕ, suc, ℤ, ◌+◌, ◌^◌, ◌<◌, ◌≤◌, Bool, true, false, List, [], ◌∷◌, ◌++◌, length, Option, Some, None, refl, sym, ap, ◌∙◌, subst, append_assoc, append-nil, arith, length-append, MatchOption, is_some, eqb-true, ne_eqb, le-leb, lt-leb, ◌==◌, ◌&&◌, not, chars, IsNumeral, AllDigits, digits_value, is_xid_start, is_xid_continue, unicode_ident, is_deep, is_blank, AreBlanks, begins_name, signed, signed_value, FitsBound, Parts, past, front, is_decimal, Fails, IsNameThen, goes_on_dot, begins_segment, unsigned, IsNumber, number_value, IsNumberThen, Token, dot, in_name, star, bracket, number, colon, to_minus, to_number, closing, Place, before_part, first_dot, ready, inside, behind_part, step, flaw, since, is_far, is_over, Outcome, refuses, outcome, IsStop, GoesOn, StopsAt, Closes, ClosesNot, IsNumberBehind, once_deep, ReadsWildcard, ReadsDotted, ReadsPart, StopsPart, SelectFault, BadToken, TooLarge, Segment, Stop, Wildcard, Key, Index, Range, moved}
 use Rattle.snap_content.specs.Front.{begins}
 use Rattle.snap_select.proofs.Fitting.{Fitting, TokenFits, tokens_fit, far_less, near_over, fits_near}
 use Rattle.snap_select.proofs.Outcomes.{Stuck}
@@ -145,20 +145,6 @@ colon_near text num after later h e u ps ss =
     behind_gap ps ss negative digits text after (58 ∷ later) (number_text text num after h.is) h.numeral (sym e) (near_over negative digits near)
     ∙ one_step (inside ps ss (at_number negative digits gap)) 58 later (inside ps ss (colon (Some (number_value num)))) (ap (moved ps ss 58) (colon_move negative digits gap)) (colon_flaw ps ss negative digits gap false near)
 
--- no number, and nothing else that may stand behind a colon
-to_minus_stops : (ps : Parts) (ss : List Segment) (from : Option ℤ) (text : List ℕ) → Fails is_decimal text → outcome (inside ps ss (to_minus from)) text ≡ refuses BadToken (length text)
-to_minus_stops ps ss from [] h = refl
-to_minus_stops ps ss from (c ∷ cs) h = rw h refl
-
-pub to_no_number : (from : Option ℤ) (text : List ℕ) → Fails is_blank text → ((cs : List ℕ) → text ≡ 93 ∷ cs → ⊥) → Fails is_decimal (unsigned text)
-    → (ps : Parts) (ss : List Segment) → outcome (inside ps ss (colon from)) text ≡ refuses BadToken (length (unsigned text))
-to_no_number from [] h m f ps ss = refl
-to_no_number from (c ∷ cs) h m f ps ss = by_minus (c == 45) refl f
-  where
-    by_minus : (b : Bool) → (c == 45) ≡ b → Fails is_decimal (cond b cs (c ∷ cs)) → outcome (inside ps ss (colon from)) (c ∷ cs) ≡ refuses BadToken (length (cond b cs (c ∷ cs)))
-    by_minus true e f = one_step (inside ps ss (colon from)) c cs (inside ps ss (to_minus from)) (rw (h, e) refl) refl ∙ to_minus_stops ps ss from cs f
-    by_minus false e f = let b = apart c 93 cs m in stuck_here (inside ps ss (colon from)) (c ∷ cs) (rw (h, e, f, b) refl, refl)
-
 -- the second bound
 pub to_closed : (from : Option ℤ) (text rest : List ℕ) → past is_blank text ≡ 93 ∷ rest → (ps : Parts) (ss : List Segment) → outcome (inside ps ss (colon from)) text ≡ outcome (ready ps (ss ++ Range from None ∷ [])) rest
 to_closed from text rest h ps ss = colon_at from text (93 ∷ rest) (sym h) ps ss
@@ -279,13 +265,6 @@ pub one_star : (text : List ℕ) → ((cs : List ℕ) → text ≡ 42 ∷ cs →
 one_star [] h ps ss = refl
 one_star (c ∷ cs) h ps ss = let a = apart c 42 cs h in ready_ended ps ss star Wildcard c cs (rw a refl) (rw a refl)
 
-two_stars_so : (ps : Parts) (ss : List Segment) (rest : List ℕ) (b : Bool) → has_deep ss ≡ b → outcome (inside ps ss star) (42 ∷ rest) ≡ cond b (refuses DeepTwice (suc (length rest) + 2)) (outcome (ready ps (ss ++ DeepWildcard ∷ [])) rest)
-two_stars_so ps ss rest true e = rw e (ap (λ x. refuses DeepTwice x) (omega arith))
-two_stars_so ps ss rest false e = rw e refl
-
-pub two_stars : (text rest : List ℕ) → text ≡ 42 ∷ rest → (ps : Parts) (ss : List Segment) → outcome (inside ps ss star) text ≡ once_deep ps ss DeepWildcard (length text + 2) rest
-two_stars text rest e ps ss = ap (λ x. outcome (inside ps ss star) x) e ∙ two_stars_so ps ss rest (has_deep ss) refl ∙ ap (λ x. once_deep ps ss DeepWildcard (length x + 2) rest) (sym e)
-
 star_dotted : (ps : Parts) (ss : List Segment) (rest : List ℕ) → outcome (inside ps ss dot) (42 ∷ rest) ≡ outcome (inside ps ss star) rest
 unfolding unicode_ident is_xid_start
 star_dotted ps ss rest = refl
@@ -293,10 +272,6 @@ star_dotted ps ss rest = refl
 pub wildcard_read : (text rest : List ℕ) (segment : Segment) (more : List ℕ) → text ≡ 42 ∷ rest → ReadsWildcard rest segment more → ReadsDotted text segment more
 wildcard_read text rest segment more e h ps ss =
     ap (λ x. outcome (inside ps ss dot) x) e ∙ star_dotted ps ss rest ∙ h ps ss ∙ ap (λ x. once_deep ps ss segment x more) (omega (arith, ap length e))
-
--- a segment that is no deep wildcard
-pub plain_reads : (ps : Parts) (ss : List Segment) (segment : Segment) (left : ℕ) (rest : List ℕ) → is_deep segment ≡ false → outcome (ready ps (ss ++ segment ∷ [])) rest ≡ once_deep ps ss segment left rest
-plain_reads ps ss segment left rest h = rw h refl
 
 -- what is left is no longer
 pub number_longer : (text num rest : List ℕ) → text ≡ num ++ rest → length rest ≤ length text
@@ -307,10 +282,6 @@ behind_longer text num rest h = omega (arith, past_shorter is_blank h.after, ap 
 
 pub same_near : (n v : ℤ) → n ≡ v → FitsBound n → FitsBound v
 same_near n v e h = subst FitsBound e h
-
--- a segment in brackets
-pub bracketed_read : (text t : List ℕ) (s : Segment) (rest : List ℕ) → text ≡ 91 ∷ t → GoesOn bracket t s rest → ReadsSegment text s rest
-bracketed_read text t s rest e h ps ss = ap (λ x. outcome (ready ps ss) x) e ∙ h.1 ps ss ∙ plain_reads ps ss s (length text) rest h.0
 
 -- where a part begins
 star_here : (ps : Parts) (cs : List ℕ) → outcome (first_dot ps) (42 ∷ cs) ≡ outcome (inside ps [] dot) (42 ∷ cs)

@@ -1,12 +1,7 @@
-use Rattle.snap_select.proofs.Prelude.{Some, length, refl, ap, sym, ◌∙◌, chars, number_value, colon, refuses, BadToken, Range}
-use Rattle.snap_select.proofs.Readers.{to_no_number, to_far, to_near, closing_read, number_longer, same_near}
+use Rattle.snap_select.proofs.Prelude.{Some, refl, ap, ◌∙◌, chars, number_value, colon, Range}
+use Rattle.snap_select.proofs.Readers.{to_far, to_near, closing_read, number_longer, same_near}
 use Rattle.snap_select.proofs.PieceFacts.{kept_bound}
 use Rattle.snap_select.proofs.reading.read_second.Goals as goal
-
-pub returns-in-None-clause-stop : goal.returns-in-None-clause-stop
-returns-in-None-clause-stop c =
-    let h = to_no_number c.args.from (chars c.args.text.now) c.requires.no_blank c.requires.no_bracket c.in-None.ensures in
-    λ ps ss. h ps ss ∙ ap (λ x. refuses BadToken (length x)) (sym c.unsigned.ensures)
 
 pub returns-in-None-bound_of-clause-stop : goal.returns-in-None-bound_of-clause-stop
 returns-in-None-bound_of-clause-stop c =
