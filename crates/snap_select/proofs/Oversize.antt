@@ -34,12 +34,10 @@ one_small (behind_colon from) negative c h = one_near negative c h
 
 large_flaw : (k : Spot) (negative : Bool) (digits : List ℕ) (c : ℕ) → digit_value c < 10 → is_large k negative (digits ++ c ∷ []) ≡ true
     → (ps : Parts) (ss : List Segment) → flaw (inside ps ss (counting k negative digits)) c ≡ Some TooLarge
-large_flaw behind_bracket negative digits c h k ps ss = rw (digit_is c h, k) refl
-large_flaw (behind_colon from) negative digits c h k ps ss = rw (digit_is c h, k) refl
+large_flaw k negative digits c h f ps ss = grind (arith, digit_is c h)
 
 pub counted_since : (k : Spot) (negative : Bool) (digits : List ℕ) → since_in (counting k negative digits) ≡ length (signed negative digits)
-counted_since behind_bracket negative digits = refl
-counted_since (behind_colon from) negative digits = refl
+counted_since k negative digits = grind arith
 
 -- the digits up to the first that makes them too large
 pub record Spills (k : Spot) (negative : Bool) (digits : List ℕ) : Type 0 where
@@ -66,10 +64,8 @@ spills k negative (d ∷ ds) h t = spills_from k negative (d ∷ []) ds (omega a
 -- a colon behind a number
 pub colon_flaw : (ps : Parts) (ss : List Segment) (negative : Bool) (digits gap : List ℕ) (far : Bool) → is_far (signed_value negative digits) ≡ far → flaw (inside ps ss (at_number negative digits gap)) 58 ≡ cond far (Some TooLarge) None
 unfolding at_number
-colon_flaw ps ss negative digits [] far h = rw h refl
-colon_flaw ps ss negative digits (c ∷ cs) far h = rw h refl
+colon_flaw ps ss negative digits gap far h = grind arith
 
 pub gap_since : (negative : Bool) (digits gap : List ℕ) → since_in (at_number negative digits gap) ≡ length (signed negative digits) + length gap
 unfolding at_number
-gap_since negative digits [] = omega arith
-gap_since negative digits (c ∷ cs) = refl
+gap_since negative digits gap = grind arith

@@ -53,8 +53,7 @@ pub closes_on : (ps : Parts) (ss : List Segment) (segment : Segment) (text rest 
 closes_on ps ss segment text rest h = skip_closing ps ss segment text ∙ ap (λ x. outcome (inside ps ss (closing segment)) x) h
 
 unclosed : (ps : Parts) (ss : List Segment) (segment : Segment) (text : List ℕ) → Fails is_blank text → ((cs : List ℕ) → text ≡ 93 ∷ cs → ⊥) → outcome (inside ps ss (closing segment)) text ≡ refuses BadToken (length text)
-unclosed ps ss segment [] h k = refl
-unclosed ps ss segment (c ∷ cs) h k = let a = apart c 93 cs k in rw (h, a) refl
+unclosed ps ss segment text h k = grind arith
 
 pub closes_not : (ps : Parts) (ss : List Segment) (segment : Segment) (text : List ℕ) → ((cs : List ℕ) → past is_blank text ≡ 93 ∷ cs → ⊥)
     → outcome (inside ps ss (closing segment)) text ≡ refuses BadToken (length (past is_blank text))
@@ -154,8 +153,7 @@ to_far from text num rest h u ps ss = large_text ps ss (behind_colon from) (begi
 
 to_as_closing : (ps : Parts) (ss : List Segment) (from : Option ℤ) (negative : Bool) (digits rest : List ℕ) → Fails is_decimal rest
     → outcome (inside ps ss (to_number from negative digits)) rest ≡ outcome (inside ps ss (closing (Range from (Some (signed_value negative digits))))) rest
-to_as_closing ps ss from negative digits [] h = refl
-to_as_closing ps ss from negative digits (c ∷ cs) h = rw h refl
+to_as_closing ps ss from negative digits rest h = grind arith
 
 pub to_near : (from : Option ℤ) (text num rest : List ℕ) → IsNumberThen text num rest → FitsBound (number_value num)
     → (ps : Parts) (ss : List Segment) → outcome (inside ps ss (colon from)) text ≡ outcome (inside ps ss (closing (Range from (Some (number_value num))))) rest
@@ -173,17 +171,10 @@ minus_stuck ps ss digits (g ∷ gs) [] h f k = refl
 minus_stuck ps ss digits [] (c ∷ cs) h f k = let a = apart c 58 cs k in let b = and_nothing (c == 93) in (rw (f, h, a, b) refl, rw (f, a) refl)
 minus_stuck ps ss digits (g ∷ gs) (c ∷ cs) h f k = let a = apart c 58 cs k in let b = and_nothing (c == 93) in (rw (h, a, b) refl, rw a refl)
 
-and_yes : (b : Bool) → b && true ≡ b
-and_yes true = refl
-and_yes false = refl
-
 index_as_closing : (ps : Parts) (ss : List Segment) (digits gap rest : List ℕ) → Fails is_blank rest → Fails is_decimal (gap ++ rest) → ((cs : List ℕ) → rest ≡ 58 ∷ cs → ⊥)
     → outcome (inside ps ss (at_number false digits gap)) rest ≡ outcome (inside ps ss (closing (Index (digits_value 10 digits)))) rest
 unfolding at_number
-index_as_closing ps ss digits [] [] h f k = refl
-index_as_closing ps ss digits (g ∷ gs) [] h f k = refl
-index_as_closing ps ss digits [] (c ∷ cs) h f k = let a = apart c 58 cs k in let b = and_yes (c == 93) in rw (f, h, a, b) refl
-index_as_closing ps ss digits (g ∷ gs) (c ∷ cs) h f k = let a = apart c 58 cs k in let b = and_yes (c == 93) in rw (h, a, b) refl
+index_as_closing ps ss digits gap rest h f k = grind arith
 
 gap_ends : (after rest : List ℕ) → rest ≡ past is_blank after → Fails is_decimal after → Fails is_decimal (front is_blank after ++ rest)
 gap_ends after rest e h = subst (Fails is_decimal) (cut_at is_blank after ∙ ap (λ x. front is_blank after ++ x) (sym e)) h
@@ -253,8 +244,7 @@ ready_ended : (ps : Parts) (ss : List Segment) (token : Token) (segment : Segmen
 ready_ended ps ss token segment c cs e f = rw (f, e) refl
 
 name_ends : (ps : Parts) (ss : List Segment) (name rest : List ℕ) → Fails is_xid_continue rest → outcome (inside ps ss (in_name name)) rest ≡ outcome (ready ps (ss ++ Key name ∷ [])) rest
-name_ends ps ss name [] h = refl
-name_ends ps ss name (c ∷ cs) h = ready_ended ps ss (in_name name) (Key name) c cs (rw h refl) refl
+name_ends ps ss name rest h = grind arith
 
 pub name_read : (text name key rest : List ℕ) → IsNameThen text name rest → key ≡ name → (ps : Parts) (ss : List Segment) → outcome (inside ps ss dot) text ≡ outcome (ready ps (ss ++ Key key ∷ [])) rest
 name_read text name key rest h e ps ss =
@@ -312,8 +302,7 @@ unled_part ps (c ∷ cs) h k =
 
 -- behind a part
 no_comma_here : (ps : Parts) (t : List ℕ) → Fails is_blank t → ((cs : List ℕ) → t ≡ 44 ∷ cs → ⊥) → 0 < length t → outcome (behind_part ps) t ≡ refuses BadToken (length t)
-no_comma_here ps [] h k n = absurd (omega arith)
-no_comma_here ps (c ∷ cs) h k n = let a = apart c 44 cs k in rw (h, a) refl
+no_comma_here ps t h k n = grind arith
 
 pub no_comma : (ps : Parts) (text t : List ℕ) → t ≡ past is_blank text → ((cs : List ℕ) → t ≡ 44 ∷ cs → ⊥) → 0 < length t → outcome (behind_part ps) text ≡ refuses BadToken (length t)
 no_comma ps text t e k n = behind_at ps text t (sym e) ∙ no_comma_here ps t (past_ends is_blank text t e) k n

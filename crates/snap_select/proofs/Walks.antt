@@ -74,8 +74,7 @@ counting behind_bracket = number
 counting (behind_colon from) = to_number from
 
 digit_on : (k : Spot) (negative : Bool) (digits : List ℕ) (c : ℕ) → digit_value c < 10 → move (counting k negative digits) c ≡ on (counting k negative (digits ++ c ∷ []))
-digit_on behind_bracket negative digits c h = rw (digit_is c h) refl
-digit_on (behind_colon from) negative digits c h = rw (digit_is c h) refl
+digit_on k negative digits c h = grind (arith, digit_is c h)
 
 digits_on : (k : Spot) (negative : Bool) (digits cs : List ℕ) → AllDigits 10 cs → Ons (counting k negative digits) cs (counting k negative (digits ++ cs))
 digits_on k negative digits [] h = ap (counting k negative) (sym (append-nil digits))
@@ -213,13 +212,11 @@ gap_behind negative digits (c ∷ cs) b =
 
 pub colon_move : (negative : Bool) (digits gap : List ℕ) → move (at_number negative digits gap) 58 ≡ on (colon (Some (signed_value negative digits)))
 unfolding at_number
-colon_move negative digits [] = refl
-colon_move negative digits (c ∷ cs) = refl
+colon_move negative digits gap = grind arith
 
 index_move : (digits gap : List ℕ) → move (at_number false digits gap) 93 ≡ ends (Index (digits_value 10 digits))
 unfolding at_number
-index_move digits [] = refl
-index_move digits (c ∷ cs) = refl
+index_move digits gap = grind arith
 
 pub gap_leads : (ps : Parts) (ss : List Segment) (negative : Bool) (digits gap : List ℕ) → IsNumeral 10 digits → AreBlanks gap
     → Leads (inside ps ss bracket) (signed negative digits ++ gap) (inside ps ss (at_number negative digits gap))
