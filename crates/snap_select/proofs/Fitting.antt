@@ -1,5 +1,6 @@
 -- Numbers that fit and single deep wildcards, along a text.
-use Rattle.snap_select.proofs.Prelude.{◌≡◌, ℕ, zero, suc, ℤ, pos, negsuc, neg_ℤ, ◌+◌, ◌*◌, ◌^◌, ◌<◌, ◌≤◌, Bool, true, false, List, [], ◌∷◌, ◌++◌, Option, Some, None, cond, refl, sym, subst, arith, lt-leb, leb-false, ltb-true, is_digit, digit_value, ◌==◌, ◌&&◌, ◌||◌, not, ⊤, digits_value, digits_value_after, is_xid_continue, is_deep, has_deep, is_blank, begins_name, signed_value, FitsBound, MayFit, Fits, AllFit, deep_count, ArePlain, Parts, Token, dot, in_name, star, bracket, in_quotes, backslash, minus, number, behind_number, colon, to_minus, to_number, closing, Move, on, ends, ended_before, nowhere, move, whole, Place, before_part, first_dot, ready, inside, behind_part, separate, follow, moved, step, with_last, ended, is_far, is_over, flaw_in, flaw, SelectFault, DeepTwice, TooLarge, Segment, DeepWildcard, Wildcard, Index, Range, ◌↔◌, ap}
+use Rattle.snap_select.proofs.Prelude.{◌≡◌, ℕ, suc, ℤ, pos, negsuc, neg_ℤ, ◌+◌, ◌*◌, ◌^◌, ◌<◌, ◌≤◌, Bool, true, false, List, [], ◌∷◌, ◌++◌, Option, Some, None, cond, refl, sym, subst, arith, lt-leb, leb-false, ltb-true, is_digit, digit_value, ◌==◌, ◌&&◌, ◌||◌, not, ⊤, digits_value, digits_value_after, is_xid_continue, is_deep, has_deep, is_blank, begins_name, signed_value, FitsBound, MayFit, Fits, AllFit, deep_count, ArePlain, Parts, Token, dot, in_name, star, bracket, in_quotes, backslash, minus, number, behind_number, colon, to_minus, to_number, closing, Move, on, ends, ended_before, nowhere, move, whole, Place, before_part, first_dot, ready, inside, behind_part, separate, follow, moved, step, with_last, ended, is_far, is_over, flaw_in, flaw, SelectFault, DeepTwice, TooLarge, Segment, DeepWildcard, Wildcard, Index, Range, ◌↔◌, ap}
+use Rattle.std.proofs.lemmas.Bool.Decides.{nat_tests}
 use Rattle.snap_select.proofs.Walks.{Leads, Ons, at_blank}
 use Rattle.snap_select.proofs.Tokens.{pick}
 
@@ -14,10 +15,7 @@ fits_near (negsuc n) h = lt-leb (2 ^ 63) n h
 
 -- a number below one that fits, with a minus and without
 near_below : (negative : Bool) (v w : ℕ) → v ≤ w → is_far (cond negative (neg_ℤ (pos w)) (pos w)) ≡ false → is_far (cond negative (neg_ℤ (pos v)) (pos v)) ≡ false
-near_below false v w h k = lt-leb (2 ^ 63) v (omega (arith, h, leb-false (2 ^ 63) w k))
-near_below true zero w h k = refl
-near_below true (suc n) zero h k = absurd (omega arith)
-near_below true (suc n) (suc m) h k = lt-leb (2 ^ 63) n (omega (arith, h, leb-false (2 ^ 63) m k))
+near_below negative v w h k = grind (arith, nat_tests)
 
 -- digits, and more digits
 pub value_grows : (n : ℕ) (cs : List ℕ) → n ≤ digits_value_after 10 n cs
@@ -35,16 +33,13 @@ pub far_less : (negative : Bool) (a b : List ℕ) → is_far (signed_value negat
 far_less negative a b h = near_below negative (digits_value 10 a) (digits_value 10 (a ++ b)) (front_below a b) h
 
 pub over_less : (negative : Bool) (a b : List ℕ) → is_over negative (a ++ b) ≡ false → is_over negative a ≡ false
-over_less true a b h = far_less true a b h
-over_less false a b h = lt-leb (2 ^ 64) (digits_value 10 a) (omega (arith, front_below a b, leb-false (2 ^ 64) (digits_value 10 (a ++ b)) h))
+over_less negative a b h = grind (arith, nat_tests, front_below a b, far_less negative a b)
 
 pub near_over : (negative : Bool) (ds : List ℕ) → is_far (signed_value negative ds) ≡ false → is_over negative ds ≡ false
-near_over true ds h = h
-near_over false ds h = lt-leb (2 ^ 64) (digits_value 10 ds) (omega (arith, leb-false (2 ^ 63) (digits_value 10 ds) h))
+near_over negative ds h = grind (arith, nat_tests)
 
 pub one_near : (negative : Bool) (c : ℕ) → digit_value c < 10 → is_far (signed_value negative (c ∷ [])) ≡ false
-one_near true c h = near_below true (digits_value 10 (c ∷ [])) 9 (omega arith) refl
-one_near false c h = near_below false (digits_value 10 (c ∷ [])) 9 (omega arith) refl
+one_near negative c h = grind (arith, nat_tests)
 
 -- a segment that may stand behind these
 abbrev pub MayStand : List Segment → Segment → Type 0
@@ -72,8 +67,7 @@ abbrev pub WasFit : List Segment → Token → ℕ → Type 0
 WasFit ss token c = TokenFits ss token × (flaw_in ss token c ≡ None)
 
 no_flaw : (k : SelectFault) (f : Bool) → cond f (Some k) None ≡ None → f ≡ false
-no_flaw k false h = refl
-no_flaw k true h = absurd (cc)
+no_flaw k f h = grind arith
 
 flawless : (k : SelectFault) (f : Bool) → f ≡ false → cond f (Some k) None ≡ None
 flawless k f h = rw h refl

@@ -1,5 +1,5 @@
 -- A refusal is the fault of the text at the smallest column.
-use Rattle.snap_select.proofs.Prelude.{◌≡◌, ℕ, suc, ℤ, ◌+◌, ◌≤◌, Bool, true, false, ◌⊎◌, inl, inr, List, [], ◌∷◌, ◌++◌, length, Option, Some, None, cond, refl, sym, ap, ◌∙◌, subst, append_assoc, append-nil, arith, length-append, eqb-true, and_parts, same_Some, is_digit, ◌==◌, ◌&&◌, IsNumeral, is_xid_start, unicode_ident, has_deep, IsStuck, BadTokenAt, Opens, IsTooLarge, first, second, TooLargeAt, DeepTwiceAt, FaultAt, IsFault, AreBlanks, signed, signed_value, IsSelector, Parts, Token, dot, star, bracket, number, behind_number, colon, to_number, Move, on, ends, ended_before, nowhere, move, Place, before_part, inside, moved, step, ended, is_far, is_over, flaw_in, flaw, since_in, since, outcome, refuses, SelectFault, BadToken, DeepTwice, TooLarge, Segment}
+use Rattle.snap_select.proofs.Prelude.{◌≡◌, ℕ, suc, ℤ, ◌+◌, ◌≤◌, Bool, true, false, ◌⊎◌, inl, inr, List, [], ◌∷◌, ◌++◌, length, Option, Some, None, cond, refl, sym, ap, ◌∙◌, subst, append_assoc, append-nil, arith, length-append, eqb-true, and_parts, same_Some, is_digit, ◌==◌, ◌&&◌, IsNumeral, is_xid_start, unicode_ident, has_deep, IsStuck, BadTokenAt, Opens, IsTooLarge, first, second, TooLargeAt, DeepTwiceAt, FaultAt, IsFault, AreBlanks, signed, signed_value, IsSelector, Parts, Token, dot, star, bracket, number, behind_number, colon, to_number, Move, on, move, Place, before_part, inside, moved, step, ended, is_far, is_over, flaw_in, flaw, since_in, since, outcome, refuses, SelectFault, BadToken, DeepTwice, TooLarge, Segment}
 use Rattle.snap_select.specs.Faults.{neither}
 use Rattle.snap_select.proofs.Fitting.{Fitting, fitting_leads}
 use Rattle.snap_select.proofs.Oversize.{far_unfit, unfit_far, over_unfit, over_far, unfit_over, is_large, counted_since, spills, colon_flaw, gap_since}
@@ -64,10 +64,7 @@ token_since (to_number from negative digits) c = grind (arith, length-append dig
 token_since _ c = grind arith
 
 moved_since : (n : ℕ) (ps : Parts) (ss : List Segment) (c : ℕ) (m : Move) → move_since m ≤ suc n → place_since (moved ps ss c m) ≤ suc n
-moved_since n ps ss c (on token) h = h
-moved_since n ps ss c (ends s) h = omega arith
-moved_since n ps ss c (ended_before s) h = grind arith
-moved_since n ps ss c nowhere h = omega arith
+moved_since n ps ss c m h = grind arith
 
 step_since : (s : Place) (c : ℕ) → place_since (step s c) ≤ suc (since s)
 step_since (inside ps ss token) c = moved_since (since_in token) ps ss c (move token c) (token_since token c)

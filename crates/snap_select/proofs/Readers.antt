@@ -1,5 +1,5 @@
 -- What each reader reads, as outcomes.
-use Rattle.snap_select.proofs.Prelude.{Result, Ok, Err, IfOk, IfErr, Bor, ◌≡◌, ℕ, suc, ℤ, ◌+◌, ◌^◌, ◌<◌, ◌≤◌, Bool, true, false, List, [], ◌∷◌, ◌++◌, length, Option, Some, None, refl, sym, ap, ◌∙◌, subst, append_assoc, append-nil, arith, length-append, MatchOption, is_some, eqb-true, ne_eqb, le-leb, lt-leb, ◌==◌, ◌&&◌, not, chars, IsNumeral, AllDigits, digits_value, is_xid_start, is_xid_continue, unicode_ident, is_deep, is_blank, AreBlanks, begins_name, signed, signed_value, FitsBound, Parts, past, front, is_decimal, Fails, IsNameThen, goes_on_dot, begins_segment, unsigned, IsNumber, number_value, IsNumberThen, Token, dot, in_name, star, bracket, number, colon, to_minus, to_number, closing, Place, before_part, first_dot, ready, inside, behind_part, step, flaw, since, is_far, is_over, Outcome, refuses, outcome, IsStop, GoesOn, StopsAt, Closes, ClosesNot, IsNumberBehind, once_deep, ReadsWildcard, ReadsDotted, ReadsPart, StopsPart, SelectFault, BadToken, TooLarge, Segment, Stop, Wildcard, Key, Index, Range, moved}
+use Rattle.snap_select.proofs.Prelude.{Result, Ok, Err, IfOk, IfErr, Bor, ◌≡◌, ℕ, suc, ℤ, ◌+◌, ◌^◌, ◌<◌, ◌≤◌, Bool, true, false, List, [], ◌∷◌, ◌++◌, length, Option, Some, None, refl, sym, ap, ◌∙◌, subst, append_assoc, append-nil, arith, length-append, MatchOption, is_some, eqb-true, ne_eqb, le-leb, lt-leb, ◌==◌, not, chars, IsNumeral, AllDigits, digits_value, is_xid_start, is_xid_continue, unicode_ident, is_deep, is_blank, AreBlanks, begins_name, signed, signed_value, FitsBound, Parts, past, front, is_decimal, Fails, IsNameThen, goes_on_dot, begins_segment, unsigned, IsNumber, number_value, IsNumberThen, Token, dot, in_name, star, bracket, number, colon, to_minus, to_number, closing, Place, before_part, first_dot, ready, inside, behind_part, step, flaw, since, is_far, is_over, Outcome, refuses, outcome, IsStop, GoesOn, StopsAt, Closes, ClosesNot, IsNumberBehind, once_deep, ReadsWildcard, ReadsDotted, ReadsPart, StopsPart, SelectFault, BadToken, TooLarge, Segment, Stop, Wildcard, Key, Index, Range, moved}
 use Rattle.snap_content.specs.Front.{begins}
 use Rattle.snap_select.proofs.Fitting.{Fitting, TokenFits, tokens_fit, far_less, near_over, fits_near}
 use Rattle.snap_select.proofs.Outcomes.{Stuck}

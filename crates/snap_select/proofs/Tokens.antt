@@ -1,5 +1,5 @@
 -- What has been read of a segment, and what one more character makes of it.
-use Rattle.snap_select.proofs.Prelude.{◌≡◌, ℕ, ℤ, ◌<◌, Bool, true, false, inl, inr, List, [], ◌∷◌, ◌++◌, length, Option, Some, None, cond, refl, sym, ap, ◌∙◌, subst, append_assoc, append-nil, arith, length-append, eqb-true, eqb-false, and_from, and_parts, ltb-true, is_digit, digit_value, list_all, ⊤, IsTrue, ◌==◌, ◌&&◌, not, IsNumeral, AllDigits, digits_value, is_xid_continue, is_blank, AreBlanks, begins_name, IsName, Quoted, Quotes, dotted, bracketed, signed, signed_value, SpellsBound, MayBound, unbounded, bounded, Spells, Token, dot, in_name, star, bracket, in_quotes, backslash, minus, number, behind_number, colon, to_minus, to_number, closing, Move, on, ends, ended_before, nowhere, behind, move, Segment, Key, Index, Range}
+use Rattle.snap_select.proofs.Prelude.{◌≡◌, ℕ, ℤ, Bool, true, false, inl, inr, List, [], ◌∷◌, ◌++◌, length, Option, Some, None, cond, refl, sym, ap, ◌∙◌, append_assoc, append-nil, arith, length-append, eqb-true, eqb-false, and_from, and_parts, ltb-true, is_digit, digit_value, list_all, ⊤, IsTrue, ◌==◌, ◌&&◌, not, IsNumeral, AllDigits, digits_value, is_xid_continue, is_blank, AreBlanks, begins_name, IsName, Quoted, Quotes, dotted, bracketed, signed, signed_value, SpellsBound, MayBound, unbounded, bounded, Spells, Token, dot, in_name, star, bracket, in_quotes, backslash, minus, number, behind_number, colon, to_minus, to_number, closing, Move, on, ends, ended_before, nowhere, behind, move, Key, Index, Range}
 use Rattle.std.proofs.lemmas.Int.Digits.{digits_push}
 use Rattle.std.proofs.lemmas.List.Folds.{list_all-append}
 
@@ -78,8 +78,7 @@ quotes_more (d ∷ ds) inside c tail h k =
     (h.0 ++ tail, elim h.1 [ inl p ↦ inl (ap (λ x. x ++ tail) p.0, p.1, p.2) | inr e ↦ inr (ap (λ x. x ++ tail) e) ], quotes_more ds h.0 c tail h.2 k)
 
 pub signed_more : (negative : Bool) (ds cs : List ℕ) → signed negative ds ++ cs ≡ signed negative (ds ++ cs)
-signed_more true ds cs = refl
-signed_more false ds cs = refl
+signed_more negative ds cs = grind arith
 
 pub bound_spelled : (negative : Bool) (digits : List ℕ) → IsNumeral 10 digits → SpellsBound (signed_value negative digits) (signed negative digits)
 bound_spelled negative digits h = record { negative = negative; digits = digits; is = refl; numeral = h; value = refl }
