@@ -123,49 +123,36 @@ colon_flawed text lead negative digits gap back after ps ss place is e b h k o a
       at = omega (arith, at, gap_since negative digits gap, length-append lead number, length-append (signed negative digits) gap);
     }
 
--- up to behind an opening bracket
-bracket_leads : (before blanks : List ℕ) (z : Place) (ps : Parts) (ss : List Segment) → Leads (before_part []) before z → step z 91 ≡ Some (inside ps ss bracket) → AreBlanks blanks
-    → Leads (before_part []) (before ++ 91 ∷ blanks) (inside ps ss bracket)
-bracket_leads before blanks z ps ss h e b =
-    leads_on (before_part []) before (91 ∷ blanks) z (inside ps ss bracket) h (inside ps ss bracket, e, along_blanks (inside ps ss bracket) blanks (λ c e. rw e refl) b)
-
-same_lead : (text before opening other : List ℕ) (negative : Bool) (digits after : List ℕ) → text ≡ before ++ opening ++ signed negative digits ++ after → opening ≡ other
-    → text ≡ ((before ++ other) ++ signed negative digits) ++ after
-same_lead text before opening other negative digits after is e = is ∙ ap (λ z. ((before ++ z) ++ signed negative digits) ++ after) e
-
-lead_place : (before opening other : List ℕ) (place : ℕ) → place ≡ length before + length opening + 1 → opening ≡ other → place ≡ length (before ++ other) + 1
-lead_place before opening other place at e = omega (arith, at, length-append before other, ap length e)
-
+-- a number that is too large, as a flaw
 large_flawed : (text : List ℕ) (place : ℕ) → TooLargeAt text place → Flawed text TooLarge place
 large_flawed text place h = by_case h.large
   where
     m : MayOpen (before_part []) h.before h.opens.earlier h.segments
     m = opens_leads h.segments h.before h.opens
 
-    flawed : (k : Spot) (other : List ℕ) → h.opening ≡ other → Leads (before_part []) (h.before ++ other) (inside h.opens.earlier h.segments (opening k)) → is_large k h.negative h.digits ≡ true → Flawed text TooLarge place
-    flawed k other e l o =
-        spilled text (h.before ++ other) k h.negative h.digits h.after h.opens.earlier h.segments place (same_lead text h.before h.opening other h.negative h.digits h.after h.is e)
-        l h.numeral o (lead_place h.before h.opening other place h.place e)
+    at : place ≡ length (h.before ++ h.opening) + 1
+    at = omega (arith, h.place, length-append h.before h.opening)
+
+    led : (opening : List ℕ) (token : Token) → h.opening ≡ opening → Leads (before_part []) (h.before ++ opening) (inside h.opens.earlier h.segments token) → Leads (before_part []) (h.before ++ h.opening) (inside h.opens.earlier h.segments token)
+    led opening token e l = subst (λ x. Leads (before_part []) (h.before ++ x) (inside h.opens.earlier h.segments token)) (sym e) l
 
     opened : (blanks : List ℕ) → AreBlanks blanks → Leads (before_part []) (h.before ++ 91 ∷ blanks) (inside h.opens.earlier h.segments bracket)
-    opened blanks b = bracket_leads h.before blanks m.to h.opens.earlier h.segments m.leads m.opened b
+    opened blanks b =
+        let z = inside h.opens.earlier h.segments bracket in leads_on (before_part []) h.before (91 ∷ blanks) m.to z m.leads (z, m.opened, along_blanks z blanks (λ c e. rw e refl) b)
 
     by_case : IsTooLarge h.opening h.negative h.digits h.after → Flawed text TooLarge place
-    by_case (neither blanks e b i u) = flawed behind_bracket (91 ∷ blanks) e (opened blanks b) (unfit_over h.negative h.digits i u)
+    by_case (neither blanks e b i u) =
+        spilled text (h.before ++ h.opening) behind_bracket h.negative h.digits h.after h.opens.earlier h.segments place h.is (led (91 ∷ blanks) bracket e (opened blanks b)) h.numeral (unfit_over h.negative h.digits i u) at
     by_case (first blanks gap back e b f g u) =
-        colon_flawed text (h.before ++ 91 ∷ blanks) h.negative h.digits gap back h.after h.opens.earlier h.segments place (same_lead text h.before h.opening (91 ∷ blanks) h.negative h.digits h.after h.is e) f g
-        (opened blanks b) h.numeral (unfit_far (signed_value h.negative h.digits) u) (lead_place h.before h.opening (91 ∷ blanks) place h.place e)
+        colon_flawed text (h.before ++ h.opening) h.negative h.digits gap back h.after h.opens.earlier h.segments place h.is f g (led (91 ∷ blanks) bracket e (opened blanks b)) h.numeral (unfit_far (signed_value h.negative h.digits) u) at
     by_case (second blanks bound gap gap' from e b k g g' u) =
         let z = inside h.opens.earlier h.segments (colon from) in
         let other = 91 ∷ blanks ++ bound ++ gap ++ 58 ∷ gap' in
-        flawed (behind_colon from) other e
-        (leads_as (before_part []) ((h.before ++ 91 ∷ blanks) ++ (bound ++ gap ++ 58 ∷ gap')) (h.before ++ other) z (simp append_assoc)
+        spilled text (h.before ++ h.opening) (behind_colon from) h.negative h.digits h.after h.opens.earlier h.segments place h.is
+        (led other (colon from) e (leads_as (before_part []) ((h.before ++ 91 ∷ blanks) ++ (bound ++ gap ++ 58 ∷ gap')) (h.before ++ other) z (simp append_assoc)
         (leads_on (before_part []) (h.before ++ 91 ∷ blanks) (bound ++ gap ++ 58 ∷ gap') (inside h.opens.earlier h.segments bracket) z
-        (opened blanks b) (from_leads h.opens.earlier h.segments from bound gap gap' k g g')))
-        (unfit_far (signed_value h.negative h.digits) u)
-
-deep_flaw : (ps : Parts) (ss : List Segment) → has_deep ss ≡ true → flaw (inside ps ss star) 42 ≡ Some DeepTwice
-deep_flaw ps ss h = rw h refl
+        (opened blanks b) (from_leads h.opens.earlier h.segments from bound gap gap' k g g'))))
+        h.numeral (unfit_far (signed_value h.negative h.digits) u) at
 
 star_leads : (before : List ℕ) (z : Place) (ps : Parts) (ss : List Segment) → Leads (before_part []) before z → step z 46 ≡ Some (inside ps ss dot) → Leads (before_part []) (before ++ 46 ∷ 42 ∷ []) (inside ps ss star)
 unfolding unicode_ident is_xid_start
@@ -181,7 +168,7 @@ deep_flawed text place h =
       near = inside h.opens.earlier h.segments star;
       is = h.is ∙ sym (append_assoc h.before (46 ∷ 42 ∷ []) (42 ∷ h.after));
       leads = star_leads h.before m.to h.opens.earlier h.segments m.leads (m.dotted h.deep);
-      flawed = deep_flaw h.opens.earlier h.segments h.deep;
+      flawed = rw (h.deep) refl;
       at = omega (arith, h.place, length-append h.before (46 ∷ 42 ∷ []));
     }
 

@@ -263,7 +263,7 @@ pub wildcard_read : (text rest : List ℕ) (segment : Segment) (more : List ℕ)
 wildcard_read text rest segment more e h ps ss =
     ap (λ x. outcome (inside ps ss dot) x) e ∙ star_dotted ps ss rest ∙ h ps ss ∙ ap (λ x. once_deep ps ss segment x more) (omega (arith, ap length e))
 
--- what is left is no longer
+-- what is left is no longer than the text
 pub number_longer : (text num rest : List ℕ) → text ≡ num ++ rest → length rest ≤ length text
 number_longer text num rest e = omega (arith, ap length e, length-append num rest)
 
