@@ -1,14 +1,12 @@
 -- From the start: the texts that lead somewhere are the beginnings of selectors.
-use Rattle.snap_select.proofs.Prelude.{◌≡◌, ◌≢◌, ℕ, true, inl, inr, List, [], ◌∷◌, ◌++◌, Some, None, refl, sym, ap, ◌∙◌, subst, append_assoc, append-nil, and_parts, same_Some, list_all, is_xid_start, is_xid_continue, unicode_ident, has_deep, Begins, Opens, is_blank, AreBlanks, begins_name, IsName, dotted, bracketed, signed_value, Spells, SpellsEach, MayFollowDot, Stands, SpellsPart, BeforeComma, EachBeforeComma, IsSpelled, Parts, Token, dot, in_name, star, bracket, in_quotes, backslash, minus, number, behind_number, colon, to_minus, to_number, closing, Place, before_part, first_dot, ready, inside, behind_part, step, ended, Segment, DeepWildcard, Wildcard, Key, Index, Range}
+use Rattle.snap_select.proofs.Prelude.{◌≡◌, ◌≢◌, ℕ, true, inl, inr, List, [], ◌∷◌, ◌++◌, Some, None, refl, sym, ap, ◌∙◌, subst, append_assoc, append-nil, and_parts, same_Some, list_all, is_xid_start, is_xid_continue, unicode_ident, has_deep, Begins, Opens, is_blank, AreBlanks, IsName, dotted, bracketed, signed_value, Spells, SpellsEach, MayFollowDot, Stands, SpellsPart, BeforeComma, EachBeforeComma, IsSpelled, Parts, Token, dot, in_name, star, bracket, in_quotes, backslash, minus, number, behind_number, colon, to_minus, to_number, closing, Place, before_part, first_dot, ready, inside, behind_part, step, ended, Segment, DeepWildcard, Wildcard, Key, Index, Range, ℤ, Option, on, ends, move, moved}
 use Rattle.snap_select.proofs.Places.{Means, kept, end_kept}
-use Rattle.snap_select.proofs.Walks.{Leads, leads_on, leads_half, leads_as, along_blanks, at_blank, AtEnd, at_ready, each_on}
+use Rattle.snap_select.proofs.Walks.{Leads, leads_on, leads_half, leads_as, along_blanks, at_blank, PartEnds, AtEnd, at_ready, each_on}
 
 -- each step along a text keeps what the places mean
 leads_kept : (s : Place) (t a : List ℕ) (z : Place) → Means s t → Leads s a z → Means z (t ++ a)
-leads_kept s t [] z h k =
-    let P : Place → Type 0 = λ x. Means x t in let Q : List ℕ → Type 0 = λ x. Means z x in subst Q (sym (append-nil t)) (subst P k h)
-leads_kept s t (c ∷ cs) z h k =
-    let Q : List ℕ → Type 0 = λ x. Means z x in subst Q (append_assoc t (c ∷ []) cs) (leads_kept k.0 (t ++ c ∷ []) cs z (kept s t c k.0 h k.1) k.2)
+leads_kept s t [] z h k = rw append-nil (subst (λ x. Means x t) k h)
+leads_kept s t (c ∷ cs) z h k = subst (Means z) (append_assoc t (c ∷ []) cs) (leads_kept k.0 (t ++ c ∷ []) cs z (kept s t c k.0 h k.1) k.2)
 
 pub starts : Means (before_part []) []
 starts = record { front = []; blanks = []; is = refl; commas = refl; blank = refl }
@@ -16,71 +14,76 @@ starts = record { front = []; blanks = []; is = refl; commas = refl; blank = ref
 pub leads_means : (t : List ℕ) (z : Place) → Leads (before_part []) t z → Means z t
 leads_means t z h = leads_kept (before_part []) [] t z starts h
 
--- how the text of segments begins
+-- how the text of segments begins: with a bracket, or with a dot and what a part may begin with behind a dot
 data Shape (text : List ℕ) : Type 0 where
   by_bracket : (r : List ℕ) → text ≡ 91 ∷ r → Shape text
-  by_name : (c : ℕ) (r : List ℕ) → text ≡ 46 ∷ c ∷ r → begins_name c ≡ true → Shape text
-  by_star : (r : List ℕ) → text ≡ 46 ∷ 42 ∷ r → Shape text
+  by_dot : (c : ℕ) (r : List ℕ) → text ≡ 46 ∷ c ∷ r → ((ps : Parts) → step (inside ps [] dot) c ≡ step (first_dot ps) c) → Shape text
 
 name_shape : (key text : List ℕ) → text ≡ 46 ∷ key → IsName key → Shape text
 name_shape [] text is name = absurd name
-name_shape (c ∷ cs) text is name = by_name c cs is name.0
-
-segment_shape : (seg : Segment) (text : List ℕ) → Spells seg text → Shape text
-segment_shape (Key key) text (dotted is name) = name_shape key text is name
-segment_shape (Key key) text (bracketed k) = by_bracket (k.before ++ k.inside ++ k.after ++ 93 ∷ []) k.is
-segment_shape (Index index) text k = by_bracket (k.before ++ k.inside ++ k.after ++ 93 ∷ []) k.is
-segment_shape DeepWildcard text h = by_star (42 ∷ []) h
-segment_shape Wildcard text h = by_star [] h
-segment_shape (Range from to) text k = by_bracket (k.before ++ k.inside ++ k.after ++ 93 ∷ []) k.is
-
-shape_more : (text front back : List ℕ) → text ≡ front ++ back → Shape front → Shape text
-shape_more text front back h (by_bracket r is) = by_bracket (r ++ back) (h ∙ ap (λ x. x ++ back) is)
-shape_more text front back h (by_name c r is begins) = by_name c (r ++ back) (h ∙ ap (λ x. x ++ back) is) begins
-shape_more text front back h (by_star r is) = by_star (r ++ back) (h ∙ ap (λ x. x ++ back) is)
-
-each_shape : (y : Segment) (ys : List Segment) (text : List ℕ) → SpellsEach (y ∷ ys) text → Shape text
-each_shape y ys text h = shape_more text h.front h.back h.is (segment_shape y h.front h.first)
-
-name_same : (ps : Parts) (c : ℕ) → begins_name c ≡ true → step (inside ps [] dot) c ≡ step (first_dot ps) c
-name_same ps c h = rw h refl
+name_shape (c ∷ cs) text is name = by_dot c cs is (λ ps. rw name.0 refl)
 
 star_same : (ps : Parts) → step (inside ps [] dot) 42 ≡ step (first_dot ps) 42
 unfolding unicode_ident is_xid_start
 star_same ps = refl
 
+segment_shape : (seg : Segment) (text : List ℕ) → Spells seg text → Shape text
+segment_shape (Key key) text (dotted is name) = name_shape key text is name
+segment_shape (Key key) text (bracketed k) = by_bracket (k.before ++ k.inside ++ k.after ++ 93 ∷ []) k.is
+segment_shape (Index index) text k = by_bracket (k.before ++ k.inside ++ k.after ++ 93 ∷ []) k.is
+segment_shape DeepWildcard text h = by_dot 42 (42 ∷ []) h star_same
+segment_shape Wildcard text h = by_dot 42 [] h star_same
+segment_shape (Range from to) text k = by_bracket (k.before ++ k.inside ++ k.after ++ 93 ∷ []) k.is
+
+shape_more : (text front back : List ℕ) → text ≡ front ++ back → Shape front → Shape text
+shape_more text front back h (by_bracket r is) = by_bracket (r ++ back) (h ∙ ap (λ x. x ++ back) is)
+shape_more text front back h (by_dot c r is same) = by_dot c (r ++ back) (h ∙ ap (λ x. x ++ back) is) same
+
+each_shape : (y : Segment) (ys : List Segment) (text : List ℕ) → SpellsEach (y ∷ ys) text → Shape text
+each_shape y ys text h = shape_more text h.front h.back h.is (segment_shape y h.front h.first)
+
+no_shape : Shape [] → ⊥
+no_shape (by_bracket r is) = cc
+no_shape (by_dot c r is same) = cc
+
 behind_dot : (ps : Parts) (c : ℕ) (r : List ℕ) (z : Place) → step (inside ps [] dot) c ≡ step (first_dot ps) c → Leads (ready ps []) (46 ∷ c ∷ r) z → Leads (before_part ps) (46 ∷ c ∷ r) z
-behind_dot ps c r z e h =
-    let P : Place → Type 0 = λ x. step x c ≡ Some h.2.0 in
-    (first_dot ps, refl, (h.2.0, sym e ∙ subst P (sym (same_Some (inside ps [] dot) h.0 h.1)) h.2.1, h.2.2))
+behind_dot ps c r z e h = (first_dot ps, refl, (h.2.0, sym e ∙ subst (λ x. step x c ≡ Some h.2.0) (sym (same_Some (inside ps [] dot) h.0 h.1)) h.2.1, h.2.2))
 
 by_first : (ps : Parts) (text : List ℕ) (z : Place) → Shape text → Leads (ready ps []) text z → Leads (before_part ps) text z
-by_first ps text z (by_bracket r is) h = leads_as (before_part ps) (91 ∷ r) text z (sym is) (leads_as (ready ps []) text (91 ∷ r) z is h)
-by_first ps text z (by_name c r is begins) h =
-    leads_as (before_part ps) (46 ∷ c ∷ r) text z (sym is) (behind_dot ps c r z (name_same ps c begins) (leads_as (ready ps []) text (46 ∷ c ∷ r) z is h))
-by_first ps text z (by_star r is) h =
-    leads_as (before_part ps) (46 ∷ 42 ∷ r) text z (sym is) (behind_dot ps 42 r z (star_same ps) (leads_as (ready ps []) text (46 ∷ 42 ∷ r) z is h))
+by_first ps text z (by_bracket r is) h = rw is (rw is at h)
+by_first ps text z (by_dot c r is same) h = rw is (behind_dot ps c r z (same ps) (rw is at h))
 
 -- behind a first dot a bracket leads on as at the start
-led_first : (ps : Parts) (r : List ℕ) (z : Place) → Leads (ready ps []) (91 ∷ r) z → Leads (before_part ps) (46 ∷ 91 ∷ r) z
+led_first : (ps : Parts) (c : ℕ) (r : List ℕ) (z : Place) → c ≡ 91 → Leads (ready ps []) (c ∷ r) z → Leads (before_part ps) (46 ∷ c ∷ r) z
 unfolding unicode_ident is_xid_start
-led_first ps r z h = (first_dot ps, refl, h)
-
--- a place where a part may end
-pub record PartEnds (s : Place) (ps : Parts) : Type 0 where
-  pub blank : (c : ℕ) → is_blank c ≡ true → step s c ≡ Some (behind_part ps)
-  pub comma : step s 44 ≡ Some (before_part ps)
-  pub end : ended s ≡ Some ps
-
-whole_ends : (s : Place) (ps : Parts) (ss : List Segment) → AtEnd s ps ss → PartEnds s (ps ++ ss ∷ [])
-whole_ends s ps ss h = record { blank = h.blank; comma = h.comma; end = h.end }
+led_first ps c r z e h = rw e (first_dot ps, refl, rw e at h)
 
 dot_ends : (ps : Parts) → PartEnds (first_dot ps) (ps ++ [] ∷ [])
 unfolding unicode_ident is_xid_start
-dot_ends ps = record { blank = λ c h. at_blank (λ x. step (first_dot ps) x ≡ Some (behind_part (ps ++ [] ∷ []))) c h refl refl; comma = refl; end = refl }
+dot_ends ps = record { space = refl; tab = refl; comma = refl; end = refl }
 
 behind_ends : (ps : Parts) → PartEnds (behind_part ps) ps
-behind_ends ps = record { blank = λ c h. rw h refl; comma = refl; end = refl }
+behind_ends ps = record { space = refl; tab = refl; comma = refl; end = refl }
+
+-- where the text of segments leads: to a place where they are whole, to a lone dot, or nowhere
+data Led (ps : Parts) (ss : List Segment) (text : List ℕ) : Type 0 where
+  to_end : (to : Place) → Leads (before_part ps) text to → AtEnd to ps ss → Led ps ss text
+  to_dot : text ≡ 46 ∷ [] → ss ≡ [] → Led ps ss text
+  at_start : text ≡ [] → ss ≡ [] → Led ps ss text
+
+-- without a dot in front, and with one in front of a bracket or alone
+plain_led : (ps : Parts) (ss : List Segment) (body : List ℕ) → SpellsEach ss body → Led ps ss body
+plain_led ps [] body h = at_start h refl
+plain_led ps (y ∷ ys) body h =
+    let k = each_on (ready ps []) ps [] (y ∷ ys) body (at_ready ps []) h in to_end k.to (by_first ps body k.to (each_shape y ys body h) k.leads) k.at
+
+dotted_led : (ps : Parts) (ss : List Segment) (body : List ℕ) → SpellsEach ss body → MayFollowDot body → Led ps ss (46 ∷ body)
+dotted_led ps [] [] h k = to_dot refl refl
+dotted_led ps (y ∷ ys) [] h k = absurd (no_shape (each_shape y ys [] h))
+dotted_led ps ss (c ∷ cs) h k = let e = each_on (ready ps []) ps [] ss (c ∷ cs) (at_ready ps []) h in to_end e.to (led_first ps c cs e.to k e.leads) e.at
+
+stands_led : (ps : Parts) (ss : List Segment) (text : List ℕ) → Stands ss text → Led ps ss text
+stands_led ps ss text h = elim h.led [ inl e ↦ rw e (plain_led ps ss h.body h.each) | inr p ↦ rw (p.0) (dotted_led ps ss h.body h.each p.1) ]
 
 -- where a part's text leads
 pub record ToPart (s : Place) (text : List ℕ) (ps : Parts) : Type 0 where
@@ -88,56 +91,25 @@ pub record ToPart (s : Place) (text : List ℕ) (ps : Parts) : Type 0 where
   pub leads : Leads s text to
   pub at : PartEnds to ps
 
--- segments without a dot in front
-plain_stands : (ps : Parts) (ss : List Segment) (body : List ℕ) → SpellsEach ss body → body ≢ [] → ToPart (before_part ps) body (ps ++ ss ∷ [])
-plain_stands ps [] body h n = absurd (n h)
-plain_stands ps (y ∷ ys) body h n =
-    let k = each_on (ready ps []) ps [] (y ∷ ys) body (at_ready ps []) h in
-    record { to = k.to; leads = by_first ps body k.to (each_shape y ys body h) k.leads; at = whole_ends k.to ps (y ∷ ys) k.at }
-
--- a dot in front of a bracket, or alone
-led_stands : (ps : Parts) (ss : List Segment) (body : List ℕ) → SpellsEach ss body → MayFollowDot body → ToPart (before_part ps) (46 ∷ body) (ps ++ ss ∷ [])
-led_stands ps [] [] h k = record { to = first_dot ps; leads = (first_dot ps, refl, refl); at = dot_ends ps }
-led_stands ps (y ∷ ys) [] h k = absurd (empty (each_shape y ys [] h))
-  where
-    empty : Shape [] → ⊥
-    empty (by_bracket r is) = cc
-    empty (by_name c r is begins) = cc
-    empty (by_star r is) = cc
-led_stands ps ss (c ∷ cs) h k =
-    let e = each_on (ready ps []) ps [] ss (c ∷ cs) (at_ready ps []) h in
-    let same : c ∷ cs ≡ 91 ∷ cs = ap (λ x. x ∷ cs) k in
-    record {
-      to = e.to;
-      leads = leads_as (before_part ps) (46 ∷ 91 ∷ cs) (46 ∷ c ∷ cs) e.to (ap (λ x. 46 ∷ x) (sym same)) (led_first ps cs e.to (leads_as (ready ps []) (c ∷ cs) (91 ∷ cs) e.to same e.leads));
-      at = whole_ends e.to ps ss e.at;
-    }
-
-stands_part : (ps : Parts) (ss : List Segment) (text : List ℕ) → Stands ss text → text ≢ [] → ToPart (before_part ps) text (ps ++ ss ∷ [])
-stands_part ps ss text h n =
-    let P : List ℕ → Type 0 = λ x. ToPart (before_part ps) x (ps ++ ss ∷ []) in
-    elim h.led [
-      | inl e ↦ subst P (sym e) (plain_stands ps ss h.body h.each (λ f. n (e ∙ f)))
-      | inr p ↦ subst P (sym p.0) (led_stands ps ss h.body h.each p.1)
-    ]
+stands_part : (ps : Parts) (ss : List Segment) (text : List ℕ) → Led ps ss text → text ≢ [] → ToPart (before_part ps) text (ps ++ ss ∷ [])
+stands_part ps ss text (to_end to h k) n = record { to = to; leads = h; at = k.part }
+stands_part ps ss text (to_dot e f) n = rw (e, f) (record { to = first_dot ps; leads = (first_dot ps, refl, refl); at = dot_ends ps })
+stands_part ps ss text (at_start e f) n = absurd (n e)
 
 -- blanks behind a part
 trail : (s : Place) (ps : Parts) (after : List ℕ) → PartEnds s ps → AreBlanks after → ToPart s after ps
 trail s ps [] h b = record { to = s; leads = refl; at = h }
 trail s ps (c ∷ cs) h b =
     let q = and_parts (is_blank c) (list_all is_blank cs) b in
-    record {
-      to = behind_part ps;
-      leads = (behind_part ps, h.blank c q.0, along_blanks (behind_part ps) cs (behind_ends ps).blank q.1);
-      at = behind_ends ps;
-    }
+    let near = at_blank (λ x. step s x ≡ Some (behind_part ps)) c q.0 h.space h.tab in
+    record { to = behind_part ps; leads = (behind_part ps, near, along_blanks (behind_part ps) cs (λ d e. rw e refl) q.1); at = behind_ends ps }
 
 start_blank : (ps : Parts) (c : ℕ) → is_blank c ≡ true → step (before_part ps) c ≡ Some (before_part ps)
 start_blank ps c h = rw h refl
 
 pub part_on : (ps : Parts) (ss : List Segment) (text : List ℕ) → SpellsPart ss text → ToPart (before_part ps) text (ps ++ ss ∷ [])
 part_on ps ss text h =
-    let k = stands_part ps ss h.inside h.stands h.filled in
+    let k = stands_part ps ss h.inside (stands_led ps ss h.inside h.stands) h.filled in
     let m = trail k.to (ps ++ ss ∷ []) h.after k.at h.blank_after in
     record {
       to = m.to;
@@ -156,18 +128,16 @@ comma_on ps ss text h =
 pub commas_on : (ps earlier : Parts) (text : List ℕ) → EachBeforeComma earlier text → Leads (before_part ps) text (before_part (ps ++ earlier))
 commas_on ps [] text h = leads_as (before_part ps) [] text (before_part (ps ++ [])) (sym h) (ap (λ x. before_part x) (sym (append-nil ps)))
 commas_on ps (q ∷ qs) text h =
-    let P : Parts → Type 0 = λ x. Leads (before_part ps) text (before_part x) in
     let z = before_part ((ps ++ q ∷ []) ++ qs) in
-    subst P (append_assoc ps (q ∷ []) qs)
+    subst (λ x. Leads (before_part ps) text (before_part x)) (append_assoc ps (q ∷ []) qs)
     (leads_as (before_part ps) (h.front ++ h.back) text z (sym h.is)
     (leads_on (before_part ps) h.front h.back (before_part (ps ++ q ∷ [])) z (comma_on ps q h.front h.first) (commas_on (ps ++ q ∷ []) qs h.back h.second)))
 
 -- every spelled text leads to its parts
 pub spelled_on : (text : List ℕ) (parts : Parts) → IsSpelled text parts → ToPart (before_part []) text parts
 spelled_on text parts h =
-    let P : Parts → Type 0 = λ x. ToPart (before_part []) text x in
     let k = part_on h.earlier h.last h.spelled.back h.spelled.second in
-    subst P (sym h.are) (record {
+    subst (ToPart (before_part []) text) (sym h.are) (record {
       to = k.to;
       leads = leads_as (before_part []) (h.spelled.front ++ h.spelled.back) text k.to (sym h.spelled.is)
           (leads_on (before_part []) h.spelled.front h.spelled.back (before_part h.earlier) k.to (commas_on [] h.earlier h.spelled.front h.spelled.first) k.leads);
@@ -182,62 +152,46 @@ pub record Live (s : Place) : Type 0 where
   pub leads : Leads s rest to
   pub end : ended to ≡ Some parts
 
+-- a place where the text may end, one behind a character, and one in front of a closing bracket
+end_live : (s : Place) (parts : Parts) → ended s ≡ Some parts → Live s
+end_live s parts e = record { rest = []; to = s; parts = parts; leads = refl; end = e }
+
+on_live : (s : Place) (c : ℕ) (z : Place) → step s c ≡ Some z → Live z → Live s
+on_live s c z e k = record { rest = c ∷ k.rest; to = k.to; parts = k.parts; leads = (z, e, k.leads); end = k.end }
+
+shut_live : (ps : Parts) (ss : List Segment) (token : Token) (segment : Segment) → move token 93 ≡ ends segment → Live (inside ps ss token)
+shut_live ps ss token segment e = on_live (inside ps ss token) 93 (ready ps (ss ++ segment ∷ [])) (ap (moved ps ss 93) e) (end_live (ready ps (ss ++ segment ∷ [])) (ps ++ (ss ++ segment ∷ []) ∷ []) refl)
+
+quotes_live : (ps : Parts) (ss : List Segment) (key : List ℕ) → Live (inside ps ss (in_quotes key))
+quotes_live ps ss key = on_live (inside ps ss (in_quotes key)) 34 (inside ps ss (closing (Key key))) refl (shut_live ps ss (closing (Key key)) (Key key) refl)
+
+bound_live : (ps : Parts) (ss : List Segment) (token : Token) (from : Option ℤ) → move token 58 ≡ on (colon from) → Live (inside ps ss token)
+bound_live ps ss token from e = on_live (inside ps ss token) 58 (inside ps ss (colon from)) (ap (moved ps ss 58) e) (shut_live ps ss (colon from) (Range from None) refl)
+
 live_token : (ps : Parts) (ss : List Segment) (token : Token) → Live (inside ps ss token)
 unfolding unicode_ident is_xid_start is_xid_continue
-live_token ps ss dot = record { rest = 42 ∷ []; to = inside ps ss star; parts = ps ++ (ss ++ Wildcard ∷ []) ∷ []; leads = (inside ps ss star, refl, refl); end = refl }
-live_token ps ss (in_name name) = record { rest = []; to = inside ps ss (in_name name); parts = ps ++ (ss ++ Key name ∷ []) ∷ []; leads = refl; end = refl }
-live_token ps ss star = record { rest = []; to = inside ps ss star; parts = ps ++ (ss ++ Wildcard ∷ []) ∷ []; leads = refl; end = refl }
-live_token ps ss bracket =
-    let z = ready ps (ss ++ Range None None ∷ []) in record { rest = 93 ∷ []; to = z; parts = ps ++ (ss ++ Range None None ∷ []) ∷ []; leads = (z, refl, refl); end = refl }
-live_token ps ss (in_quotes key) =
-    let z = ready ps (ss ++ Key key ∷ []) in
-    record { rest = 34 ∷ 93 ∷ []; to = z; parts = ps ++ (ss ++ Key key ∷ []) ∷ []; leads = (inside ps ss (closing (Key key)), refl, (z, refl, refl)); end = refl }
-live_token ps ss (backslash key) =
-    let more = key ++ 34 ∷ [] in
-    let z = ready ps (ss ++ Key more ∷ []) in
-    record {
-      rest = 34 ∷ 34 ∷ 93 ∷ [];
-      to = z;
-      parts = ps ++ (ss ++ Key more ∷ []) ∷ [];
-      leads = (inside ps ss (in_quotes more), refl, (inside ps ss (closing (Key more)), refl, (z, refl, refl)));
-      end = refl;
-    }
+live_token ps ss dot = on_live (inside ps ss dot) 42 (inside ps ss star) refl (end_live (inside ps ss star) (ps ++ (ss ++ Wildcard ∷ []) ∷ []) refl)
+live_token ps ss (in_name name) = end_live (inside ps ss (in_name name)) (ps ++ (ss ++ Key name ∷ []) ∷ []) refl
+live_token ps ss star = end_live (inside ps ss star) (ps ++ (ss ++ Wildcard ∷ []) ∷ []) refl
+live_token ps ss bracket = shut_live ps ss bracket (Range None None) refl
+live_token ps ss (in_quotes key) = quotes_live ps ss key
+live_token ps ss (backslash key) = on_live (inside ps ss (backslash key)) 34 (inside ps ss (in_quotes (key ++ 34 ∷ []))) refl (quotes_live ps ss (key ++ 34 ∷ []))
 live_token ps ss minus =
-    let from = Some (signed_value true (48 ∷ [])) in
-    let z = ready ps (ss ++ Range from None ∷ []) in
-    record {
-      rest = 48 ∷ 58 ∷ 93 ∷ [];
-      to = z;
-      parts = ps ++ (ss ++ Range from None ∷ []) ∷ [];
-      leads = (inside ps ss (number true (48 ∷ [])), refl, (inside ps ss (colon from), refl, (z, refl, refl)));
-      end = refl;
-    }
-live_token ps ss (number negative digits) =
-    let from = Some (signed_value negative digits) in
-    let z = ready ps (ss ++ Range from None ∷ []) in
-    record { rest = 58 ∷ 93 ∷ []; to = z; parts = ps ++ (ss ++ Range from None ∷ []) ∷ []; leads = (inside ps ss (colon from), refl, (z, refl, refl)); end = refl }
-live_token ps ss (behind_number negative digits gap) =
-    let from = Some (signed_value negative digits) in
-    let z = ready ps (ss ++ Range from None ∷ []) in
-    record { rest = 58 ∷ 93 ∷ []; to = z; parts = ps ++ (ss ++ Range from None ∷ []) ∷ []; leads = (inside ps ss (colon from), refl, (z, refl, refl)); end = refl }
-live_token ps ss (colon from) =
-    let z = ready ps (ss ++ Range from None ∷ []) in record { rest = 93 ∷ []; to = z; parts = ps ++ (ss ++ Range from None ∷ []) ∷ []; leads = (z, refl, refl); end = refl }
+    let nought = number true (48 ∷ []) in on_live (inside ps ss minus) 48 (inside ps ss nought) refl (bound_live ps ss nought (Some (signed_value true (48 ∷ []))) refl)
+live_token ps ss (number negative digits) = bound_live ps ss (number negative digits) (Some (signed_value negative digits)) refl
+live_token ps ss (behind_number negative digits gap) = bound_live ps ss (behind_number negative digits gap) (Some (signed_value negative digits)) refl
+live_token ps ss (colon from) = shut_live ps ss (colon from) (Range from None) refl
 live_token ps ss (to_minus from) =
-    let to = Some (signed_value true (48 ∷ [])) in
-    let z = ready ps (ss ++ Range from to ∷ []) in
-    record { rest = 48 ∷ 93 ∷ []; to = z; parts = ps ++ (ss ++ Range from to ∷ []) ∷ []; leads = (inside ps ss (to_number from true (48 ∷ [])), refl, (z, refl, refl)); end = refl }
-live_token ps ss (to_number from negative digits) =
-    let to = Some (signed_value negative digits) in
-    let z = ready ps (ss ++ Range from to ∷ []) in record { rest = 93 ∷ []; to = z; parts = ps ++ (ss ++ Range from to ∷ []) ∷ []; leads = (z, refl, refl); end = refl }
-live_token ps ss (closing segment) =
-    let z = ready ps (ss ++ segment ∷ []) in record { rest = 93 ∷ []; to = z; parts = ps ++ (ss ++ segment ∷ []) ∷ []; leads = (z, refl, refl); end = refl }
+    let nought = to_number from true (48 ∷ []) in on_live (inside ps ss (to_minus from)) 48 (inside ps ss nought) refl (shut_live ps ss nought (Range from (Some (signed_value true (48 ∷ [])))) refl)
+live_token ps ss (to_number from negative digits) = shut_live ps ss (to_number from negative digits) (Range from (Some (signed_value negative digits))) refl
+live_token ps ss (closing segment) = shut_live ps ss (closing segment) segment refl
 
 pub live : (s : Place) → Live s
-live (before_part ps) = record { rest = 46 ∷ []; to = first_dot ps; parts = ps ++ [] ∷ []; leads = (first_dot ps, refl, refl); end = refl }
-live (first_dot ps) = record { rest = []; to = first_dot ps; parts = ps ++ [] ∷ []; leads = refl; end = refl }
-live (ready ps ss) = record { rest = []; to = ready ps ss; parts = ps ++ ss ∷ []; leads = refl; end = refl }
+live (before_part ps) = on_live (before_part ps) 46 (first_dot ps) refl (end_live (first_dot ps) (ps ++ [] ∷ []) refl)
+live (first_dot ps) = end_live (first_dot ps) (ps ++ [] ∷ []) refl
+live (ready ps ss) = end_live (ready ps ss) (ps ++ ss ∷ []) refl
 live (inside ps ss token) = live_token ps ss token
-live (behind_part ps) = record { rest = []; to = behind_part ps; parts = ps; leads = refl; end = refl }
+live (behind_part ps) = end_live (behind_part ps) ps refl
 
 pub leads_begins : (t : List ℕ) (z : Place) → Leads (before_part []) t z → Begins t
 leads_begins t z h =
@@ -254,41 +208,18 @@ pub record MayOpen (s : Place) (text : List ℕ) (ps : Parts) (ss : List Segment
   pub opened : step to 91 ≡ Some (inside ps ss bracket)
   pub dotted : has_deep ss ≡ true → step to 46 ≡ Some (inside ps ss dot)
 
-at_end_opens : (s : Place) (text : List ℕ) (ps : Parts) (ss : List Segment) (to : Place) → Leads s text to → AtEnd to ps ss → MayOpen s text ps ss
-at_end_opens s text ps ss to h k = record { to = to; leads = h; opened = k.opened; dotted = λ e. k.dotted }
-
-plain_opens : (ps : Parts) (ss : List Segment) (body : List ℕ) → SpellsEach ss body → MayOpen (before_part ps) body ps ss
-plain_opens ps [] body h = record { to = before_part ps; leads = leads_as (before_part ps) [] body (before_part ps) (sym h) refl; opened = refl; dotted = λ e. absurd (cc) }
-plain_opens ps (y ∷ ys) body h =
-    let k = each_on (ready ps []) ps [] (y ∷ ys) body (at_ready ps []) h in
-    at_end_opens (before_part ps) body ps (y ∷ ys) k.to (by_first ps body k.to (each_shape y ys body h) k.leads) k.at
-
-no_shape : Shape [] → ⊥
-no_shape (by_bracket r is) = cc
-no_shape (by_name c r is begins) = cc
-no_shape (by_star r is) = cc
-
 dot_opens : (ps : Parts) → MayOpen (before_part ps) (46 ∷ []) ps []
 unfolding unicode_ident is_xid_start
 dot_opens ps = record { to = first_dot ps; leads = (first_dot ps, refl, refl); opened = refl; dotted = λ e. absurd (cc) }
 
-led_opens : (ps : Parts) (ss : List Segment) (body : List ℕ) → SpellsEach ss body → MayFollowDot body → MayOpen (before_part ps) (46 ∷ body) ps ss
-led_opens ps [] [] h k = dot_opens ps
-led_opens ps (y ∷ ys) [] h k = absurd (no_shape (each_shape y ys [] h))
-led_opens ps ss (c ∷ cs) h k =
-    let e = each_on (ready ps []) ps [] ss (c ∷ cs) (at_ready ps []) h in
-    let same : c ∷ cs ≡ 91 ∷ cs = ap (λ x. x ∷ cs) k in
-    at_end_opens (before_part ps) (46 ∷ c ∷ cs) ps ss e.to
-    (leads_as (before_part ps) (46 ∷ 91 ∷ cs) (46 ∷ c ∷ cs) e.to (ap (λ x. 46 ∷ x) (sym same)) (led_first ps cs e.to (leads_as (ready ps []) (c ∷ cs) (91 ∷ cs) e.to same e.leads))) e.at
-
-stands_opens : (ps : Parts) (ss : List Segment) (text : List ℕ) → Stands ss text → MayOpen (before_part ps) text ps ss
-stands_opens ps ss text h =
-    let P : List ℕ → Type 0 = λ x. MayOpen (before_part ps) x ps ss in
-    elim h.led [ inl e ↦ subst P (sym e) (plain_opens ps ss h.body h.each) | inr p ↦ subst P (sym p.0) (led_opens ps ss h.body h.each p.1) ]
+stands_opens : (ps : Parts) (ss : List Segment) (text : List ℕ) → Led ps ss text → MayOpen (before_part ps) text ps ss
+stands_opens ps ss text (to_end to h k) = record { to = to; leads = h; opened = k.opened; dotted = λ e. k.dotted }
+stands_opens ps ss text (to_dot e f) = rw (e, f) (dot_opens ps)
+stands_opens ps ss text (at_start e f) = rw (e, f) (record { to = before_part ps; leads = refl; opened = refl; dotted = λ e. absurd (cc) })
 
 pub opens_leads : (ss : List Segment) (text : List ℕ) (h : Opens ss text) → MayOpen (before_part []) text h.earlier ss
 opens_leads ss text h =
-    let k = stands_opens h.earlier ss h.body h.stands in
+    let k = stands_opens h.earlier ss h.body (stands_led h.earlier ss h.body h.stands) in
     let z = before_part h.earlier in
     record {
       to = k.to;

@@ -1,5 +1,7 @@
 -- What has been read of a segment, and what one more character makes of it.
-use Rattle.snap_select.proofs.Prelude.{◌≡◌, ℕ, suc, ℤ, ◌<◌, Bool, true, false, inl, inr, List, [], ◌∷◌, ◌++◌, length, Option, Some, None, cond, refl, sym, ap, ◌∙◌, subst, append_assoc, append-nil, arith, length-append, eqb-true, eqb-false, and_from, and_parts, ltb-true, is_digit, digit_value, list_all, ⊤, IsTrue, ◌==◌, ◌&&◌, not, IsNumeral, AllDigits, digits_value, is_xid_continue, is_blank, AreBlanks, begins_name, IsName, Quoted, Quotes, dotted, bracketed, signed, signed_value, SpellsBound, MayBound, unbounded, bounded, Spells, Token, dot, in_name, star, bracket, in_quotes, backslash, minus, number, behind_number, colon, to_minus, to_number, closing, Move, on, ends, ended_before, nowhere, behind, move, Segment, DeepWildcard, Wildcard, Key, Index, Range}
+use Rattle.snap_select.proofs.Prelude.{◌≡◌, ℕ, ℤ, Bool, true, false, inl, inr, List, [], ◌∷◌, ◌++◌, length, Option, Some, None, cond, refl, sym, ap, ◌∙◌, append_assoc, append-nil, arith, length-append, eqb-true, eqb-false, and_from, and_parts, ltb-true, is_digit, digit_value, list_all, ⊤, IsTrue, ◌==◌, ◌&&◌, not, IsNumeral, AllDigits, digits_value, is_xid_continue, is_blank, AreBlanks, begins_name, IsName, Quoted, Quotes, dotted, bracketed, signed, signed_value, SpellsBound, MayBound, unbounded, bounded, Spells, Token, dot, in_name, star, bracket, in_quotes, backslash, minus, number, behind_number, colon, to_minus, to_number, closing, Move, on, ends, ended_before, nowhere, behind, move, Key, Index, Range}
+use Rattle.std.proofs.lemmas.Int.Digits.{digits_push}
+use Rattle.std.proofs.lemmas.List.Folds.{list_all-append}
 
 -- an opened range, up to the blanks behind its colon
 pub record OpenRange (from : Option ℤ) (text : List ℕ) : Type 0 where
@@ -44,44 +46,39 @@ MoveMeans t more (ended_before segment) = Spells segment t
 MoveMeans t more nowhere = ⊤
 
 -- groups of texts
-one_more : (p s c : List ℕ) → ((p ++ s) ++ []) ++ c ≡ (p ++ (s ++ c)) ++ []
-one_more p s c = ap (λ x. x ++ c) (append-nil (p ++ s)) ∙ append_assoc p s c ∙ sym (append-nil (p ++ (s ++ c)))
-
 twice_nothing : (p q : List ℕ) → p ++ q ≡ ((p ++ []) ++ []) ++ q
 twice_nothing p q = sym (ap (λ x. x ++ q) (append-nil (p ++ []) ∙ append-nil p))
 
 inner : (p b g m s : List ℕ) → (((p ++ b) ++ g) ++ m) ++ s ≡ p ++ (((b ++ g) ++ m) ++ s)
 inner p b g m s = simp append_assoc
 
-pub pick : (b : Bool) (x y : Move) (P : Move → Type 0) → (b ≡ true → P x) → (b ≡ false → P y) → P (cond b x y)
+-- by a test
+pub pick : {A : Type 0} (b : Bool) (x y : A) (P : A → Type 0) → (b ≡ true → P x) → (b ≡ false → P y) → P (cond b x y)
 pick true x y P f g = f refl
 pick false x y P f g = g refl
 
+pub either : (b : Bool) (Q : Type 0) → (b ≡ true → Q) → (b ≡ false → Q) → Q
+either true Q f g = f refl
+either false Q f g = g refl
+
 -- one character more
 pub all_more : (p : ℕ → Bool) (cs : List ℕ) (c : ℕ) → IsTrue (list_all p cs) → p c ≡ true → IsTrue (list_all p (cs ++ c ∷ []))
-all_more p [] c h k = rw k refl
-all_more p (d ∷ ds) c h k =
-    let q = and_parts (p d) (list_all p ds) h in and_from (p d) (list_all p (ds ++ c ∷ [])) q.0 (all_more p ds c q.1 k)
+all_more p cs c h k = rw list_all-append (and_from (list_all p cs) (list_all p (c ∷ [])) h (rw k refl))
 
 name_more : (name : List ℕ) (c : ℕ) → IsName name → is_xid_continue c ≡ true → IsName (name ++ c ∷ [])
 name_more [] c h k = absurd h
 name_more (d ∷ ds) c h k = (h.0, all_more is_xid_continue ds c h.1 k)
 
-digits_more : (ds : List ℕ) (c : ℕ) → AllDigits 10 ds → digit_value c < 10 → AllDigits 10 (ds ++ c ∷ [])
-digits_more [] c h k = (k, tt)
-digits_more (d ∷ ds) c h k = (h.0, digits_more ds c h.1 k)
-
 pub numeral_more : (ds : List ℕ) (c : ℕ) → AllDigits 10 ds → is_digit c 10 ≡ true → IsNumeral 10 (ds ++ c ∷ [])
-numeral_more ds c h k = (omega (arith, length-append ds (c ∷ [])), digits_more ds c h (ltb-true (digit_value c) 10 k))
+numeral_more ds c h k = (omega (arith, length-append ds (c ∷ [])), digits_push 10 ds c h (ltb-true (digit_value c) 10 k))
 
 quotes_more : (key inside : List ℕ) (c : ℕ) (tail : List ℕ) → Quotes key inside → Quoted c tail [] → Quotes (key ++ c ∷ []) (inside ++ tail)
-quotes_more [] inside c tail h k = let P : List ℕ → Type 0 = λ x. Quotes (c ∷ []) (x ++ tail) in subst P (sym h) ([], k, refl)
+quotes_more [] inside c tail h k = rw h ([], k, refl)
 quotes_more (d ∷ ds) inside c tail h k =
     (h.0 ++ tail, elim h.1 [ inl p ↦ inl (ap (λ x. x ++ tail) p.0, p.1, p.2) | inr e ↦ inr (ap (λ x. x ++ tail) e) ], quotes_more ds h.0 c tail h.2 k)
 
 pub signed_more : (negative : Bool) (ds cs : List ℕ) → signed negative ds ++ cs ≡ signed negative (ds ++ cs)
-signed_more true ds cs = refl
-signed_more false ds cs = refl
+signed_more negative ds cs = grind arith
 
 pub bound_spelled : (negative : Bool) (digits : List ℕ) → IsNumeral 10 digits → SpellsBound (signed_value negative digits) (signed negative digits)
 bound_spelled negative digits h = record { negative = negative; digits = digits; is = refl; numeral = h; value = refl }
@@ -114,10 +111,9 @@ colon_opened negative digits gap text c h e = record {
 
 behind_on : (negative : Bool) (digits gap t : List ℕ) (c : ℕ) → OpenNumber negative digits gap t → MoveMeans t (t ++ c ∷ []) (behind negative digits c)
 behind_on negative digits gap t c h =
-    let P : Move → Type 0 = λ m. MoveMeans t (t ++ c ∷ []) m in
-    pick (c == 58) (on (colon (Some (signed_value negative digits)))) (cond ((c == 93) && not negative) (ends (Index (digits_value 10 digits))) nowhere) P
-    (λ e. colon_opened negative digits gap t c h e)
-    (λ f. pick ((c == 93) && not negative) (ends (Index (digits_value 10 digits))) nowhere P (λ e. index_spelled negative digits gap t c h e) (λ g. tt))
+    let P = MoveMeans t (t ++ c ∷ []) in
+    pick (c == 58) _ _ P (λ e. colon_opened negative digits gap t c h e)
+    (λ f. pick ((c == 93) && not negative) _ _ P (λ e. index_spelled negative digits gap t c h e) (λ g. tt))
 
 gap_more : (negative : Bool) (digits gap t : List ℕ) (c : ℕ) → OpenNumber negative digits gap t → is_blank c ≡ true → OpenNumber negative digits (gap ++ c ∷ []) (t ++ c ∷ [])
 gap_more negative digits gap t c h e = record {
@@ -131,7 +127,7 @@ gap_more negative digits gap t c h e = record {
 number_more : (negative : Bool) (digits t : List ℕ) (c : ℕ) → OpenNumber negative digits [] t → is_digit c 10 ≡ true → OpenNumber negative (digits ++ c ∷ []) [] (t ++ c ∷ [])
 number_more negative digits t c h e = record {
   blanks = h.blanks;
-  is = ap (λ x. x ++ c ∷ []) h.is ∙ one_more (91 ∷ h.blanks) (signed negative digits) (c ∷ []) ∙ ap (λ x. (91 ∷ h.blanks ++ x) ++ []) (signed_more negative digits (c ∷ []));
+  is = ap (λ x. x ++ c ∷ []) h.is ∙ (simp (append-nil, append_assoc)) ∙ ap (λ x. (91 ∷ h.blanks ++ x) ++ []) (signed_more negative digits (c ∷ []));
   blank = h.blank;
   numeral = numeral_more digits c h.numeral.1 e;
   blank_gap = refl;
@@ -171,20 +167,12 @@ range_spelled from to front second after h k b = record {
   holds = bounded h.bound h.gap h.more second refl h.may h.blank_gap h.blank_more k;
 }
 
-spelled_as : (segment : Segment) (x y : List ℕ) → x ≡ y → Spells segment x → Spells segment y
-spelled_as segment x y e h = let P : List ℕ → Type 0 = λ z. Spells segment z in subst P e h
-
 range_closed : (from to : Option ℤ) (front second t : List ℕ) (c : ℕ) → OpenRange from front → MayBound to second → t ≡ front ++ second → (c == 93) ≡ true → Spells (Range from to) (t ++ c ∷ [])
-range_closed from to front second t c h k is e =
-    spelled_as (Range from to) ((front ++ second) ++ 93 ∷ []) (t ++ c ∷ [])
-    (ap (λ x. (front ++ second) ++ x ∷ []) (sym (eqb-true c 93 e)) ∙ ap (λ x. x ++ c ∷ []) (sym is))
-    (spelled_as (Range from to) ((front ++ second) ++ [] ++ 93 ∷ []) ((front ++ second) ++ 93 ∷ []) (ap (λ x. x ++ 93 ∷ []) (append-nil (front ++ second))) (range_spelled from to front second [] h k refl))
+range_closed from to front second t c h k is e = rw (is, eqb-true c 93 e) (rw append-nil at (range_spelled from to front second [] h k refl))
 
 range_closing : (from to : Option ℤ) (front second t : List ℕ) (c : ℕ) → OpenRange from front → MayBound to second → t ≡ front ++ second → is_blank c ≡ true → TokenMeans (closing (Range from to)) (t ++ c ∷ [])
-range_closing from to front second t c h k is e =
-    λ blanks b. spelled_as (Range from to) ((front ++ second) ++ (c ∷ blanks) ++ 93 ∷ []) ((t ++ c ∷ []) ++ blanks ++ 93 ∷ [])
-    (ap (λ x. x ++ c ∷ blanks ++ 93 ∷ []) (sym is) ∙ ap (λ x. x ++ 93 ∷ []) (sym (append_assoc t (c ∷ []) blanks)))
-    (range_spelled from to front second (c ∷ blanks) h k (and_from (is_blank c) (list_all is_blank blanks) e b))
+range_closing from to front second t c h k is e = λ blanks b.
+    rw (is, append_assoc (front ++ second) (c ∷ []) blanks) (range_spelled from to front second (c ∷ blanks) h k (and_from (is_blank c) (list_all is_blank blanks) e b))
 
 empty_range : (blanks t : List ℕ) (c : ℕ) → t ≡ 91 ∷ blanks → AreBlanks blanks → (c == 93) ≡ true → Spells (Range None None) (t ++ c ∷ [])
 empty_range blanks t c is h e = record {
@@ -210,85 +198,58 @@ key_closing key inside blanks t c is h k e = λ after b. bracketed (record {
 
 pub token_on : (token : Token) (t : List ℕ) (c : ℕ) → TokenMeans token t → MoveMeans t (t ++ c ∷ []) (move token c)
 token_on dot t c h =
-    let P : Move → Type 0 = λ m. MoveMeans t (t ++ c ∷ []) m in
-    pick (begins_name c) (on (in_name (c ∷ []))) (cond (c == 42) (on star) nowhere) P
-    (λ e. (ap (λ x. x ++ c ∷ []) h, (e, refl)))
-    (λ f. pick (c == 42) (on star) nowhere P (λ e. ap (λ x. x ++ c ∷ []) h ∙ ap (λ x. 46 ∷ x ∷ []) (eqb-true c 42 e)) (λ g. tt))
+    let P = MoveMeans t (t ++ c ∷ []) in
+    let more = ap (λ x. x ++ c ∷ []) h in
+    pick (begins_name c) _ _ P (λ e. (more, (e, refl))) (λ f. pick (c == 42) _ _ P (λ e. more ∙ ap (λ x. 46 ∷ x ∷ []) (eqb-true c 42 e)) (λ g. tt))
 token_on (in_name name) t c h =
-    let P : Move → Type 0 = λ m. MoveMeans t (t ++ c ∷ []) m in
-    pick (is_xid_continue c) (on (in_name (name ++ c ∷ []))) (ended_before (Key name)) P
-    (λ e. (ap (λ x. x ++ c ∷ []) h.0, name_more name c h.1 e))
-    (λ f. dotted h.0 h.1)
+    pick (is_xid_continue c) _ _ (MoveMeans t (t ++ c ∷ [])) (λ e. (ap (λ x. x ++ c ∷ []) h.0, name_more name c h.1 e)) (λ f. dotted h.0 h.1)
 token_on star t c h =
-    let P : Move → Type 0 = λ m. MoveMeans t (t ++ c ∷ []) m in
-    pick (c == 42) (ends DeepWildcard) (ended_before Wildcard) P
-    (λ e. ap (λ x. x ++ c ∷ []) h ∙ ap (λ x. 46 ∷ 42 ∷ x ∷ []) (eqb-true c 42 e))
-    (λ f. h)
+    pick (c == 42) _ _ (MoveMeans t (t ++ c ∷ [])) (λ e. ap (λ x. x ++ c ∷ []) h ∙ ap (λ x. 46 ∷ 42 ∷ x ∷ []) (eqb-true c 42 e)) (λ f. h)
 token_on bracket t c h =
-    let P : Move → Type 0 = λ m. MoveMeans t (t ++ c ∷ []) m in
+    let P = MoveMeans t (t ++ c ∷ []) in
     let more = ap (λ x. x ++ c ∷ []) h.1 in
     let named : (d : ℕ) → (c == d) ≡ true → t ++ c ∷ [] ≡ 91 ∷ h.0 ++ d ∷ [] = λ d e. more ∙ ap (λ x. 91 ∷ h.0 ++ x ∷ []) (eqb-true c d e) in
-    pick (is_blank c) (on bracket) (cond (c == 34) (on (in_quotes [])) (cond (c == 45) (on minus) (cond (is_digit c 10) (on (number false (c ∷ []))) (cond (c == 58) (on (colon None)) (cond (c == 93) (ends (Range None None)) nowhere))))) P
-    (λ e. (h.0 ++ c ∷ [], more, all_more is_blank h.0 c h.2 e))
-    (λ f. pick (c == 34) (on (in_quotes [])) (cond (c == 45) (on minus) (cond (is_digit c 10) (on (number false (c ∷ []))) (cond (c == 58) (on (colon None)) (cond (c == 93) (ends (Range None None)) nowhere)))) P
-    (λ e. (h.0, [], named 34 e, h.2, refl))
-    (λ f. pick (c == 45) (on minus) (cond (is_digit c 10) (on (number false (c ∷ []))) (cond (c == 58) (on (colon None)) (cond (c == 93) (ends (Range None None)) nowhere))) P
-    (λ e. (h.0, named 45 e, h.2))
-    (λ f. pick (is_digit c 10) (on (number false (c ∷ []))) (cond (c == 58) (on (colon None)) (cond (c == 93) (ends (Range None None)) nowhere)) P
-    (λ e. first_digit false h.0 t c more h.2 e)
-    (λ f. pick (c == 58) (on (colon None)) (cond (c == 93) (ends (Range None None)) nowhere) P
+    pick (is_blank c) _ _ P (λ e. (h.0 ++ c ∷ [], more, all_more is_blank h.0 c h.2 e))
+    (λ f. pick (c == 34) _ _ P (λ e. (h.0, [], named 34 e, h.2, refl))
+    (λ f. pick (c == 45) _ _ P (λ e. (h.0, named 45 e, h.2))
+    (λ f. pick (is_digit c 10) _ _ P (λ e. first_digit false h.0 t c more h.2 e)
+    (λ f. pick (c == 58) _ _ P
     (λ e. record { blanks = h.0; bound = []; gap = []; more = []; is = named 58 e ∙ twice_nothing (91 ∷ h.0) (58 ∷ []); blank = h.2; may = refl; blank_gap = refl; blank_more = refl })
-    (λ f. pick (c == 93) (ends (Range None None)) nowhere P (λ e. empty_range h.0 t c h.1 h.2 e) (λ g. tt))))))
+    (λ f. pick (c == 93) _ _ P (λ e. empty_range h.0 t c h.1 h.2 e) (λ g. tt))))))
 token_on (in_quotes key) t c h =
-    let P : Move → Type 0 = λ m. MoveMeans t (t ++ c ∷ []) m in
+    let P = MoveMeans t (t ++ c ∷ []) in
     let more : t ++ c ∷ [] ≡ 91 ∷ h.0 ++ 34 ∷ h.1 ++ c ∷ [] = ap (λ x. x ++ c ∷ []) h.2 in
-    pick (c == 34) (on (closing (Key key))) (cond (c == 92) (on (backslash key)) (on (in_quotes (key ++ c ∷ [])))) P
-    (λ e. key_closing key h.1 h.0 t c h.2 h.3 h.4 e)
-    (λ f. pick (c == 92) (on (backslash key)) (on (in_quotes (key ++ c ∷ []))) P
-    (λ e. (h.0, h.1, more ∙ ap (λ x. 91 ∷ h.0 ++ 34 ∷ h.1 ++ x ∷ []) (eqb-true c 92 e), h.3, h.4))
+    pick (c == 34) _ _ P (λ e. key_closing key h.1 h.0 t c h.2 h.3 h.4 e)
+    (λ f. pick (c == 92) _ _ P (λ e. (h.0, h.1, more ∙ ap (λ x. 91 ∷ h.0 ++ 34 ∷ h.1 ++ x ∷ []) (eqb-true c 92 e), h.3, h.4))
     (λ g. (h.0, h.1 ++ c ∷ [], more ∙ append_assoc (91 ∷ h.0) (34 ∷ h.1) (c ∷ []), h.3, quotes_more key h.1 c (c ∷ []) h.4 (inl (refl, eqb-false c 34 f, eqb-false c 92 g)))))
-token_on (backslash key) t c h =
-    let more = ap (λ x. x ++ c ∷ []) h.2 ∙ append_assoc (91 ∷ h.0 ++ 34 ∷ h.1) (92 ∷ []) (c ∷ []) ∙ append_assoc (91 ∷ h.0) (34 ∷ h.1) (92 ∷ c ∷ []) in
-    (h.0, h.1 ++ 92 ∷ c ∷ [], more, h.3, quotes_more key h.1 c (92 ∷ c ∷ []) h.4 (inr refl))
+token_on (backslash key) t c h = (h.0, h.1 ++ 92 ∷ c ∷ [], ap (λ x. x ++ c ∷ []) h.2 ∙ simp append_assoc, h.3, quotes_more key h.1 c (92 ∷ c ∷ []) h.4 (inr refl))
 token_on minus t c h =
-    let P : Move → Type 0 = λ m. MoveMeans t (t ++ c ∷ []) m in
-    let more : t ++ c ∷ [] ≡ 91 ∷ h.0 ++ 45 ∷ c ∷ [] = ap (λ x. x ++ c ∷ []) h.1 ∙ simp append_assoc in
-    pick (is_digit c 10) (on (number true (c ∷ []))) nowhere P (λ e. first_digit true h.0 t c more h.2 e) (λ g. tt)
+    pick (is_digit c 10) _ _ (MoveMeans t (t ++ c ∷ [])) (λ e. first_digit true h.0 t c (ap (λ x. x ++ c ∷ []) h.1 ∙ simp append_assoc) h.2 e) (λ g. tt)
 token_on (number negative digits) t c h =
-    let P : Move → Type 0 = λ m. MoveMeans t (t ++ c ∷ []) m in
-    pick (is_digit c 10) (on (number negative (digits ++ c ∷ []))) (cond (is_blank c) (on (behind_number negative digits 1)) (behind negative digits c)) P
-    (λ e. number_more negative digits t c h e)
-    (λ f. pick (is_blank c) (on (behind_number negative digits 1)) (behind negative digits c) P
-    (λ e. (c ∷ [], gap_more negative digits [] t c h e, refl))
-    (λ g. behind_on negative digits [] t c h))
+    let P = MoveMeans t (t ++ c ∷ []) in
+    pick (is_digit c 10) _ _ P (λ e. number_more negative digits t c h e)
+    (λ f. pick (is_blank c) _ _ P (λ e. (c ∷ [], gap_more negative digits [] t c h e, refl)) (λ g. behind_on negative digits [] t c h))
 token_on (behind_number negative digits gap) t c h =
-    let P : Move → Type 0 = λ m. MoveMeans t (t ++ c ∷ []) m in
-    pick (is_blank c) (on (behind_number negative digits (suc gap))) (behind negative digits c) P
-    (λ e. (h.0 ++ c ∷ [], gap_more negative digits h.0 t c h.1 e, omega (arith, length-append h.0 (c ∷ []), h.2)))
-    (λ g. behind_on negative digits h.0 t c h.1)
+    pick (is_blank c) _ _ (MoveMeans t (t ++ c ∷ []))
+    (λ e. (h.0 ++ c ∷ [], gap_more negative digits h.0 t c h.1 e, omega (arith, length-append h.0 (c ∷ []), h.2))) (λ g. behind_on negative digits h.0 t c h.1)
 token_on (colon from) t c h =
-    let P : Move → Type 0 = λ m. MoveMeans t (t ++ c ∷ []) m in
-    pick (is_blank c) (on (colon from)) (cond (c == 45) (on (to_minus from)) (cond (is_digit c 10) (on (to_number from false (c ∷ []))) (cond (c == 93) (ends (Range from None)) nowhere))) P
-    (λ e. range_more from t c h e)
-    (λ f. pick (c == 45) (on (to_minus from)) (cond (is_digit c 10) (on (to_number from false (c ∷ []))) (cond (c == 93) (ends (Range from None)) nowhere)) P
-    (λ e. (t, h, ap (λ x. t ++ x ∷ []) (eqb-true c 45 e)))
-    (λ f. pick (is_digit c 10) (on (to_number from false (c ∷ []))) (cond (c == 93) (ends (Range from None)) nowhere) P
-    (λ e. (t, h, refl, numeral_more [] c tt e))
-    (λ f. pick (c == 93) (ends (Range from None)) nowhere P (λ e. range_closed from None t [] t c h refl (sym (append-nil t)) e) (λ g. tt))))
+    let P = MoveMeans t (t ++ c ∷ []) in
+    pick (is_blank c) _ _ P (λ e. range_more from t c h e)
+    (λ f. pick (c == 45) _ _ P (λ e. (t, h, ap (λ x. t ++ x ∷ []) (eqb-true c 45 e)))
+    (λ f. pick (is_digit c 10) _ _ P (λ e. (t, h, refl, numeral_more [] c tt e))
+    (λ f. pick (c == 93) _ _ P (λ e. range_closed from None t [] t c h refl (sym (append-nil t)) e) (λ g. tt))))
 token_on (to_minus from) t c h =
-    let P : Move → Type 0 = λ m. MoveMeans t (t ++ c ∷ []) m in
-    pick (is_digit c 10) (on (to_number from true (c ∷ []))) nowhere P
+    pick (is_digit c 10) _ _ (MoveMeans t (t ++ c ∷ []))
     (λ e. (h.0, h.1, ap (λ x. x ++ c ∷ []) h.2 ∙ append_assoc h.0 (45 ∷ []) (c ∷ []), numeral_more [] c tt e)) (λ g. tt)
 token_on (to_number from negative digits) t c h =
-    let P : Move → Type 0 = λ m. MoveMeans t (t ++ c ∷ []) m in
-    pick (is_digit c 10) (on (to_number from negative (digits ++ c ∷ []))) (cond (is_blank c) (on (closing (Range from (Some (signed_value negative digits))))) (cond (c == 93) (ends (Range from (Some (signed_value negative digits)))) nowhere)) P
+    let P = MoveMeans t (t ++ c ∷ []) in
+    let to = Some (signed_value negative digits) in
+    let spelled = bound_spelled negative digits h.3 in
+    pick (is_digit c 10) _ _ P
     (λ e. (h.0, h.1, ap (λ x. x ++ c ∷ []) h.2 ∙ append_assoc h.0 (signed negative digits) (c ∷ []) ∙ ap (λ x. h.0 ++ x) (signed_more negative digits (c ∷ [])), numeral_more digits c h.3.1 e))
-    (λ f. pick (is_blank c) (on (closing (Range from (Some (signed_value negative digits))))) (cond (c == 93) (ends (Range from (Some (signed_value negative digits)))) nowhere) P
-    (λ e. range_closing from (Some (signed_value negative digits)) h.0 (signed negative digits) t c h.1 (bound_spelled negative digits h.3) h.2 e)
-    (λ g. pick (c == 93) (ends (Range from (Some (signed_value negative digits)))) nowhere P
-    (λ e. range_closed from (Some (signed_value negative digits)) h.0 (signed negative digits) t c h.1 (bound_spelled negative digits h.3) h.2 e) (λ g. tt)))
+    (λ f. pick (is_blank c) _ _ P (λ e. range_closing from to h.0 (signed negative digits) t c h.1 spelled h.2 e)
+    (λ g. pick (c == 93) _ _ P (λ e. range_closed from to h.0 (signed negative digits) t c h.1 spelled h.2 e) (λ g. tt)))
 token_on (closing segment) t c h =
-    let P : Move → Type 0 = λ m. MoveMeans t (t ++ c ∷ []) m in
-    pick (is_blank c) (on (closing segment)) (cond (c == 93) (ends segment) nowhere) P
-    (λ e. λ blanks b. spelled_as segment (t ++ (c ∷ blanks) ++ 93 ∷ []) ((t ++ c ∷ []) ++ blanks ++ 93 ∷ []) (ap (λ x. x ++ 93 ∷ []) (sym (append_assoc t (c ∷ []) blanks))) (h (c ∷ blanks) (and_from (is_blank c) (list_all is_blank blanks) e b)))
-    (λ f. pick (c == 93) (ends segment) nowhere P (λ e. spelled_as segment (t ++ [] ++ 93 ∷ []) (t ++ c ∷ []) (ap (λ x. x ++ 93 ∷ []) (append-nil t) ∙ ap (λ x. t ++ x ∷ []) (sym (eqb-true c 93 e))) (h [] refl)) (λ g. tt))
+    let P = MoveMeans t (t ++ c ∷ []) in
+    pick (is_blank c) _ _ P (λ e blanks b. rw (append_assoc t (c ∷ []) blanks) (h (c ∷ blanks) (and_from (is_blank c) (list_all is_blank blanks) e b)))
+    (λ f. pick (c == 93) _ _ P (λ e. rw (eqb-true c 93 e) (rw append-nil at (h [] refl))) (λ g. tt))

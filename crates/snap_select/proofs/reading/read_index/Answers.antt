@@ -1,5 +1,5 @@
-use Rattle.snap_select.proofs.Prelude.{refl, sym, ◌∙◌, IfOk-weaker, IfErr-weaker, chars, bracket, Index, number_value}
-use Rattle.snap_select.proofs.Readers.{minus_far, minus_near, index_large, index_goes, plain_numeral, closing_goes, closing_stops, closing_shorter, behind_longer, same_near}
+use Rattle.snap_select.proofs.Prelude.{refl, sym, ◌∙◌, chars, bracket, Index, number_value}
+use Rattle.snap_select.proofs.Readers.{minus_far, minus_near, index_large, index_goes, plain_numeral, closing_read, behind_longer, same_near}
 use Rattle.snap_select.proofs.reading.read_index.Goals as goal
 
 pub returns-in-None-clause-stop : goal.returns-in-None-clause-stop
@@ -17,32 +17,18 @@ returns-in-Some-clause-stop c =
 pub returns-in-None-index_of-clause-stop : goal.returns-in-None-index_of-clause-stop
 returns-in-None-index_of-clause-stop c =
     let h = c.requires.number in
-    let plain = sym c.begins_with.ensures ∙ c.if-begins_with.false in
     let num = chars c.args.number.now in
-    index_large (chars c.args.text.now) num (chars c.args.rest.now) h plain (c.in-None-index_of.ensures.number (plain_numeral num h.numeral plain))
+    let numeral = plain_numeral num h.numeral (sym c.begins_with.ensures ∙ c.if-begins_with.false) in
+    index_large (chars c.args.text.now) num (chars c.args.rest.now) h numeral (c.in-None-index_of.ensures.number numeral)
 
-pub returns-in-Some-index_of-clause-ok : goal.returns-in-Some-index_of-clause-ok
-returns-in-Some-index_of-clause-ok c =
+pub returns-in-Some-index_of : goal.returns-in-Some-index_of
+returns-in-Some-index_of c =
     let h = c.requires.number in
-    let plain = sym c.begins_with.ensures ∙ c.if-begins_with.false in
     let num = chars c.args.number.now in
     let text = chars c.args.text.now in
     let rest = chars c.args.rest.now in
-    let goes = index_goes text num rest c.in-Some-index_of.index h plain (c.in-Some-index_of.ensures.number (plain_numeral num h.numeral plain)) c.in-Some-index_of.ensures.small c.requires.no_colon in
-    IfOk-weaker c.closed.result _ _ (λ p k. closing_goes bracket text (Index c.in-Some-index_of.index) rest goes refl p.0 (chars p.1.now) k.0 k.1) c.closed.ensures.ok
-
-pub returns-in-Some-index_of-clause-stop : goal.returns-in-Some-index_of-clause-stop
-returns-in-Some-index_of-clause-stop c =
-    let h = c.requires.number in
-    let plain = sym c.begins_with.ensures ∙ c.if-begins_with.false in
-    let num = chars c.args.number.now in
-    let text = chars c.args.text.now in
-    let rest = chars c.args.rest.now in
-    let goes = index_goes text num rest c.in-Some-index_of.index h plain (c.in-Some-index_of.ensures.number (plain_numeral num h.numeral plain)) c.in-Some-index_of.ensures.small c.requires.no_colon in
-    IfErr-weaker c.closed.result _ _ (λ s k. closing_stops bracket text (Index c.in-Some-index_of.index) rest goes s k) c.closed.ensures.stop
-
-pub returns-in-Some-index_of-clause-shorter : goal.returns-in-Some-index_of-clause-shorter
-returns-in-Some-index_of-clause-shorter c =
-    let text = chars c.args.text.now in
-    let rest = chars c.args.rest.now in
-    IfOk-weaker c.closed.result _ _ (λ p k. closing_shorter text rest (chars p.1.now) (behind_longer text (chars c.args.number.now) rest c.requires.number) k.1) c.closed.ensures.ok
+    let numeral = plain_numeral num h.numeral (sym c.begins_with.ensures ∙ c.if-begins_with.false) in
+    let i = c.in-Some-index_of in
+    let goes = index_goes text num rest i.index h numeral (i.ensures.number numeral) i.ensures.small c.requires.no_colon in
+    let w = closing_read bracket text (Index i.index) (Index i.index) rest c.closed.result refl refl goes (behind_longer text num rest h) c.closed.ensures.ok c.closed.ensures.stop in
+    record { ok = w.0; stop = w.1; shorter = w.2 }

@@ -1,9 +1,6 @@
 use Rattle.snap_select.proofs.Prelude.{chars}
-use Rattle.snap_select.proofs.Readers.{one_star, two_stars}
+use Rattle.snap_select.proofs.Readers.{one_star}
 use Rattle.snap_select.proofs.reading.read_wildcard.Goals as goal
 
 pub returns-in-None-clause-read : goal.returns-in-None-clause-read
 returns-in-None-clause-read c = one_star (chars c.args.text.now) c.in-None.ensures
-
-pub returns-in-Some-clause-read : goal.returns-in-Some-clause-read
-returns-in-Some-clause-read c = two_stars (chars c.args.text.now) (chars c.in-Some.rest.now) c.in-Some.ensures
