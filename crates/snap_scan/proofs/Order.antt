@@ -1,8 +1,9 @@
 -- The order of StreamStart and StreamEnd among the tokens that are given.
-use Rattle.snap_scan.proofs.Prelude.{◌≡◌, ◌≤◌, ◌∷◌, [], ℕ, Bool, true, false, List, Option, Some, None, Ok, length, subst, sym, ap, arith, refl, ◌∙◌, ◌==◌, ◌&&◌, if◌then◌else◌, All, MatchOption, not, ◌||◌, All-head, Token, ScanError, State, has_ended, given, Outcome, done, Leaves, step, IsShown, IsNoEnd, IsFounded, IsSound, IsSoundFrom, untouched, open_still, over, EndsStream, begins_stream, is_start, is_end, is_start_ahead, GivesSound, IsWholeWhile, GivesNext}
+use Rattle.snap_scan.proofs.Prelude.{◌≡◌, ◌∷◌, [], ℕ, Bool, true, false, List, Option, Some, None, Ok, length, subst, sym, ap, arith, refl, ◌∙◌, ◌==◌, ◌&&◌, All, MatchOption, not, ◌||◌, All-head, Token, ScanError, State, has_ended, given, Outcome, Leaves, step, IsShown, IsNoEnd, IsFounded, IsSound, IsSoundFrom, untouched, open_still, over, EndsStream, begins_stream, is_start, is_end, is_start_ahead, GivesSound, IsWholeWhile, GivesNext}
 use Rattle.snap_scan.proofs.Ending.{holding, not-both}
 use Rattle.snap_scan.proofs.Growing.{step-holds}
 use Rattle.snap_scan.proofs.Soundness.{sound-given}
+use Rattle.snap_scan.proofs.Stepping.{step-over}
 
 ahead-of : (started : Bool) (held : List Token) (ahead : Bool) → started ≡ true → begins_stream held ≡ ahead → (not started || begins_stream held) ≡ ahead
 ahead-of true held ahead begun first = first
@@ -57,12 +58,8 @@ gives-sound source (Some token) mid new (over is) taken =
 pub step-ended : (s new : State) → Leaves (step s) new → has_ended new ≡ has_ended s
 step-ended s new l = by-end s.ended refl
   where
-    over-is : (b : Bool) (x : State) (y : Outcome) → b ≡ true → Leaves (if b then done x else y) new → new ≡ x
-    over-is true x y ended leaves = leaves
-    over-is false x y ended leaves = absurd (cc)
-
     by-end : (b : Bool) → s.ended ≡ b → has_ended new ≡ has_ended s
-    by-end true ended = ap (λ (v : State). has_ended v) (over-is s.ended s _ ended l)
+    by-end true ended = let P : Outcome → Type 0 = λ o. Leaves o new in ap (λ (v : State). has_ended v) (subst P (step-over s ended) l)
     by-end false going = holding new (step-holds s new going l) ∙ sym (going-on s.ended (length s.held) going)
 
 -- so does any call that keeps to it in both cases

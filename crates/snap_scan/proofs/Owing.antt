@@ -1,8 +1,10 @@
 -- What is owed stays owed from one call to the next.
-use Rattle.snap_scan.proofs.Prelude.{◌≡◌, ℕ, suc, ◌-◌, ◌⊎◌, List, [], ◌∷◌, Bool, true, false, refl, sym, ap, ◌∙◌, arith, Some, None, Option, map, subst, drop, inl, inr, Ok, list_any, ◌||◌, ◌&&◌, ◌==◌, MatchOption, if◌then◌else◌, Mark, Place, mark_of, ScanError, Syntax, OutOfMemory, Token, TokenType, Outcome, done, told, refused, read, unreadable, step, token_step, stream_started, Leaves, MayFail, kind_step, kind_of, Keys, fresh, is_past, is_overdue, any_overdue, still_fresh, names_first, any_names_first, lowered, all_lowered, left_by, fetched, Steps, none_more, one_more, type_of, Owes, IsFirstSure, IsFirst, GivesFirst, Scan, IsSound, untouched, open_still, over, State, to_next, past_comment, advanced, line_ended, is_space, stale, given, in_flow, unrolled, is_break, SimpleKey, or_parts}
+use Rattle.snap_scan.proofs.Prelude.{◌≡◌, ℕ, suc, ◌-◌, ◌⊎◌, List, [], ◌∷◌, Bool, true, false, refl, sym, ap, ◌∙◌, arith, Some, None, Option, map, subst, drop, inl, inr, Ok, list_any, ◌&&◌, ◌==◌, MatchOption, if◌then◌else◌, Mark, Place, mark_of, ScanError, Syntax, OutOfMemory, Token, TokenType, Outcome, done, told, refused, read, unreadable, step, token_step, Leaves, MayFail, kind_step, kind_of, Keys, fresh, is_past, is_overdue, any_overdue, still_fresh, names_first, any_names_first, lowered, all_lowered, left_by, fetched, Steps, none_more, one_more, type_of, Owes, IsFirstSure, IsFirst, GivesFirst, Scan, IsSound, untouched, open_still, over, State, to_next, past_comment, advanced, line_ended, is_space, stale, given, in_flow, unrolled, is_break, SimpleKey, or_parts}
 use Rattle.std.proofs.lemmas.Bool.Decides.{nat_tests}
 use Rattle.snap_token.specs.declared.info.ScanInfo.TheVariants as info
-use Rattle.snap_scan.proofs.Fronts.{IsOnward, to_next-onward, to_next-rekeyed, raised, in_front, fronts, step-front, any-overdue-front}
+use Rattle.snap_scan.proofs.Soundness.{either}
+use Rattle.snap_scan.proofs.Stepping.{step-token}
+use Rattle.snap_scan.proofs.Fronts.{IsOnward, to_next-onward, to_next-rekeyed, raised, in_front, fronts, step-front, any-same, any-overdue-front}
 
 overdue-by : (required old new : Bool) → (old ≡ true → new ≡ true) → required && new ≡ false → required && old ≡ false
 overdue-by false old new on h = refl
@@ -21,9 +23,7 @@ overdue-list p q (k ∷ ks) on h =
     rw (overdue-onward p q k on two.0, overdue-list p q ks on two.1) refl
 
 any-overdue-onward : (p q : Place) (ks : Keys) → IsOnward p q → any_overdue (mark_of q) ks ≡ false → any_overdue (mark_of p) ks ≡ false
-any-overdue-onward p q ks on h =
-    let two = or_parts (is_overdue (mark_of q) ks.key) (list_any (is_overdue (mark_of q)) ks.outer) h in
-    rw (overdue-onward p q ks.key on two.0, overdue-list p q ks.outer on two.1) refl
+any-overdue-onward p q ks on h = overdue-list p q (ks.key ∷ ks.outer) on h
 
 -- giving up keys at a place where none is overdue makes none overdue later, nor hides one
 fresh-either : (m : Mark) (key : SimpleKey) (b c : Bool) → (b ≡ true → c ≡ true) → fresh m (Some key) ≡ (if c then None else Some key)
@@ -59,36 +59,29 @@ overdue-list-fresh m n (k ∷ ks) h =
     rw (overdue-fresh m n k two.0, overdue-list-fresh m n ks two.1) refl
 
 any-overdue-fresh : (m n : Mark) (ks : Keys) → any_overdue m ks ≡ false → any_overdue n (still_fresh m ks) ≡ any_overdue n ks
-any-overdue-fresh m n ks h =
-    let two = or_parts (is_overdue m ks.key) (list_any (is_overdue m) ks.outer) h in
-    rw (overdue-fresh m n ks.key two.0, overdue-list-fresh m n ks.outer two.1) refl
-
-keys-if : (ks : Keys) (b : Bool) (x y : State) → x.keys ≡ ks → y.keys ≡ ks → (if b then x else y).keys ≡ ks
-keys-if ks true x y h k = h
-keys-if ks false x y h k = k
+any-overdue-fresh m n ks h = overdue-list-fresh m n (ks.key ∷ ks.outer) h
 
 -- skipping changes no key
 mutual
   to_next-keys : (cs : List ℕ) (s : State) → (to_next cs s).keys ≡ s.keys
   to_next-keys [] s = refl
   to_next-keys (c ∷ cs) s =
-      keys-if s.keys (is_space c s) _ _ (to_next-keys cs (advanced s)) (keys-if s.keys (is_break c) _ _ (to_next-keys cs (line_ended (advanced s)))
-      (keys-if s.keys (c == 35) _ _ (past_comment-keys cs (advanced s)) refl))
+      let P : State → Type 0 = λ v. v.keys ≡ s.keys in
+      either P (is_space c s) _ _ (to_next-keys cs (advanced s)) (either P (is_break c) _ _ (to_next-keys cs (line_ended (advanced s)))
+      (either P (c == 35) _ _ (past_comment-keys cs (advanced s)) refl))
 
   past_comment-keys : (cs : List ℕ) (s : State) → (past_comment cs s).keys ≡ s.keys
   past_comment-keys [] s = refl
   past_comment-keys (c ∷ cs) s =
-      keys-if s.keys (is_break c) _ _ (to_next-keys cs (line_ended (advanced s))) (keys-if s.keys (c == 0) _ _ refl (past_comment-keys cs (advanced s)))
+      let P : State → Type 0 = λ v. v.keys ≡ s.keys in
+      either P (is_break c) _ _ (to_next-keys cs (line_ended (advanced s))) (either P (c == 0) _ _ refl (past_comment-keys cs (advanced s)))
 
 -- the fetch of the token at a state whose keys are fresh
 abbrev pub fetch_at : State → Outcome
 fetch_at s = kind_step (kind_of (in_flow (unrolled (Some s.place.col) s)) s.adjacent (unrolled (Some s.place.col) s).place) (unrolled (Some s.place.col) s)
 
-chosen : (b c : Bool) (x y z : Outcome) → b ≡ false → c ≡ true → (if b then x else (if c then y else z)) ≡ y
-chosen b c x y z p q = rw (p, q) refl
-
 fetched-open : (s : State) → s.started ≡ true → s.ended ≡ false → fetched s ≡ left_by (token_step (to_next s.place.left s))
-fetched-open s started ended = ap left_by (chosen s.ended s.started (done s) (token_step (to_next s.place.left s)) (done (stream_started s)) ended started)
+fetched-open s started ended = ap left_by (step-token s ended started)
 
 token-if : (b b' : Bool) (m : Mark) (o : Outcome) → b' ≡ b → left_by (if b' then refused m info.S1 else o) ≡ left_by (if b then refused m info.S1 else o)
 token-if b b' m o same = rw same refl
@@ -246,12 +239,8 @@ overdue-lowered : (m : Mark) (k : Option SimpleKey) → is_overdue m (lowered k)
 overdue-lowered m None = refl
 overdue-lowered m (Some key) = refl
 
-overdue-list-lowered : (m : Mark) (ks : List (Option SimpleKey)) → list_any (is_overdue m) (map lowered ks) ≡ list_any (is_overdue m) ks
-overdue-list-lowered m [] = refl
-overdue-list-lowered m (k ∷ ks) = rw (overdue-lowered m k, overdue-list-lowered m ks) refl
-
 any-overdue-lowered : (m : Mark) (ks : Keys) → any_overdue m (all_lowered ks) ≡ any_overdue m ks
-any-overdue-lowered m ks = rw (overdue-lowered m ks.key, overdue-list-lowered m ks.outer) refl
+any-overdue-lowered m ks = any-same (is_overdue m) lowered (overdue-lowered m) (ks.key ∷ ks.outer)
 
 raised-lowered : (k : Option SimpleKey) → names_first k ≡ false → raised (lowered k) ≡ k
 raised-lowered None h = refl

@@ -1,5 +1,6 @@
 -- What the reading of a token makes of a state.
-use Rattle.snap_scan.proofs.Prelude.{◌≡◌, ◌≤◌, ◌+◌, ℕ, Bool, true, false, List, [], ◌∷◌, Option, Some, None, Result, Ok, Err, length, subst, sym, ap, arith, refl, ◌∙◌, if◌then◌else◌, MatchOption, Place, Later, here, next, skip_from, mark_of, Mark, Plain, plain_from, ReadsPlain, Quoted, ReadsQuoted, TokenType, TScalarStyle, ScanError, Syntax, OutOfMemory, S2, TokenKind, is_required, State, Gives, at, pushed, allowing, keyless, saved, unrolled, is_key_owed, in_flow, Outcome, refused, read, IsTokenOf, IsRead, Does, closed, directive, read_key, plain, plain_read, quoted_read, innermost}
+use Rattle.snap_scan.proofs.Prelude.{◌≡◌, ◌≤◌, ◌+◌, ℕ, Bool, false, List, [], ◌∷◌, Option, Some, None, Result, Ok, Err, length, subst, sym, ap, arith, refl, ◌∙◌, if◌then◌else◌, MatchOption, Place, Later, here, next, skip_from, mark_of, Mark, Plain, plain_from, ReadsPlain, Quoted, ReadsQuoted, TokenType, TScalarStyle, ScanError, Syntax, OutOfMemory, S2, TokenKind, is_required, State, Gives, at, pushed, allowing, keyless, saved, unrolled, is_key_owed, in_flow, Outcome, refused, read, IsTokenOf, IsRead, Does, closed, directive, read_key, plain, plain_read, quoted_read, innermost, cond-false}
+use Rattle.snap_scan.proofs.Soundness.{either}
 use Rattle.snap_token.specs.declared.plain.PlainScalar.{PlainScalar}
 use Rattle.snap_token.specs.declared.token.TokenType.TheVariants as k
 use Rattle.snap_token.specs.declared.token.TScalarStyle.TheVariants as style
@@ -13,10 +14,6 @@ skip-index (c ∷ cs) p = omega arith
 pub later-index : (p q : Place) → Later p q → p.index ≤ q.index
 later-index _ _ (here p) = omega arith
 later-index _ _ (next p q l) = let before = later-index p q l in let on = skip-index q.left q in omega arith
-
-pub chosen : (b : Bool) (x y : Outcome) → b ≡ false → (if b then x else y) ≡ y
-chosen true x y e = absurd (cc)
-chosen false x y e = refl
 
 -- a token that was read is put behind the held ones
 pub does-read : {T : Type 0} (kind : TokenKind) (s : State) (p : Place) (mark : Mark) (token : TokenType) (r : Result T ScanError) (new : State) → IsTokenOf kind token
@@ -38,7 +35,7 @@ does-read-key kind b s t u p mark token r new is free saved_is allowed_is later 
     let reads = does-read kind u p mark token r new is later further from until gives in
     let Q : State → Type 0 = λ v. Does (read kind v) r new in
     let P : Outcome → Type 0 = λ o. Does o r new in
-    subst P (sym (chosen (is_key_owed s) (refused (mark_of s.place) S2) (read kind (allowing b (saved s))) free)) (subst Q same reads)
+    subst P (sym (cond-false (is_key_owed s) (refused (mark_of s.place) S2) (read kind (allowing b (saved s))) free)) (subst Q same reads)
 
 -- the same where the token's mark is the place
 pub does-read-here : {T : Type 0} (kind : TokenKind) (b : Bool) (s t u : State) (p : Place) (mark : Mark) (token : TokenType) (r : Result T ScanError) (new : State) → IsTokenOf kind token
@@ -52,10 +49,6 @@ does-read-here kind b s t u p mark token r new is free saved_is allowed_is marks
     let on = later-index u.place p later in
     does-read-key kind b s t u p mark token r new is free saved_is allowed_is later further (omega arith) (omega arith) gives
 
-keys-unrolled : (b : Bool) (s t : State) → t.keys ≡ s.keys → (if b then s else t).keys ≡ s.keys
-keys-unrolled true s t e = refl
-keys-unrolled false s t e = e
-
 -- a directive, behind which all blocks are closed
 pub does-directive : {T : Type 0} (s t u v : State) (p : Place) (mark : Mark) (token : TokenType) (r : Result T ScanError) (new : State) → IsTokenOf Directive token
     → t ≡ unrolled None s → is_required t.keys.key ≡ false → u ≡ keyless t → v ≡ allowing false u → mark ≡ mark_of v.place
@@ -65,12 +58,12 @@ does-directive s t u v p mark token r new is unrolled_is free removed_is allowed
     let same : v ≡ closed s = allowed_is ∙ ap (λ (w : State). allowing false w) (removed_is ∙ ap (λ (w : State). keyless w) unrolled_is) in
     let index : mark.index ≡ v.place.index = ap (λ (m : Mark). m.index) marks in
     let on = later-index v.place p later in
-    let keys : t.keys ≡ s.keys = ap (λ (w : State). w.keys) unrolled_is ∙ keys-unrolled (in_flow s) s _ refl in
+    let keys : t.keys ≡ s.keys = ap (λ (w : State). w.keys) unrolled_is ∙ either (λ v. v.keys ≡ s.keys) (in_flow s) s _ refl refl in
     let unowed : is_required s.keys.key ≡ false = cc in
     let reads = does-read Directive v p mark token r new is later further (omega arith) (omega arith) gives in
     let Q : State → Type 0 = λ w. Does (read Directive w) r new in
     let P : Outcome → Type 0 = λ o. Does o r new in
-    subst P (sym (chosen (is_required s.keys.key) (refused (mark_of s.place) S2) (read Directive (closed s)) unowed)) (subst Q same reads)
+    subst P (sym (cond-false (is_required s.keys.key) (refused (mark_of s.place) S2) (read Directive (closed s)) unowed)) (subst Q same reads)
 
 -- a plain scalar is put behind the held tokens
 told-plain : {T : Type 0} (s t u : State) (o : Option Plain) (scalar : PlainScalar) (p : Place) (mark : Mark) (r : Result T ScanError) (new : State)
@@ -107,7 +100,7 @@ does-plain s t u indent flow scalar p mark r new free saved_is allowed_is marks 
     let o = plain_from (innermost s.columns) (in_flow s) s.place in
     let P : Outcome → Type 0 = λ x. Does x r new in
     let Q : Option Plain → Type 0 = λ x. ReadsPlain x (Ok scalar) p in
-    subst P (sym (chosen (is_key_owed s) (refused (mark_of s.place) S2) (plain_read o s) free))
+    subst P (sym (cond-false (is_key_owed s) (refused (mark_of s.place) S2) (plain_read o s) free))
     (told-plain s t u o scalar p mark r new saved_is allowed_is marks (subst Q same reads) later further gives)
 
 -- a quoted scalar is put behind the held tokens
@@ -141,7 +134,7 @@ does-quoted written from s t u text p n mark r new free saved_is allowed_is inde
     let same : u ≡ allowing false (saved s) = allowed_is ∙ ap (λ (v : State). allowing false v) saved_is in
     let P : Outcome → Type 0 = λ x. Does x r new in
     let Q : Place → Type 0 = λ q. ReadsQuoted (from q) (Ok text) p in
-    subst P (sym (chosen (is_key_owed s) (refused (mark_of s.place) S2) (quoted_read written (from s.place) s) free))
+    subst P (sym (cond-false (is_key_owed s) (refused (mark_of s.place) S2) (quoted_read written (from s.place) s) free))
     (told-quoted written s u (from s.place) text p n mark r new same index_is marks (subst Q (ap (λ (v : State). v.place) same) reads) later further gives)
 
 pub innermost-is : (o : Option ℕ) (columns : List ℕ) → MatchOption o (columns ≡ []) (λ column. (outer : List ℕ) × (columns ≡ column ∷ outer)) → o ≡ innermost columns
