@@ -1,11 +1,11 @@
 -- What is written for an inline text that is its own normal form stands for that text.
-use Rattle.snap_literal.proofs.Prelude.{◌≡◌, ◌==◌, ℕ, zero, suc, ◌+◌, ◌≤◌, List, [], ◌∷◌, ◌++◌, Bool, true, false, ◌||◌, cond, map, Result, Ok, Err, length, refl, sym, ap, ◌∙◌, arith, append-nil, subst, list_any, list_all, flat_map, is_whitespace, IfOk, ends_badly, trimmed, unreturned, normal, is_return, literal_reads, is_hidden, line_parts, framed_line, spelled, meant, IsIndentation, shortest, indentation_of, from_byte, joined_from, is_short, normalized, inline_normal, lines-unbroken, onto, lines, is_line_end}
+use Rattle.snap_literal.proofs.Prelude.{◌≡◌, ◌==◌, ℕ, zero, suc, ◌+◌, ◌≤◌, List, [], ◌∷◌, ◌++◌, Bool, true, false, ◌||◌, cond, map, Result, Ok, Err, length, refl, sym, ap, ◌∙◌, arith, append-nil, subst, list_any, list_all, flat_map, is_whitespace, IfOk, ends_badly, trimmed, unreturned, normal, is_return, literal_reads, is_hidden, line_parts, framed_line, spelled, meant, IsIndentation, shortest, indentation_of, from_byte, joined_from, is_short, normalized, inline_normal, lines-unbroken, onto, lines, is_line_end, map-append}
 use Rattle.snap_literal.proofs.Trimming.{trimmed-well, well-trimmed}
 use Rattle.snap_literal.proofs.Returns.{ends-unreturned, normal-once}
 use Rattle.snap_literal.proofs.Free.{any-weaker, any-blank, free-shown}
 use Rattle.snap_literal.proofs.Meanings.{return_hidden, reads}
 use Rattle.snap_literal.proofs.WellEnded.{IsWell, EndsWell, AreClean, behind, whole, well-cons, well-pieces, clean-pieces, some-pieces, whole-pieces, well-whole, lines-whole, lines-more}
-use Rattle.snap_literal.proofs.Leads.{indent, framed-behind, ends-indented, clean-indented, trimmed-space, space-indentation, from_byte-past, from_byte-indented, joined-whole, from_byte-zeros, whole-append, map-append, length-trimmed, length-unreturned, whole-less, shortest-indented}
+use Rattle.snap_literal.proofs.Leads.{indent, framed-behind, ends-indented, clean-indented, trimmed-space, space-indentation, from_byte-past, from_byte-indented, joined-whole, from_byte-zeros, whole-append, length-trimmed, length-unreturned, whole-less, shortest-indented}
 use Rattle.snap_literal.specs.OfLiteral.{without_empty, of_literal, ComesBack}
 use Rattle.std.proofs.lemmas.Bool.{or_right}
 
@@ -113,7 +113,7 @@ back indentation text l m rest i n r c w e h =
     let made : normalized y ≡ whole ls ++ flat_map behind cut =
     ap (λ s. cond (is_short s) (trimmed y) (joined_from (length (indentation_of y)) (lines y))) lines_trim ∙ ap (λ k. joined_from k (lines y)) width
     ∙ ap (joined_from (length indentation)) (lines_framed indentation x xs n clean well) ∙ joined-whole (length indentation) ((x ∷ xs) ++ lines indentation)
-    ∙ ap whole (map-append (length indentation) (x ∷ xs) (lines indentation) ∙ ap (λ s. s ++ cut) (from_byte-indented indentation ls i))
+    ∙ ap whole (map-append (from_byte (length indentation)) (x ∷ xs) (lines indentation) ∙ ap (λ s. s ++ cut) (from_byte-indented indentation ls i))
     ∙ whole-append l (m ∷ rest) cut in
     ap normal made ∙ ap unreturned (trimmed-space (whole ls) (flat_map behind cut) (space_cut indentation i n)) ∙ ap normal e ∙ normal_text text h
 

@@ -1,5 +1,5 @@
 use Rattle.snap_literal.proofs.Prelude.{◌≡◌, true, ap, rules, chars, lead, is_indent}
-use Rattle.snap_literal.proofs.LineLeads.{lead_done, lead_stop, lead_step, blank_32, blank_9}
+use Rattle.snap_literal.proofs.LineLeads.{lead_done, lead_stop, lead_step}
 use Rattle.snap_literal.proofs.lines.lead.Goals as goal
 use Rattle.snap_literal.proofs.lines.lead.Goals.{else-c-ne32-via-then-c-ne32+else-c-ne9, else-c-ne32-via-else-c-ne32}
 
@@ -14,8 +14,8 @@ pub loop-c-preserved : goal.loop-c-preserved
 loop-c-preserved c =
     let blank : is_indent c.in-Some.c ≡ true =
     elim c.else-c-ne32.branch [
-      | else-c-ne32-via-then-c-ne32+else-c-ne9 w ↦ blank_9 c.in-Some.c w.if-c-ne9.false
-      | else-c-ne32-via-else-c-ne32 w ↦ blank_32 c.in-Some.c w.if-c-ne32.false
+      | else-c-ne32-via-then-c-ne32+else-c-ne9 w ↦ ap is_indent w.if-c-ne9.false
+      | else-c-ne32-via-else-c-ne32 w ↦ ap is_indent w.if-c-ne32.false
     ] in
     record { utf8 = search rules; so_far = lead_step (chars c.args.line.now) (chars c.loop-c.rest.now) (chars c.in-Some.more.now) c.in-Some.c c.loop-c.invariant.so_far c.in-Some.ensures blank }
 

@@ -1,6 +1,6 @@
 use Rattle.snap_literal.proofs.Prelude.{◌≡◌, ◌∷◌, ◌++◌, [], rules, chars, IsBody}
-use Rattle.snap_literal.proofs.Outcomes.{ok_then, body_done, body_too_long, body_with_return, body_nothing, body_on, body_off}
-use Rattle.snap_literal.proofs.Reading.{reading_step, reading_end, reading_none}
+use Rattle.snap_literal.proofs.Outcomes.{ok_then}
+use Rattle.snap_literal.proofs.Reading.{reading_step, reading_end, reading_none, body_on, body_off, body_done, body_too_long, body_nothing, body_with_return}
 use Rattle.snap_literal.proofs.read.read_body.Goals as goal
 
 pub returns-in-None : goal.returns-in-None
