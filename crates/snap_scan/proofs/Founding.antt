@@ -1,5 +1,5 @@
 -- Why a fetch refuses, and what one fetch as a whole keeps.
-use Rattle.snap_scan.proofs.Prelude.{◌≡◌, ◌≢◌, ◌≤◌, ◌+◌, ◌∷◌, [], ℕ, Bool, true, false, List, Option, Some, None, length, slice_index, subst, sym, ap, arith, refl, ◌∙◌, ◌&&◌, if◌then◌else◌, All, codes, nat_lt, nat_le, not, ◌||◌, list_any, ltb-false, All-nil, All-head, All-tail, Mark, Place, skipped, forced, mark_of, Plain, plain_from, Quoted, single_from, double_from, needed, is_among, explains, IsExplained, TScalarStyle, ScanInfo, ScanError, Syntax, OutOfMemory, TokenKind, SimpleKey, is_required, is_overdue, any_overdue, is_past, fresh, Begins, kind_of, State, at, in_flow, start_state, stale, is_key_owed, to_next, Outcome, done, refused, Leaves, Names, MayFail, closed, stream_started, plain_read, quoted_read, innermost, value_behind, kind_step, at_token, token_step, step, Holds, IsFounded, IsShown, IsNoStart, IsNoEnd, IsPossible, IsSound, IsSoundFrom, untouched, open_still, over, block_signs, both_second, both_first, cond_both}
+use Rattle.snap_scan.proofs.Prelude.{◌≡◌, ◌≢◌, ◌≤◌, ◌+◌, ◌∷◌, [], ℕ, Bool, true, false, List, Option, Some, None, length, slice_index, subst, ap, arith, refl, ◌∙◌, ◌&&◌, if◌then◌else◌, All, codes, nat_lt, nat_le, not, ◌||◌, list_any, ltb-false, All-nil, All-head, All-tail, Mark, Place, skipped, forced, mark_of, Plain, plain_from, Quoted, single_from, double_from, needed, is_among, explains, IsExplained, TScalarStyle, ScanInfo, ScanError, Syntax, OutOfMemory, TokenKind, SimpleKey, is_required, is_overdue, any_overdue, is_past, fresh, Begins, kind_of, State, at, in_flow, start_state, stale, is_key_owed, to_next, Outcome, done, refused, Leaves, Names, MayFail, closed, stream_started, plain_read, quoted_read, innermost, value_behind, kind_step, at_token, token_step, step, Holds, IsFounded, IsShown, IsNoStart, IsNoEnd, IsPossible, IsSound, IsSoundFrom, untouched, open_still, over, block_signs, both_second, both_first, cond_both}
 use Rattle.snap_token.specs.declared.token.TokenType.TheVariants as t
 use Rattle.snap_token.specs.declared.token.TEncoding.TheVariants.{Utf8}
 use Rattle.snap_token.specs.declared.token.TScalarStyle.TheVariants as style
@@ -15,19 +15,13 @@ use Rattle.snap_scan.proofs.Sounding.{IsFresh, among, begun, left-done, left-ope
 -- a fault that a test found, or that lies further on
 founded-if : (source : List ℕ) (b : Bool) (m n : Mark) (why info : ScanInfo) (o : Outcome) → (b ≡ true → IsFounded source (Syntax m why))
     → (Names o n info → IsFounded source (Syntax n info)) → Names (if b then refused m why else o) n info → IsFounded source (Syntax n info)
-founded-if source true m n why info o here further names =
-    let P : Mark → Type 0 = λ v. IsFounded source (Syntax v info) in
-    let Q : ScanInfo → Type 0 = λ v. IsFounded source (Syntax m v) in
-    subst P (sym names.0) (subst Q (sym names.1) (here refl))
+founded-if source true m n why info o here further names = rw (names.0, names.1) (here refl)
 founded-if source false m n why info o here further names = further names
 
 founded-else : (source : List ℕ) (b : Bool) (m n : Mark) (why info : ScanInfo) (o : Outcome) → (b ≡ false → IsFounded source (Syntax m why))
     → (Names o n info → IsFounded source (Syntax n info)) → Names (if b then o else refused m why) n info → IsFounded source (Syntax n info)
 founded-else source true m n why info o here further names = further names
-founded-else source false m n why info o here further names =
-    let P : Mark → Type 0 = λ v. IsFounded source (Syntax v info) in
-    let Q : ScanInfo → Type 0 = λ v. IsFounded source (Syntax m v) in
-    subst P (sym names.0) (subst Q (sym names.1) (here refl))
+founded-else source false m n why info o here further names = rw (names.0, names.1) (here refl)
 
 -- the signs stand in the source, and the place lies in it
 founded-at : {ahead : Bool} → (o : Bool) (source : List ℕ) (d : ℕ) (s : State) (info : ScanInfo) → IsSoundFrom o ahead source d s → Holds source (needed info)
@@ -146,10 +140,7 @@ founded-kind source k.Key s m info is first names =
     founded-if source (not (in_flow s) && not s.allowed) (mark_of s.place) m i.S35 info _
     (λ _. founded-at false source 1 s i.S35 is (begun (codes "?") source 1 s 63 is first refl (omega arith))) (founded-removing source s (done _) m info is (λ none. absurd none)) names
 founded-kind source k.Value s m info is first names = founded-value source s.keys.key s m info is first names
-founded-kind source (k.Refused why) s m info is first names =
-    let P : Mark → Type 0 = λ v. IsFounded source (Syntax v info) in
-    let Q : ScanInfo → Type 0 = λ v. IsFounded source (Syntax (mark_of s.place) v) in
-    subst P (sym names.0) (subst Q (sym names.1) (founded-sign source s why is first.0 first.1))
+founded-kind source (k.Refused why) s m info is first names = rw (names.0, names.1) (founded-sign source s why is first.0 first.1)
 founded-kind source k.Alias s m info is first names = founded-owing source s _ m info is (founded-behind source 1 s m info is) names
 founded-kind source k.Anchor s m info is first names = founded-owing source s _ m info is (founded-behind source 1 s m info is) names
 founded-kind source k.Tag s m info is first names = founded-owing source s _ m info is (founded-behind source 1 s m info is) names
@@ -198,10 +189,7 @@ sound-started source =
     }
 
 pub sound-step : {ahead : Bool} → (source : List ℕ) (s new : State) → IsSound ahead source s → Leaves (step s) new → IsSound ahead source new
-sound-step source s new (untouched starts same) l =
-    let P : State → Type 0 = λ v. Leaves (step v) new in
-    let Q : Bool → Type 0 = λ b. IsSound b source new in
-    subst Q (sym starts) (left-open source (stream_started (start_state source)) new (sound-started source) (subst P same l))
+sound-step source s new (untouched starts same) l = rw starts (left-open source (stream_started (start_state source)) new (sound-started source) (rw same at l))
 sound-step source s new (open_still is) l =
     let P : Outcome → Type 0 = λ o. Leaves o new in
     sound-token source (to_next s.place.left s) new (sound-to-next source 1 s.place.left s is)
@@ -209,7 +197,7 @@ sound-step source s new (open_still is) l =
 sound-step source s new (over is) l = let P : Outcome → Type 0 = λ o. Leaves o new in left-done source s new (over is) (subst P (step-over s is.ended) l)
 
 founded-step : {ahead : Bool} → (source : List ℕ) (s : State) (m : Mark) (info : ScanInfo) → IsSound ahead source s → Names (step s) m info → IsFounded source (Syntax m info)
-founded-step source s m info (untouched starts same) names = let P : State → Type 0 = λ v. Names (step v) m info in absurd (subst P same names)
+founded-step source s m info (untouched starts same) names = absurd (rw same at names)
 founded-step source s m info (open_still is) names =
     let P : Outcome → Type 0 = λ o. Names o m info in
     founded-token source (to_next s.place.left s) m info (sound-to-next source 1 s.place.left s is)
@@ -224,14 +212,13 @@ founded-fetch source (Syntax m info) s is fails = founded-step source s m info i
 -- stale keys are given up
 pub sound-fresh : {ahead : Bool} → (source : List ℕ) (s new : State) → IsSound ahead source s → new ≡ stale s → IsSound ahead source new
 sound-fresh source s new (untouched starts same) is_new = untouched starts (is_new ∙ ap (λ (v : State). stale v) same)
-sound-fresh source s new (open_still is) is_new = let P : State → Type 0 = IsSound _ source in subst P (sym is_new) (open_still (sound-stale false source 1 s is))
-sound-fresh source s new (over is) is_new = let P : State → Type 0 = IsSound _ source in subst P (sym is_new) (over (sound-stale true source 1 s is))
+sound-fresh source s new (open_still is) is_new = rw is_new (open_still (sound-stale false source 1 s is))
+sound-fresh source s new (over is) is_new = rw is_new (over (sound-stale true source 1 s is))
 
 -- the refusal of a key that is overdue
 pub founded-stale : {ahead : Bool} → (source : List ℕ) (e : ScanError) (s : State) → IsSound ahead source s → any_overdue (mark_of s.place) s.keys ≡ true
     → e ≡ Syntax (mark_of s.place) i.S1 → IsFounded source e
 founded-stale source e s (untouched starts same) overdue is_e =
-    let P : State → Type 0 = λ v. any_overdue (mark_of v.place) v.keys ≡ true in
-    let none = subst P same overdue in absurd (cc)
-founded-stale source e s (open_still is) overdue is_e = let P : ScanError → Type 0 = IsFounded source in subst P (sym is_e) (founded-overdue false source 1 s is overdue)
-founded-stale source e s (over is) overdue is_e = let P : ScanError → Type 0 = IsFounded source in subst P (sym is_e) (founded-overdue true source 1 s is overdue)
+    let none = rw same at overdue in absurd (cc)
+founded-stale source e s (open_still is) overdue is_e = rw is_e (founded-overdue false source 1 s is overdue)
+founded-stale source e s (over is) overdue is_e = rw is_e (founded-overdue true source 1 s is overdue)

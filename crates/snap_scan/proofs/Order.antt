@@ -1,5 +1,5 @@
 -- The order of StreamStart and StreamEnd among the tokens that are given.
-use Rattle.snap_scan.proofs.Prelude.{◌≡◌, ◌∷◌, [], ℕ, Bool, true, false, List, Option, Some, None, Ok, length, subst, sym, ap, arith, refl, ◌∙◌, ◌==◌, ◌&&◌, All, MatchOption, not, ◌||◌, All-head, Token, ScanError, State, has_ended, given, Outcome, Leaves, step, IsShown, IsNoEnd, IsFounded, IsSound, IsSoundFrom, untouched, open_still, over, EndsStream, begins_stream, is_start, is_end, is_start_ahead, GivesSound, IsWholeWhile, GivesNext}
+use Rattle.snap_scan.proofs.Prelude.{◌≡◌, ◌∷◌, [], ℕ, Bool, true, false, List, Option, Some, None, Ok, length, subst, sym, ap, arith, refl, ◌∙◌, ◌==◌, ◌&&◌, MatchOption, not, ◌||◌, All-head, Token, ScanError, State, has_ended, given, Outcome, Leaves, step, IsShown, IsNoEnd, IsFounded, IsSound, IsSoundFrom, untouched, open_still, over, EndsStream, begins_stream, is_start, is_end, is_start_ahead, GivesSound, IsWholeWhile, GivesNext}
 use Rattle.snap_scan.proofs.Ending.{holding, not-both}
 use Rattle.snap_scan.proofs.Growing.{step-holds}
 use Rattle.snap_scan.proofs.Soundness.{sound-given}
@@ -29,30 +29,25 @@ last-of token rest false ended is = absurd (cc)
 first-shown : {ahead : Bool} → (source : List ℕ) (o : Bool) (mid new : State) (token : Token) → IsSoundFrom o ahead source 1 mid → mid.held ≡ token ∷ new.held
     → IsShown source token × (is_start token.1 ≡ ahead)
 first-shown source o mid new token is taken =
-    let P : List Token → Type 0 = λ v. All (IsShown source) v in
-    (All-head (IsShown source) token new.held (subst P taken is.tokens), ap (λ (v : List Token). begins_stream v) (sym taken) ∙ is.first)
+    (All-head (IsShown source) token new.held (rw taken at is.tokens), ap (λ (v : List Token). begins_stream v) (sym taken) ∙ is.first)
 
 -- the first held token is given
 pub gives-sound : {ahead : Bool} → (source : List ℕ) (o : Option Token) (mid new : State) → IsSound ahead source mid
     → MatchOption o ((mid.held ≡ []) × (new ≡ mid)) (λ token. (mid.held ≡ token ∷ new.held) × (new ≡ given mid)) → GivesSound ahead source (Ok o) new
-gives-sound source None mid new is taken = let P : State → Type 0 = IsSound _ source in subst P (sym taken.1) is
+gives-sound source None mid new is taken = rw taken.1 is
 gives-sound source (Some token) mid new (untouched starts same) taken =
     let none = ap (λ (v : State). length v.held) same in
     let some = ap (λ (v : List Token). length v) taken.0 in
     absurd (omega (arith, none, some))
 gives-sound source (Some token) mid new (open_still is) taken =
-    let P : State → Type 0 = IsSound false source in
-    let Q : List Token → Type 0 = λ v. All IsNoEnd v in
     let shows = first-shown source false mid new token is taken.0 in
     let going : new.ended ≡ false = ap (λ (v : State). v.ended) taken.1 ∙ is.ended in
-    let last = All-head IsNoEnd token new.held (subst Q taken.0 is.ends) in
-    (shows.0, shows.1, last ∙ sym (going-on new.ended (length new.held) going), subst P (sym taken.1) (open_still (sound-given false source 1 mid is)))
+    let last = All-head IsNoEnd token new.held (rw taken.0 at is.ends) in
+    (shows.0, shows.1, last ∙ sym (going-on new.ended (length new.held) going), rw taken.1 (open_still (sound-given false source 1 mid is)))
 gives-sound source (Some token) mid new (over is) taken =
-    let P : State → Type 0 = IsSound false source in
-    let Q : List Token → Type 0 = λ v. EndsStream v in
     let shows = first-shown source true mid new token is taken.0 in
     let ended : new.ended ≡ true = ap (λ (v : State). v.ended) taken.1 ∙ is.ended in
-    (shows.0, shows.1, last-of token new.held new.ended ended (subst Q taken.0 is.ends), subst P (sym taken.1) (over (sound-given true source 1 mid is)))
+    (shows.0, shows.1, last-of token new.held new.ended ended (rw taken.0 at is.ends), rw taken.1 (over (sound-given true source 1 mid is)))
 
 -- a fetch leaves it as it is whether StreamEnd was given
 pub step-ended : (s new : State) → Leaves (step s) new → has_ended new ≡ has_ended s

@@ -112,8 +112,7 @@ timely-open : (s t : State) → s.started ≡ true → s.ended ≡ false → fet
 timely-open s t started ended found =
     let u : State = to_next s.place.left s in
     let there : any_overdue (mark_of u.place) u.keys ≡ false = not-refused (any_overdue (mark_of u.place) u.keys) (mark_of u.place) (fetch_at (stale u)) t (sym (fetched-open s started ended) ∙ found) in
-    let P : Keys → Type 0 = λ ks. any_overdue (mark_of u.place) ks ≡ false in
-    any-overdue-onward s.place u.place s.keys (to_next-onward s.place.left s) (subst P (to_next-keys s.place.left s) there)
+    any-overdue-onward s.place u.place s.keys (to_next-onward s.place.left s) (rw (to_next-keys s.place.left s) at there)
 
 first-step : (s e : State) → Steps s e → e.ended ≡ true → s.ended ≡ false → (t : State) × (fetched s ≡ Some t) × Steps t e
 first-step _ _ (none_more s) last ended = absurd (cc)
@@ -128,12 +127,11 @@ owes-next s t ts ended is o =
     let f = first-step s o.end o.steps o.ended ended in
     let some : Some t ≡ Some f.0 = sym is ∙ f.1 in
     let same : f.0 ≡ t = cc in
-    let P : State → Type 0 = λ v. Steps v o.end in
-    record { end = o.end; steps = subst P same f.2; ended = o.ended; timely = o.timely; given = o.given }
+    record { end = o.end; steps = rw same at f.2; ended = o.ended; timely = o.timely; given = o.given }
 
 -- no key is overdue where something is owed
 pub owes-timely : {ahead : Bool} → (source : List ℕ) (s : State) (ts : List TokenType) → IsSound ahead source s → Owes s ts → any_overdue (mark_of s.place) s.keys ≡ false
-owes-timely source s ts (untouched first start) o = let P : State → Type 0 = λ v. any_overdue (mark_of v.place) v.keys ≡ false in subst P (sym start) refl
+owes-timely source s ts (untouched first start) o = rw start refl
 owes-timely source s ts (open_still is) o =
     let f = first-step s o.end o.steps o.ended is.ended in
     timely-open s f.0 is.started is.ended f.1
@@ -150,8 +148,7 @@ owes-stale source s ts (open_still is) o =
     record { end = o.end; steps = one_more (stale s) f.0 o.end is.ended (fetched-stale s is.started is.ended timely ∙ f.1) f.2; ended = o.ended; timely = o.timely; given = o.given }
 owes-stale source s ts (over is) o =
     let same = none-left s o.end o.steps is.ended in
-    let P : State → Type 0 = λ v. any_overdue (mark_of v.place) v.keys ≡ false in
-    let timely : any_overdue (mark_of s.place) s.keys ≡ false = subst P same o.timely in
+    let timely = rw same at o.timely in
     let types_of : State → List TokenType = λ v. map type_of v.held in
     record {
       end = stale s;
@@ -181,8 +178,7 @@ pub owed-fetch : (s new : State) (ts : List TokenType) → s.ended ≡ false →
 owed-fetch s new ts ended o leaves =
     let f = first-step s o.end o.steps o.ended ended in
     let is = some-left (step s) f.0 f.1 new leaves in
-    let P : State → Type 0 = λ v. Owes v ts in
-    subst P (sym is) (owes-next s f.0 ts ended f.1 o)
+    rw is (owes-next s f.0 ts ended f.1 o)
 
 -- a fetch fails where something is owed by want of memory alone
 pub owed-fails : (s : State) (ts : List TokenType) (e : ScanError) → s.ended ≡ false → Owes s ts → MayFail e (step s) → e ≡ OutOfMemory
@@ -276,10 +272,8 @@ gives-first (Some x) s t ts (inl ended) ready (is, same) o =
     let e : ts ≡ type_of x ∷ map type_of t.held = owes-ended s ts o ended ∙ ap (map type_of) is in
     let ended_of : State → Bool = λ v. v.ended in
     let late : State → Bool = λ v. any_overdue (mark_of v.place) v.keys in
-    let Q : State → Type 0 = λ v. any_overdue (mark_of v.place) v.keys ≡ false in
-    let timely : any_overdue (mark_of s.place) s.keys ≡ false = subst Q (none-left s o.end o.steps ended) o.timely in
-    let P : List TokenType → Type 0 = λ v. IsFirst x t v in
-    subst P (sym e) (
+    let timely = rw (none-left s o.end o.steps ended) at o.timely in
+    rw e (
       refl,
       record {
         end = t;
@@ -290,11 +284,10 @@ gives-first (Some x) s t ts (inl ended) ready (is, same) o =
       },
     )
 gives-first (Some x) s t ts (inr sure) ready (is, same) o =
-    let Q : State → Type 0 = λ v. Owes v ts in
-    let f = owes-front x (given s) ts (subst Q (sym (front-given x t.held s is sure)) o) in
+    let owes : Owes (in_front x (given s)) ts = rw (front-given x t.held s is sure) o in
+    let f = owes-front x (given s) ts owes in
     let R : State → Type 0 = λ v. Owes v f.rest in
-    let P : List TokenType → Type 0 = λ v. IsFirst x t v in
-    subst P (sym f.is) (refl, subst R (sym same) f.owes)
+    rw f.is (refl, subst R (sym same) f.owes)
 
 -- what a call that may fail gives, as a call that may not
 pub next-owed : (r : Option Token) (new : Scan) (ts : List TokenType) → GivesFirst (Ok r) new.state ts

@@ -42,7 +42,7 @@ pub some-of : (c n : ℕ) → c ≡ n → n ≢ 0 → c ≢ 0
 some-of c n is some none = some (sym is ∙ none)
 
 pub left-done : {ahead : Bool} → (source : List ℕ) (u new : State) → IsSound ahead source u → Leaves (done u) new → IsSound ahead source new
-left-done source u new is l = let P : State → Type 0 = IsSound _ source in subst P (sym l) is
+left-done source u new is l = rw l is
 
 pub left-open : {ahead : Bool} → (source : List ℕ) (u new : State) → IsSoundFrom false ahead source 1 u → Leaves (done u) new → IsSound ahead source new
 left-open source u new is l = left-done source u new (open_still is) l
@@ -117,9 +117,7 @@ sound-block source start kind b s is some fit block signs key no_start no_end =
     let u = rolled s.place.col None token s in
     let deep = sound-rolled source 1 s.place.col None token s is tt (shown-at source n s.place start is.place fit.signs (fit.no_key (mark_of s.place))) fit.no_start fit.no_end block in
     let same = sym (place-rolled s.place.col None token s) in
-    let P : Place → Type 0 = λ p. slice_index p.left 0 ≢ 0 in
-    let Q : Place → Type 0 = λ p. KindStands source (mark_of p) kind in
-    sound-sign source 1 kind b (keyless u) (sound-keyless source 1 u deep) (subst P same some) signs (subst Q same key) no_start no_end
+    sound-sign source 1 kind b (keyless u) (sound-keyless source 1 u deep) (rw same at some) signs (rw same at key) no_start no_end
 
 -- a key that is still possible where a `:` stands is one of a `:` on its line
 colon-stands : (source : List ℕ) (n : ℕ) (p : Place) (cs : List ℕ) (key : SimpleKey) → p.left ≡ cs → slice_index cs 0 ≡ 58 → is_past (mark_of p) key ≡ false → IsIn source n p
@@ -129,12 +127,11 @@ colon-stands source n p (c ∷ cs) key left first fresh is behind =
     let line : p.line ≤ key.mark.line = ltb-false key.mark.line p.line (or_left _ _ fresh) in
     let near : p.index - key.mark.index ≤ 1024 = ltb-false 1024 (p.index - key.mark.index) (or_right _ _ fresh) in
     let long = ap length behind.text in
-    let P : ℕ → Type 0 = λ x. source ≡ behind.before ++ behind.between ++ x ∷ cs in
     record {
       before = behind.before;
       key = behind.between;
       after = cs;
-      text = subst P first (behind.text ∙ ap (λ (v : List ℕ). behind.before ++ behind.between ++ v) left);
+      text = rw first at (behind.text ∙ ap (λ (v : List ℕ). behind.before ++ behind.between ++ v) left);
       index = behind.index;
       some = behind.some;
       short = omega (arith, near, long, in-source source n p is, length-append (behind.before ++ behind.between) p.left, length-append behind.before behind.between, behind.index);
@@ -161,8 +158,7 @@ sound-value source (Some key) s new is possible fresh first l =
     let begin = at (mark_of s.place) t.BlockMappingStart in
     let deep = sound-rolled source 1 key.mark.col (Some key.place) begin u keyed possible.place (shown-at source n s.place t.BlockMappingStart is.place start tt) refl refl block in
     let v = rolled key.mark.col (Some key.place) begin u in
-    let P : Place → Type 0 = λ p. slice_index p.left 0 ≢ 0 in
-    let some = subst P (sym (place-rolled key.mark.col (Some key.place) begin u)) (some-of _ 58 first (omega arith)) in
+    let some : slice_index v.place.left 0 ≢ 0 = rw (place-rolled key.mark.col (Some key.place) begin u) (some-of _ 58 first (omega arith)) in
     left-open source _ new (sound-sign source 1 t.Value false (keyless v) (sound-keyless source 1 v deep) some (omega arith) tt refl refl) l
   where
     behind-index : (source : List ℕ) (n : ℕ) (p : Place) (key : SimpleKey) → IsIn source n p → IsKeyBehind source 1 p key → key.mark.index ≤ p.index
@@ -174,8 +170,7 @@ sound-value source None s new is possible fresh first l =
     let start = begun (codes "?:") source 1 s 58 is first refl (omega arith) in
     let token = at (mark_of s.place) t.BlockMappingStart in
     let deep = sound-rolled source 1 s.place.col None token s is tt (shown-at source (length s.keys.outer) s.place t.BlockMappingStart is.place start tt) refl refl block in
-    let P : Place → Type 0 = λ p. slice_index p.left 0 ≢ 0 in
-    let some = subst P (sym (place-rolled s.place.col None token s)) (some-of _ 58 first (omega arith)) in
+    let some : slice_index (rolled s.place.col None token s).place.left 0 ≢ 0 = rw (place-rolled s.place.col None token s) (some-of _ 58 first (omega arith)) in
     left-open source _ new (sound-sign source 1 t.Value (not (in_flow s)) (rolled s.place.col None token s) deep some (omega arith) tt refl refl)
     (unrefused (not (in_flow s) && not s.allowed) _ _ _ new l)
 
@@ -184,9 +179,7 @@ sound-told : {ahead : Bool} → (source : List ℕ) (kind : TokenType) (u new : 
     → new ≡ pushed (at (mark_of u.place) kind) (record u { place = p }) → IsSound ahead source new
 sound-told source kind u new p is fit later further leaves =
     let same : new.place ≡ p = ap (λ (v : State). v.place) leaves in
-    let P : Place → Type 0 = λ q. Later u.place q in
-    let Q : Place → Type 0 = λ q. length q.left + 1 ≤ length u.place.left in
-    left-open source _ new (sound-pushed source 1 (at (mark_of u.place) kind) (record u { place = p }) (sound-further source 0 p u (subst P same later) (subst Q same further) is)
+    left-open source _ new (sound-pushed source 1 (at (mark_of u.place) kind) (record u { place = p }) (sound-further source 0 p u (rw same at later) (rw same at further) is)
     (shown-at source (length u.keys.outer) u.place kind is.place fit.signs (fit.no_key (mark_of u.place))) fit.no_start fit.no_end) leaves
 
 scalar-fits : (source : List ℕ) (written : TScalarStyle) (text : List ℕ) → IsFit source (t.Scalar written text)
@@ -278,8 +271,7 @@ sound-kind source k.Key s new is fresh first l =
     question : (source : List ℕ) (n : ℕ) (p : Place) (cs : List ℕ) → p.left ≡ cs → slice_index cs 0 ≡ 63 → IsIn source n p → HasQuestion source (mark_of p)
     question source n p [] left first is = absurd (cc)
     question source n p (c ∷ cs) left first is =
-        let P : ℕ → Type 0 = λ x. source ≡ is.before ++ x ∷ cs in
-        record { before = is.before; after = cs; text = subst P first (is.text ∙ ap (λ (v : List ℕ). is.before ++ v) left); index = is.index }
+        record { before = is.before; after = cs; text = rw first at (is.text ∙ ap (λ (v : List ℕ). is.before ++ v) left); index = is.index }
 sound-kind source k.Value s new is fresh first l = sound-value source s.keys.key s new is is.keys.key fresh first l
 sound-kind source (k.Refused info) s new is fresh first l = absurd l
 sound-kind source k.Alias s new is fresh first l = sound-read-key source k.Alias false s new is first l

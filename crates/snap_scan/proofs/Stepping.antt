@@ -1,5 +1,5 @@
 -- One fetch, put together from its parts.
-use Rattle.snap_scan.proofs.Prelude.{◌≡◌, ℕ, Bool, true, false, Some, Result, subst, sym, ap, refl, ◌∙◌, mark_of, ScanError, S1, TokenKind, any_overdue, kind_of, State, in_flow, unrolled, stale, to_next, Outcome, done, refused, Does, kind_step, at_token, token_step, step, cond-true, cond-false}
+use Rattle.snap_scan.proofs.Prelude.{◌≡◌, ℕ, Bool, true, false, Some, Result, ap, refl, ◌∙◌, mark_of, ScanError, TokenKind, any_overdue, kind_of, State, in_flow, unrolled, stale, to_next, done, Does, kind_step, at_token, token_step, step, cond-true, cond-false}
 use Rattle.snap_scan.proofs.Soundness.{either}
 
 -- the token that stands here is fetched once stale keys are given up and blocks closed
@@ -13,10 +13,7 @@ does-token s t u col flow kind r new fresh stale_is column unrolled_is flow_is k
     let adjacent_is : u.adjacent ≡ s.adjacent = ap (λ (v : State). v.adjacent) at_is ∙ kept in
     let named : kind ≡ kind_of (in_flow u) s.adjacent u.place =
     kind_is ∙ ap (λ (b : Bool). kind_of b u.adjacent u.place) flow_is ∙ ap (λ (n : ℕ). kind_of (in_flow u) n u.place) adjacent_is in
-    let K : TokenKind → Type 0 = λ k. Does (kind_step k u) r new in
-    let Q : State → Type 0 = λ v. Does (kind_step (kind_of (in_flow v) s.adjacent v.place) v) r new in
-    let P : Outcome → Type 0 = λ o. Does o r new in
-    subst P (sym (cond-false (any_overdue (mark_of s.place) s.keys) (refused (mark_of s.place) S1) _ fresh)) (subst Q at_is (subst K named does))
+    rw fresh (rw at_is at (rw named at does))
 
 -- which of the three a fetch is
 pub step-token : (s : State) → s.ended ≡ false → s.started ≡ true → step s ≡ token_step (to_next s.place.left s)
@@ -29,6 +26,4 @@ step-over s ended = cond-true s.ended _ _ ended
 pub does-step : {T : Type 0} (s t : State) (r : Result T ScanError) (new : State) → s.ended ≡ false → s.started ≡ true → t ≡ to_next s.place.left s
     → Does (token_step t) r new → Does (step s) r new
 does-step s t r new going begun at does =
-    let Q : State → Type 0 = λ v. Does (token_step v) r new in
-    let P : Outcome → Type 0 = λ o. Does o r new in
-    subst P (sym (step-token s going begun)) (subst Q at does)
+    rw (step-token s going begun) (rw at at does)
