@@ -36,9 +36,6 @@ module _ (ss : Parts) (allows : Allowed) where
   abbrev pub FieldsSoFar : List Step → List (List ℕ × Content) → ℕ → List (List ℕ × Content) → Type 0
   FieldsSoFar path = SoFar field_trees joined_fields (λ _. FieldsRedacted ss allows path)
 
-  pub items_begin : (path : List Step) (all now : List Content) → now ≡ all → ItemsSoFar path all 0 now
-  items_begin path all now same rest = subst (λ z. ItemsRedacted ss allows path (count_of (item_trees all)) 0 (item_trees z) rest) same
-
   pub items_turn : (was path : List PathItem) (all now : List Content) (i total : ℕ) (step : PathItem) (x y : Content)
       → ItemsSoFar (map step_of was) all i now → path ≡ was → step_of step ≡ to_item i total → total ≡ length all → i < length now → x ≡ get_or now i x
       → RedactedAt ss allows (map step_of path ++ step_of step ∷ []) (tree x) (tree y) → ItemsSoFar (map step_of was) all (i + 1) (set now i y)
@@ -52,9 +49,6 @@ module _ (ss : Parts) (allows : Allowed) where
   items_end path all now out i so_far done same =
       let R : ℕ → t.Trees → t.Trees → Type 0 = ItemsRedacted ss allows path (count_of (item_trees all)) in
       subst (R 0 (item_trees all)) (joined-end now ∙ ap item_trees (sym same)) (end item_trees joined R all now i t.no_trees so_far done refl)
-
-  pub pairs_begin : (path : List Step) (all now : List (Content × Content)) → now ≡ all → PairsSoFar path all 0 now
-  pairs_begin path all now same rest = subst (λ z. PairsRedacted ss allows path (pair_trees z) rest) same
 
   pub pairs_turn : (was path : List PathItem) (all now : List (Content × Content)) (i : ℕ) (x y : Content × Content) (key_step : PathItem)
       → PairsSoFar (map step_of was) all i now → path ≡ was → step_of key_step ≡ into_field (codes "$key") → i < length now → x ≡ get_or now i x
@@ -71,9 +65,6 @@ module _ (ss : Parts) (allows : Allowed) where
   pairs_end path all now out i so_far done same =
       subst (PairsRedacted ss allows path (pair_trees all)) (joined_pairs-end now ∙ ap pair_trees (sym same))
       (end pair_trees joined_pairs (λ _. PairsRedacted ss allows path) all now i t.no_pairs so_far done refl)
-
-  pub fields_begin : (path : List Step) (all now : List (List ℕ × Content)) → now ≡ all → FieldsSoFar path all 0 now
-  fields_begin path all now same rest = subst (λ z. FieldsRedacted ss allows path (field_trees z) rest) same
 
   pub fields_turn : (was path : List PathItem) (all now : List (List ℕ × Content)) (i : ℕ) (x y : List ℕ × Content)
       → FieldsSoFar (map step_of was) all i now → path ≡ was → i < length now → x ≡ get_or now i x → y.0 ≡ x.0

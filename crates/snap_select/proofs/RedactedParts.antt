@@ -1,5 +1,5 @@
 -- A tree that is redacted part by part is one that a redaction makes.
-use Rattle.snap_select.proofs.Prelude.{◌≡◌, ℕ, zero, suc, Bool, true, false, MatchBool, List, [], ◌∷◌, ◌++◌, Option, Some, slice_get, option_and_then, refl, sym, ap, ◌∙◌, subst, append-nil, both_ways, same_Some, option_and_then_some, codes, Step, path_match, to_item, into_field, under_key, Parts, Child, wrapped, children, item_children, pair_children, field_children, part_at, path_at, count_of, Allowed, Inside, ItemsRedacted, PairsRedacted, FieldsRedacted, RedactedAt, IsRedacted, IsHit, IsUntouched, node, units, pair_units, field_units, IsKept, RedactsAt, Redacts}
+use Rattle.snap_select.proofs.Prelude.{◌≡◌, ℕ, zero, suc, Bool, true, false, MatchBool, List, [], ◌∷◌, ◌++◌, Some, slice_get, refl, sym, ap, ◌∙◌, subst, append-nil, both_ways, same_Some, option_and_then_some, codes, Step, path_match, to_item, into_field, under_key, Parts, Child, wrapped, children, item_children, pair_children, field_children, part_at, path_at, count_of, Allowed, Inside, ItemsRedacted, PairsRedacted, FieldsRedacted, RedactedAt, IsRedacted, IsHit, IsUntouched, node, units, pair_units, field_units, IsKept, RedactsAt, Redacts}
 use Rattle.snap_content.specs.Tree as t
 
 -- a front of a position, and the position below a child
@@ -23,11 +23,11 @@ hit_below ss path c k ks child h at is = record {
 same_child : (path : List Step) (c : t.Tree) (k j : ℕ) (front : List ℕ) (child : Child) (shorter : List Step) → slice_get (children c) k ≡ Some child → k ≡ j
     → path_at path c (j ∷ front) ≡ Some shorter → path_at (path ++ child.steps) child.part front ≡ Some shorter
 same_child path c k j front child shorter at e h =
-    let P : ℕ → Type 0 = λ x. slice_get (children c) x ≡ Some child in rw (subst P e at) at h
+    rw (rw e at at) at h
 
 above_first : (ss : Parts) (path : List Step) (c : t.Tree) (k : ℕ) (ks : List ℕ) (child : Child) → path_match ss path ≡ false → slice_get (children c) k ≡ Some child
     → (h : IsHit ss (path ++ child.steps) child.part ks) → (front : List ℕ) (j : ℕ) (rest : List ℕ) (shorter : List Step) → k ∷ ks ≡ front ++ j ∷ rest → path_at path c front ≡ Some shorter → path_match ss shorter ≡ false
-above_first ss path c k ks child n at h [] j rest shorter e f = let same : path ≡ shorter = same_Some path shorter f in let P : List Step → Type 0 = λ x. path_match ss x ≡ false in subst P same n
+above_first ss path c k ks child n at h [] j rest shorter e f = rw (same_Some path shorter f) at n
 above_first ss path c k ks child n at h (x ∷ xs) j rest shorter e f =
     let head : k ≡ x = cc in
     let tail : ks ≡ xs ++ j ∷ rest = cc in
@@ -59,8 +59,7 @@ module _ (ss : Parts) (allows : Allowed) where
   replaced_below path c out k ks part all here h =
       option_and_then_some {P = Replaced out (k ∷ ks) part h.steps} (λ child. path_at (path ++ child.steps) child.part ks) (slice_get (children c) k) h.steps h.is
       (λ child at is. let f = all k child at in
-      let P : Option Child → Type 0 = λ o. option_and_then (λ x. part_at x.part ks) o ≡ Some part in
-      let below = f.good.replaced ks part (subst P at here) (hit_below ss path c k ks child h at is) in
+      let below = f.good.replaced ks part (rw at at here) (hit_below ss path c k ks child h at is) in
       (below.0, part_below out k ks f.next below.0 f.at below.1, below.2))
 
   kept_below : (path : List Step) (c out : t.Tree) (k : ℕ) (ks : List ℕ) (part : t.Tree) → path_match ss path ≡ false → AllFollow path (children c) (children out)
@@ -77,8 +76,7 @@ module _ (ss : Parts) (allows : Allowed) where
       → (position : List ℕ) (part : t.Tree) → part_at c position ≡ Some part → (h : IsHit ss path c position) → Replaced out position part h.steps
   replaced_at path c out n all [] part here h =
       let same : path ≡ h.steps = same_Some path h.steps h.is in
-      let P : List Step → Type 0 = λ x. path_match ss x ≡ false in
-      absurd (both_ways (path_match ss h.steps) (subst P same n) h.matched)
+      absurd (both_ways (path_match ss h.steps) (rw same at n) h.matched)
   replaced_at path c out n all (k ∷ ks) part here h = replaced_below path c out k ks part all here h
 
   kept_at : (path : List Step) (c out : t.Tree) → path_match ss path ≡ false → AllFollow path (children c) (children out) → node out ≡ node c
@@ -117,15 +115,13 @@ module _ (ss : Parts) (allows : Allowed) where
   one_follows : (path : List Step) (old next : Child) (olds nexts : List Child) → RedactsAt ss allows (path ++ old.steps) old.part next.part
       → AllFollow path olds nexts → AllFollow path (old ∷ olds) (next ∷ nexts)
   one_follows path old next olds nexts good later zero child h =
-      let P : Child → Type 0 = λ x. RedactsAt ss allows (path ++ x.steps) x.part next.part in
-      record { next = next; at = refl; good = subst P (same_Some old child h) good }
+      record { next = next; at = refl; good = rw (same_Some old child h) at good }
   one_follows path old next olds nexts good later (suc k) child h =
       let f = later k child h in record { next = f.next; at = f.at; good = f.good }
 
   wrapper : (path : List Step) (inner new : t.Tree) → RedactsAt ss allows path inner new → AllFollow path (wrapped inner) (wrapped new)
   wrapper path inner new good =
-      let P : List Step → Type 0 = λ x. RedactsAt ss allows x inner new in
-      one_follows path (record { steps = []; part = inner }) (record { steps = []; part = new }) [] [] (subst P (sym (append-nil path)) good) (no_follow path [])
+      one_follows path (record { steps = []; part = inner }) (record { steps = []; part = new }) [] [] (rw append-nil good) (no_follow path [])
 
   units_same : (path : List Step) (total index : ℕ) (items out : t.Trees) → ItemsRedacted ss allows path total index items out → units out ≡ units items
   units_same path total index t.no_trees out p = ap units p

@@ -28,10 +28,7 @@ module _ {Y : Type 0} (cmp : Y → Y → Ordering) (total : IsTotalOrder cmp) wh
   after_first x xs up k d small = sorted_far (is_before cmp) weak (x ∷ xs) up 0 (suc k) d (omega arith) (omega arith)
 
   sorted_tail : (x : Y) (xs : List Y) → IsSortedBy (is_before cmp) (x ∷ xs) → IsSortedBy (is_before cmp) xs
-  sorted_tail x xs up k d low high =
-      ap (λ n. is_before cmp (get_or (x ∷ xs) n d) (get_or xs k d)) (sym (add-one (k + 1)))
-      ∙ ap (λ n. is_before cmp (get_or (x ∷ xs) ((k + 1) + 1) d) (get_or (x ∷ xs) n d)) (sym (add-one k))
-      ∙ up (k + 1) d (omega arith) (omega arith)
+  sorted_tail x xs up k d low high = simp add-one (simp add-one at (up (k + 1) d (omega arith) (omega arith)))
 
   -- where x is first among those that pass, and nothing is before y, x is not before y
   first_passes : (p : Y → Bool) (y x : Y) (zs more : List Y) → All (NotBefore y) zs → filter p zs ≡ x ∷ more → NotBefore y x
@@ -86,9 +83,7 @@ module _ {Y : Type 0} (cmp : Y → Y → Ordering) (total : IsTotalOrder cmp) wh
   behind : (y : Y) (zs : List Y) → NoneFirst y zs → IsSortedBy (is_before cmp) zs → IsSortedBy (is_before cmp) (y ∷ zs)
   behind y [] n up k d low high = absurd (omega arith)
   behind y (z ∷ zs) n up zero d low high = n
-  behind y (z ∷ zs) n up (suc j) d low high =
-      ap (λ m. is_before cmp (get_or (y ∷ z ∷ zs) m d) (get_or (z ∷ zs) j d)) (add-one (suc j))
-      ∙ ap (λ m. is_before cmp (get_or (z ∷ zs) m d) (get_or (z ∷ zs) j d)) (sym (add-one j)) ∙ up j d (omega arith) (omega arith)
+  behind y (z ∷ zs) n up (suc j) d low high = simp add-one (simp add-one at (up j d (omega arith) (omega arith)))
 
   none_first_put : (x y : Y) (zs : List Y) → NotBefore y x → NoneFirst y zs → NoneFirst y (put_in cmp x zs)
   none_first_put x y [] n m = n
