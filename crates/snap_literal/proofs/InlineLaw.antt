@@ -1,5 +1,5 @@
 -- What is written for an inline text that is its own normal form stands for that text.
-use Rattle.snap_literal.proofs.Prelude.{◌≡◌, ◌==◌, ℕ, zero, suc, ◌+◌, ◌≤◌, List, [], ◌∷◌, ◌++◌, Bool, true, false, ◌||◌, cond, map, Result, Ok, Err, length, refl, sym, ap, ◌∙◌, arith, append-nil, subst, list_any, list_all, flat_map, is_whitespace, IfOk, ends_badly, trimmed, unreturned, normal, is_return, literal_reads, is_hidden, line_parts, framed_line, spelled, meant, IsIndentation, shortest, indentation_of, from_byte, joined_from, is_short, normalized, inline_normal, lines-unbroken, onto, lines, is_line_end, map-append}
+use Rattle.snap_literal.proofs.Prelude.{◌≡◌, ◌==◌, ℕ, zero, suc, ◌+◌, ◌≤◌, List, [], ◌∷◌, ◌++◌, Bool, true, false, ◌||◌, cond, map, Result, Ok, Err, length, refl, sym, ap, ◌∙◌, arith, append-nil, list_any, list_all, flat_map, is_whitespace, IfOk, ends_badly, trimmed, unreturned, normal, is_return, is_hidden, line_parts, framed_line, spelled, meant, IsIndentation, shortest, indentation_of, from_byte, joined_from, is_short, normalized, inline_normal, lines-unbroken, onto, lines, is_line_end, map-append}
 use Rattle.snap_literal.proofs.Trimming.{trimmed-well, well-trimmed}
 use Rattle.snap_literal.proofs.Returns.{ends-unreturned, normal-once}
 use Rattle.snap_literal.proofs.Free.{any-weaker, any-blank, free-shown}
@@ -132,10 +132,8 @@ broken indentation text t i h hidden ends free =
     let ls : List (List ℕ) = t.first ∷ t.second ∷ t.rest in
     let n : list_any is_line_end indentation ≡ false = any-blank is_line_end refl refl indentation i in
     let r : list_any is_return indentation ≡ false = any-blank is_return refl refl indentation i in
-    let C : List (List ℕ) → Type 0 = λ s. AreClean s in
-    let W : List (List ℕ) → Type 0 = λ s. EndsWell s in
-    let clean : AreClean ls = subst C t.is (clean-pieces text (any-weaker is_hidden is_return return_hidden text hidden)) in
-    let well : EndsWell ls = subst W t.is (well_broken text ends (well_text text h)) in
+    let clean : AreClean ls = rw t.is at (clean-pieces text (any-weaker is_hidden is_return return_hidden text hidden)) in
+    let well : EndsWell ls = rw t.is at (well_broken text ends (well_text text h)) in
     let whole_is : whole ls ≡ text = ap whole (sym t.is) ∙ whole-pieces text in
     let x : List ℕ = indent indentation t.first in
     let y : List ℕ = indent indentation t.second in
@@ -166,8 +164,7 @@ inline-law indentation text i h = by (list_any is_hidden text) (list_any is_line
 pub comes-back : (literal indentation text : List ℕ) → literal ≡ spelled indentation (inline_normal text) → ComesBack literal indentation text
 comes-back literal indentation text is i h =
     let n = inline_normal text in
-    let P : List ℕ → Type 0 = λ s. literal_reads s (meant indentation (inline_normal text)) in
-    (meant indentation n, subst P (sym is) (reads indentation n i), inline-law indentation n i h)
+    (meant indentation n, rw is (reads indentation n i), inline-law indentation n i h)
 
 pub comes-back-ok : {E : Type 0} (r : Result (List ℕ) E) (indentation text : List ℕ) → IfOk r (λ made. made ≡ spelled indentation (inline_normal text)) → IfOk r (λ made. ComesBack made indentation text)
 comes-back-ok (Ok made) indentation text h = comes-back made indentation text h

@@ -1,5 +1,5 @@
 -- What a reader's steps and results come to.
-use Rattle.snap_literal.proofs.Prelude.{◌≡◌, ℕ, ◌^◌, ◌<◌, ◌≤◌, List, [], ◌∷◌, ◌++◌, false, Result, Ok, Err, refl, sym, ap, ◌∙◌, subst, arith, inl, inr, MatchResult, OnOk, is_err, begins, hashes, IsBody, IsRaw, literal_reads}
+use Rattle.snap_literal.proofs.Prelude.{◌≡◌, ℕ, ◌^◌, ◌<◌, ◌≤◌, List, [], ◌∷◌, ◌++◌, false, Result, Ok, Err, refl, sym, ap, ◌∙◌, arith, inl, inr, MatchResult, OnOk, is_err, begins, hashes, IsBody, IsRaw, literal_reads}
 use Rattle.std.proofs.Math.Nat.{pow-le-pow_right}
 use Rattle.snap_literal.specs.Refusal.{Refuses}
 use Rattle.snap_literal.specs.declared.error.LiteralError.{LiteralError}
@@ -23,8 +23,7 @@ raw_result (Err NotLiteral) source rest body count is whole quote h = λ t k.
     let p = raw_body source rest count is whole t k in
     let e : 34 ∷ p.0 ≡ 34 ∷ body = sym p.1 ∙ quote in
     let same : p.0 ≡ body = cc in
-    let P : List ℕ → Type 0 = λ b. IsBody count b t in
-    h t (subst P same p.2)
+    h t (rw same at p.2)
 raw_result (Err OutOfMemory) source rest body count is whole quote h = tt
 
 pub literal_result : (r : Result (List ℕ) LiteralError) (source rest : List ℕ) (first : ℕ) → source ≡ first ∷ rest → first ≡ 114
@@ -32,14 +31,13 @@ pub literal_result : (r : Result (List ℕ) LiteralError) (source rest : List �
     → MatchResult r (λ text. literal_reads source text) (λ error. Refuses error (literal_reads source))
 literal_result (Ok text) source rest first is r h =
     let e : source ≡ 114 ∷ rest = is ∙ ap (λ c. c ∷ rest) r in
-    let P : List ℕ → Type 0 = λ s. IsRaw s text in
-    inr (subst P (sym e) h)
+    inr (rw e h)
 literal_result (Err NotLiteral) source rest first is r h = λ t k. no_raw source rest t (is ∙ ap (λ c. c ∷ rest) r) (h t) k
   where
     no_raw : (source rest t : List ℕ) → source ≡ 114 ∷ rest → (IsRaw (114 ∷ rest) t → ⊥) → literal_reads source t → ⊥
     no_raw source rest t e never (inl q) =
         let f : 34 ∷ q.behind ≡ 114 ∷ rest = sym q.is ∙ e in differ 34 114 refl cc
-    no_raw source rest t e never (inr w) = let P : List ℕ → Type 0 = λ s. IsRaw s t in never (subst P e w)
+    no_raw source rest t e never (inr w) = never (rw e at w)
 literal_result (Err OutOfMemory) source rest first is r h = tt
 
 pub braced_room : (count value : ℕ) → count ≤ 6 → (count ≡ 6 → ⊥) → value < 16 ^ count → value < 16 ^ 5

@@ -1,5 +1,5 @@
 -- Reading a literal from its front.
-use Rattle.snap_literal.proofs.Prelude.{◌≡◌, ◌==◌, ℕ, List, [], ◌∷◌, ◌++◌, Bool, true, false, cond, Some, None, length, refl, sym, ap, ◌∙◌, subst, arith, append-nil, append_assoc, length-append, inl, inr, is_some, list_any, nat_tests, begins, or_left, or_right, some_same, unit_of, hashes, past_hashes, past_end, has_end, Inside, IsBody, IsQuoted, IsRaw, literal_reads, is_return, ends, goes_on, or_from, ne_eqb, eq-eqb}
+use Rattle.snap_literal.proofs.Prelude.{◌≡◌, ◌==◌, ℕ, List, [], ◌∷◌, ◌++◌, Bool, true, false, cond, Some, None, length, refl, sym, ap, ◌∙◌, arith, append-nil, append_assoc, length-append, inl, inr, is_some, list_any, nat_tests, begins, or_left, or_right, some_same, unit_of, hashes, past_hashes, past_end, has_end, Inside, IsBody, IsQuoted, IsRaw, literal_reads, is_return, ends, goes_on, or_from, ne_eqb, eq-eqb}
 use Rattle.snap_literal.proofs.Hashed.{none_if, past_hashes-is, past_hashes-all, past_hashes-longer, past_hashes-quote, count-one, differ}
 
 -- what was made, and what is left, are the whole
@@ -10,14 +10,12 @@ pub record IsReading (Reads : List ℕ → List ℕ → Type 0) (source made res
 pub reading_step : (Reads : List ℕ → List ℕ → Type 0) (source made rest next given more : List ℕ) → IsReading Reads source made rest → next ≡ made ++ given
     → ((t : List ℕ) → Reads more t → Reads rest (given ++ t)) → ((t : List ℕ) → Reads rest t → (u : List ℕ) × Reads more u) → IsReading Reads source next more
 reading_step Reads source made rest next given more r is ahead behind = record {
-  forward = λ t h.
-      let P : List ℕ → Type 0 = λ x. Reads source x in
-      subst P (sym (append_assoc made given t) ∙ ap (λ n. n ++ t) (sym is)) (r.forward (given ++ t) (ahead t h));
+  forward = λ t h. rw (is, append_assoc made given t) (r.forward (given ++ t) (ahead t h));
   back = λ t h. let p = r.back t h in behind p.0 p.1;
 }
 
 pub reading_end : (Reads : List ℕ → List ℕ → Type 0) (source made rest : List ℕ) → IsReading Reads source made rest → Reads rest [] → Reads source made
-reading_end Reads source made rest r h = let P : List ℕ → Type 0 = λ x. Reads source x in subst P (append-nil made) (r.forward [] h)
+reading_end Reads source made rest r h = rw (append-nil made) at (r.forward [] h)
 
 pub reading_none : (Reads : List ℕ → List ℕ → Type 0) (source made rest : List ℕ) → IsReading Reads source made rest → ((u : List ℕ) → Reads rest u → ⊥) → (t : List ℕ) → Reads source t → ⊥
 reading_none Reads source made rest r never t h = let p = r.back t h in never p.0 p.1
@@ -37,8 +35,7 @@ inside-one {source} (ends s e) (goes_on given rest more u m h) = absurd (no_unit
 inside-one {source} (goes_on given rest more u m h) (ends s e) = absurd (no_unit source given rest s u)
 inside-one {source} (goes_on given rest more u m h) (goes_on other last after v n k) =
     let same = unit-one source given rest other last u v in
-    let P : List ℕ → Type 0 = λ r. Inside r after in
-    m ∙ ap (λ g. g ++ more) same.0 ∙ ap (λ t. other ++ t) (inside-one h (subst P (sym same.1) k)) ∙ sym n
+    m ∙ ap (λ g. g ++ more) same.0 ∙ ap (λ t. other ++ t) (inside-one h (rw same.1 k)) ∙ sym n
 
 pub inside_ahead : (rest given more : List ℕ) → unit_of rest ≡ Some (given, more) → (t : List ℕ) → Inside more t → Inside rest (given ++ t)
 inside_ahead rest given more u t h = goes_on given more t u refl h
@@ -47,8 +44,7 @@ pub inside_behind : (rest given more : List ℕ) → unit_of rest ≡ Some (give
 inside_behind rest given more u t (ends s e) = absurd (no_unit rest given more s u)
 inside_behind rest given more u t (goes_on other last after v n k) =
     let same = unit-one rest given more other last u v in
-    let P : List ℕ → Type 0 = λ r. Inside r after in
-    (after, subst P (sym same.1) k)
+    (after, rw same.1 k)
 
 pub inside_none : (rest : List ℕ) → unit_of rest ≡ None → (rest ≡ 34 ∷ [] → ⊥) → (t : List ℕ) → Inside rest t → ⊥
 inside_none rest u never t (ends s e) = never s
@@ -129,8 +125,7 @@ pub raw_body : (source rest : List ℕ) (count : ℕ) → source ≡ hashes coun
 raw_body source rest count is whole t h =
     let more : source ≡ hashes h.count ++ 34 ∷ h.body = (let e = h.is in cc) in
     let same = count-one h.count count h.body rest (sym more ∙ is) whole in
-    let P : ℕ → Type 0 = λ n. IsBody n h.body t in
-    (h.body, sym same.1, subst P same.0 h.spelled)
+    (h.body, sym same.1, rw same.0 at h.spelled)
 
 raw-one : (source text other : List ℕ) → IsRaw source text → IsRaw source other → text ≡ other
 raw-one source text other h k =
@@ -149,8 +144,7 @@ apart source text other h k =
 pub reads-one : (source text other : List ℕ) → literal_reads source text → literal_reads source other → text ≡ other
 reads-one source text other (inl h) (inl k) =
     let same : h.behind ≡ k.behind = (let e : 34 ∷ h.behind ≡ 34 ∷ k.behind = sym h.is ∙ k.is in cc) in
-    let P : List ℕ → Type 0 = λ s. Inside s other in
-    inside-one h.inside (subst P (sym same) k.inside)
+    inside-one h.inside (rw same k.inside)
 reads-one source text other (inl h) (inr k) = absurd (apart source text other h k)
 reads-one source text other (inr h) (inl k) = absurd (apart source other text k h)
 reads-one source text other (inr h) (inr k) = raw-one source text other h k
