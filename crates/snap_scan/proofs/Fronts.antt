@@ -1,7 +1,7 @@
 -- Fetching does not see the tokens that are held, and gives up keys only once.
 use Rattle.snap_scan.proofs.Prelude.{◌≡◌, ℕ, suc, ◌+◌, ◌-◌, ◌≤◌, List, [], ◌∷◌, ◌++◌, Bool, true, false, refl, ap, ◌∙◌, arith, Some, None, Option, map, nat_lt, length, min, get_or, map-append, length-map, take-map, list_any, ◌&&◌, ◌==◌, not, if◌then◌else◌, Mark, Place, mark_of, skipped, skip_from, forced, Plain, plain_from, Quoted, single_from, double_from, is_break, ScanInfo, Token, TokenType, TScalarStyle, Outcome, done, refused, read, kind_step, token_step, closed, document, sign, flow_start, flow_end, value_behind, read_key, plain_read, quoted_read, innermost, Keys, fresh, is_past, is_required, is_overdue, any_overdue, has_levels, deeper, shallower, kind_of, left_by, fetched, State, in_flow, to_next, past_comment, is_space, line_ended, advanced, allowing, unrolled, ends, kept, at, saved, is_innermost, inserted, put, rolled, is_deeper, pushed, keyless, is_key_owed, stale, SimpleKey, TokenKind}
 use Rattle.std.proofs.Math.ListN.{get_or-map}
-use Rattle.snap_scan.proofs.Soundness.{either}
+use Rattle.snap_scan.proofs.Soundness.{either, to_next-keeps}
 use Rattle.snap_token.specs.declared.info.ScanInfo.TheVariants as i
 use Rattle.snap_token.specs.declared.token.TokenType.TheVariants as t
 use Rattle.snap_token.specs.declared.token.TScalarStyle.TheVariants as style
@@ -43,35 +43,17 @@ pub record IsOnward (p q : Place) : Type 0 where
   pub line : p.line ≤ q.line
   pub index : p.index ≤ q.index
 
-onward-behind : (b : Bool) (cs : List ℕ) (p : Place) (j : ℕ)
-    → IsOnward p (record { left = cs; index = p.index + 1; line = if b then p.line + 1 else p.line; col = j })
-onward-behind true cs p j = record { line = omega arith; index = omega arith }
-onward-behind false cs p j = record { line = omega arith; index = omega arith }
-
 onward-skip : (cs : List ℕ) (p : Place) → IsOnward p (skip_from cs p)
 onward-skip [] p = record { line = omega arith; index = omega arith }
-onward-skip (c ∷ cs) p = onward-behind (c == 10) cs p (if c == 10 then 0 else p.col + 1)
+onward-skip (c ∷ cs) p = record { line = either (λ n. p.line ≤ n) (c == 10) (p.line + 1) p.line (omega arith) (omega arith); index = omega arith }
 
 onward-trans : (p q r : Place) → IsOnward p q → IsOnward q r → IsOnward p r
 onward-trans p q r a b = record { line = omega arith; index = omega arith }
 
-mutual
-  pub to_next-onward : (cs : List ℕ) (s : State) → IsOnward s.place (to_next cs s).place
-  to_next-onward [] s = record { line = omega arith; index = omega arith }
-  to_next-onward (c ∷ cs) s =
-      let one = onward-skip s.place.left s.place in
-      let P : State → Type 0 = λ v. IsOnward s.place v.place in
-      either P (is_space c s) _ _ (onward-trans s.place (skipped s.place) _ one (to_next-onward cs (advanced s)))
-      (either P (is_break c) _ _ (onward-trans s.place (skipped s.place) _ one (to_next-onward cs (line_ended (advanced s))))
-      (either P (c == 35) _ _ (onward-trans s.place (skipped s.place) _ one (past_comment-onward cs (advanced s))) (record { line = omega arith; index = omega arith })))
-
-  past_comment-onward : (cs : List ℕ) (s : State) → IsOnward s.place (past_comment cs s).place
-  past_comment-onward [] s = record { line = omega arith; index = omega arith }
-  past_comment-onward (c ∷ cs) s =
-      let one = onward-skip s.place.left s.place in
-      let P : State → Type 0 = λ v. IsOnward s.place v.place in
-      either P (is_break c) _ _ (onward-trans s.place (skipped s.place) _ one (to_next-onward cs (line_ended (advanced s))))
-      (either P (c == 0) _ _ (record { line = omega arith; index = omega arith }) (onward-trans s.place (skipped s.place) _ one (past_comment-onward cs (advanced s))))
+pub to_next-onward : (cs : List ℕ) (s : State) → IsOnward s.place (to_next cs s).place
+to_next-onward cs s =
+    to_next-keeps (λ v. IsOnward s.place v.place) (λ v is. onward-trans s.place v.place (skipped v.place) is (onward-skip v.place.left v.place)) (λ v is. is) cs s
+    (record { line = omega arith; index = omega arith })
 
 -- a token before all others that are held
 abbrev pub raised : Option SimpleKey → Option SimpleKey

@@ -1,8 +1,8 @@
 -- What is owed stays owed from one call to the next.
-use Rattle.snap_scan.proofs.Prelude.{◌≡◌, ℕ, suc, ◌-◌, ◌⊎◌, List, [], ◌∷◌, Bool, true, false, refl, sym, ap, ◌∙◌, arith, Some, None, Option, map, subst, drop, inl, inr, Ok, list_any, ◌&&◌, ◌==◌, MatchOption, if◌then◌else◌, Mark, Place, mark_of, ScanError, Syntax, OutOfMemory, Token, TokenType, Outcome, done, told, refused, read, unreadable, step, token_step, Leaves, MayFail, kind_step, kind_of, Keys, fresh, is_past, is_overdue, any_overdue, still_fresh, names_first, any_names_first, lowered, all_lowered, left_by, fetched, Steps, none_more, one_more, type_of, Owes, IsFirstSure, IsFirst, GivesFirst, Scan, IsSound, untouched, open_still, over, State, to_next, past_comment, advanced, line_ended, is_space, stale, given, in_flow, unrolled, is_break, SimpleKey, or_parts}
+use Rattle.snap_scan.proofs.Prelude.{◌≡◌, ℕ, suc, ◌-◌, ◌⊎◌, List, [], ◌∷◌, Bool, true, false, refl, sym, ap, ◌∙◌, arith, Some, None, Option, map, subst, drop, inl, inr, Ok, list_any, ◌&&◌, MatchOption, if◌then◌else◌, Mark, Place, mark_of, ScanError, Syntax, OutOfMemory, Token, TokenType, Outcome, done, told, refused, read, unreadable, step, token_step, Leaves, MayFail, kind_step, kind_of, Keys, fresh, is_past, is_overdue, any_overdue, still_fresh, names_first, any_names_first, lowered, all_lowered, left_by, fetched, Steps, none_more, one_more, type_of, Owes, IsFirstSure, IsFirst, GivesFirst, Scan, IsSound, untouched, open_still, over, State, to_next, stale, given, in_flow, unrolled, SimpleKey, or_parts}
 use Rattle.std.proofs.lemmas.Bool.Decides.{nat_tests}
 use Rattle.snap_token.specs.declared.info.ScanInfo.TheVariants as info
-use Rattle.snap_scan.proofs.Soundness.{either}
+use Rattle.snap_scan.proofs.Soundness.{to_next-keeps}
 use Rattle.snap_scan.proofs.Stepping.{step-token}
 use Rattle.snap_scan.proofs.Fronts.{IsOnward, to_next-onward, to_next-rekeyed, raised, in_front, fronts, step-front, any-same, any-overdue-front}
 
@@ -62,19 +62,8 @@ any-overdue-fresh : (m n : Mark) (ks : Keys) → any_overdue m ks ≡ false → 
 any-overdue-fresh m n ks h = overdue-list-fresh m n (ks.key ∷ ks.outer) h
 
 -- skipping changes no key
-mutual
-  to_next-keys : (cs : List ℕ) (s : State) → (to_next cs s).keys ≡ s.keys
-  to_next-keys [] s = refl
-  to_next-keys (c ∷ cs) s =
-      let P : State → Type 0 = λ v. v.keys ≡ s.keys in
-      either P (is_space c s) _ _ (to_next-keys cs (advanced s)) (either P (is_break c) _ _ (to_next-keys cs (line_ended (advanced s)))
-      (either P (c == 35) _ _ (past_comment-keys cs (advanced s)) refl))
-
-  past_comment-keys : (cs : List ℕ) (s : State) → (past_comment cs s).keys ≡ s.keys
-  past_comment-keys [] s = refl
-  past_comment-keys (c ∷ cs) s =
-      let P : State → Type 0 = λ v. v.keys ≡ s.keys in
-      either P (is_break c) _ _ (to_next-keys cs (line_ended (advanced s))) (either P (c == 0) _ _ refl (past_comment-keys cs (advanced s)))
+to_next-keys : (cs : List ℕ) (s : State) → (to_next cs s).keys ≡ s.keys
+to_next-keys cs s = to_next-keeps (λ v. v.keys ≡ s.keys) (λ v is. is) (λ v is. is) cs s refl
 
 -- the fetch of the token at a state whose keys are fresh
 abbrev pub fetch_at : State → Outcome

@@ -25,11 +25,7 @@ in-later source n _ _ (here p) is = is
 in-later source n _ _ (next p q later) is = in-skipped source n q (in-later source n p q later is)
 
 pub count-one : (signs : List ℕ) (c : ℕ) → is_among signs c ≡ true → count_by (is_among signs) (c ∷ []) ≡ 1
-count-one signs c is = counted (is_among signs c) is
-  where
-    counted : (b : Bool) → b ≡ true → 0 + cond b 1 0 ≡ 1
-    counted true is = refl
-    counted false is = absurd (cc)
+count-one signs c is = rw is
 
 in-bracket-at : (source : List ℕ) (n : ℕ) (cs : List ℕ) (p : Place) → p.left ≡ cs → is_among (codes "[{") (slice_index cs 0) ≡ true → IsIn source n p → IsIn source (n + 1) (skip_from cs p)
 in-bracket-at source n [] p left bracket is = absurd (cc)

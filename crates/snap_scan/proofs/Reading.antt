@@ -66,16 +66,12 @@ told-plain : {T : Type 0} (s t u : State) (o : Option Plain) (scalar : PlainScal
     → length p.left + 1 ≤ length t.place.left → Gives r new (pushed (at mark (k.Scalar style.Plain scalar.text)) u) → Does (plain_read o s) r new
 told-plain s t u None scalar p mark r new saved_is allowed_is marks reads later further gives = absurd reads
 told-plain s t u (Some x) scalar p mark (Ok y) new saved_is allowed_is marks reads later further gives =
-    let F : State → Mark → List ℕ → Bool → Place → State = λ v m text b q. pushed (at m (k.Scalar style.Plain text)) (record v { allowed = b; place = q }) in
     let at_saved : t.place ≡ s.place = ap (λ (v : State). v.place) saved_is in
     let at_new : new.place ≡ p = ap (λ (v : State). v.place) gives ∙ ap (λ (v : State). v.place) allowed_is in
     let shorter = ap (λ (q : Place). length q.left) at_saved in
     let same = ap (λ (q : Place). length q.left) at_new in
     record {
-      is = gives ∙ ap (λ (v : State). pushed (at mark (k.Scalar style.Plain scalar.text)) v) allowed_is
-          ∙ ap (λ (v : State). F v mark scalar.text scalar.is_broken p) saved_is ∙ ap (λ (m : Mark). F (saved s) m scalar.text scalar.is_broken p) marks
-          ∙ ap (λ (l : List ℕ). F (saved s) (mark_of s.place) l scalar.is_broken p) reads.0 ∙ ap (λ (b : Bool). F (saved s) (mark_of s.place) x.text b p) reads.1
-          ∙ ap (λ (q : Place). F (saved s) (mark_of s.place) x.text x.is_broken q) reads.2;
+      is = rw (gives, allowed_is, saved_is, marks, reads.0, reads.1, reads.2);
       later = rw at_new (rw at_saved at later);
       further = omega (arith, further, shorter, same);
     }
@@ -87,9 +83,7 @@ pub does-plain : {T : Type 0} (s t u : State) (indent : Option ℕ) (flow : Bool
     → ReadsPlain (plain_from indent flow t.place) (Ok scalar) p → Later t.place p → length p.left + 1 ≤ length t.place.left
     → Gives r new (pushed (at mark (k.Scalar style.Plain scalar.text)) u) → Does (plain s) r new
 does-plain s t u indent flow scalar p mark r new free saved_is allowed_is marks indent_is flow_is reads later further gives =
-    let same : plain_from indent flow t.place ≡ plain_from (innermost s.columns) (in_flow s) s.place =
-    ap (λ (i : Option ℕ). plain_from i flow t.place) (indent_is ∙ ap (λ (v : State). innermost v.columns) saved_is)
-    ∙ ap (λ (b : Bool). plain_from (innermost s.columns) b t.place) flow_is ∙ ap (λ (v : State). plain_from (innermost s.columns) (in_flow s) v.place) saved_is in
+    let same : plain_from indent flow t.place ≡ plain_from (innermost s.columns) (in_flow s) s.place = rw (indent_is, flow_is, saved_is) in
     let o = plain_from (innermost s.columns) (in_flow s) s.place in
     rw free (told-plain s t u o scalar p mark r new saved_is allowed_is marks (rw same at reads) later further gives)
 
@@ -99,15 +93,12 @@ told-quoted : {T : Type 0} (written : TScalarStyle) (s t : State) (o : Option Qu
     → Gives r new (pushed (at mark (k.Scalar written text)) (record t { place = p; adjacent = n })) → Does (quoted_read written o s) r new
 told-quoted written s t None text p n mark r new saved_is index_is marks reads later further gives = absurd reads
 told-quoted written s t (Some x) text p n mark (Ok y) new saved_is index_is marks reads later further gives =
-    let F : State → Mark → List ℕ → Place → ℕ → State = λ v m l q i. pushed (at m (k.Scalar written l)) (record v { place = q; adjacent = i }) in
-    let u = allowing false (saved s) in
     let at_saved : t.place ≡ s.place = ap (λ (v : State). v.place) saved_is in
     let at_new : new.place ≡ p = ap (λ (v : State). v.place) gives in
     let shorter = ap (λ (q : Place). length q.left) at_saved in
     let same = ap (λ (q : Place). length q.left) at_new in
     record {
-      is = gives ∙ ap (λ (v : State). F v mark text p n) saved_is ∙ ap (λ (m : Mark). F u m text p n) marks ∙ ap (λ (i : ℕ). F u (mark_of s.place) text p i) index_is
-          ∙ ap (λ (l : List ℕ). F u (mark_of s.place) l p p.index) reads.0 ∙ ap (λ (q : Place). F u (mark_of s.place) x.text q q.index) reads.1;
+      is = rw (gives, saved_is, marks, index_is, reads.0, reads.1);
       later = rw at_new (rw at_saved at later);
       further = omega (arith, further, shorter, same);
     }

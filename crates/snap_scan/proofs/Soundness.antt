@@ -204,20 +204,23 @@ sound-given over source d s is =
       ended = is.ended;
     }
 
-mutual
-  pub sound-to-next : {ahead : Bool} → (source : List ℕ) (d : ℕ) (cs : List ℕ) (s : State) → IsSoundFrom false ahead source d s → IsSoundFrom false ahead source d (to_next cs s)
-  sound-to-next source d [] s is = is
-  sound-to-next source d (c ∷ cs) s is =
-      let on = sound-advanced source d s is in
-      let P = IsSoundFrom false _ source d in
-      either P (is_space c s) _ _ (sound-to-next source d cs (advanced s) on) (
-      either P (is_break c) _ _ (sound-to-next source d cs (line_ended (advanced s)) on) (
-      either P (c == 35) _ s (sound-past-comment source d cs (advanced s) on) is))
+-- what each character that is passed keeps, and each line's end, is kept on the way to the next token
+module _ (P : State → Type 0) (on : (s : State) → P s → P (advanced s)) (broken : (s : State) → P s → P (line_ended s)) where
+  mutual
+    pub to_next-keeps : (cs : List ℕ) (s : State) → P s → P (to_next cs s)
+    to_next-keeps [] s is = is
+    to_next-keeps (c ∷ cs) s is =
+        let further = on s is in
+        either P (is_space c s) _ _ (to_next-keeps cs (advanced s) further)
+        (either P (is_break c) _ _ (to_next-keeps cs (line_ended (advanced s)) (broken (advanced s) further))
+        (either P (c == 35) _ s (past_comment-keeps cs (advanced s) further) is))
 
-  pub sound-past-comment : {ahead : Bool} → (source : List ℕ) (d : ℕ) (cs : List ℕ) (s : State) → IsSoundFrom false ahead source d s → IsSoundFrom false ahead source d (past_comment cs s)
-  sound-past-comment source d [] s is = is
-  sound-past-comment source d (c ∷ cs) s is =
-      let on = sound-advanced source d s is in
-      let P = IsSoundFrom false _ source d in
-      either P (is_break c) _ _ (sound-to-next source d cs (line_ended (advanced s)) on) (
-      either P (c == 0) s _ is (sound-past-comment source d cs (advanced s) on))
+    past_comment-keeps : (cs : List ℕ) (s : State) → P s → P (past_comment cs s)
+    past_comment-keeps [] s is = is
+    past_comment-keeps (c ∷ cs) s is =
+        let further = on s is in
+        either P (is_break c) _ _ (to_next-keeps cs (line_ended (advanced s)) (broken (advanced s) further))
+        (either P (c == 0) s _ is (past_comment-keeps cs (advanced s) further))
+
+pub sound-to-next : {ahead : Bool} → (source : List ℕ) (d : ℕ) (cs : List ℕ) (s : State) → IsSoundFrom false ahead source d s → IsSoundFrom false ahead source d (to_next cs s)
+sound-to-next source d = to_next-keeps (IsSoundFrom false _ source d) (sound-advanced source d) (λ s is. is)
