@@ -1,5 +1,5 @@
 -- Framed texts, and lines cut at a byte.
-use Rattle.snap_literal.proofs.Prelude.{◌≡◌, ◌==◌, ℕ, ◌+◌, ◌-◌, ◌<◌, ◌≤◌, List, [], ◌∷◌, ◌++◌, Bool, true, false, cond, Option, None, Some, length, drop, take, refl, sym, ap, ◌∙◌, arith, nat_lt, length-append, subst, Bor, MatchOption, IfSome, inl, inr, nat_tests, eqb-true, chars-append, encodes-chars, encodes-append, scalars-chars, length-encode, IsCharBoundary-at_seam, IsUtf8-take, is_whitespace, len_utf8, list_any, chars, IsUtf8, IsCharBoundary, skip_leading_whitespace, some_same, begins, Lacks, IsLastPart, is_line_end, sign, space_front, last_line, is_framed, onto_front, at_byte, encode, encodes, scalar, scalars, ne_eqb, or-true, cond_both, both_second, list_any-append}
+use Rattle.snap_literal.proofs.Prelude.{◌≡◌, ◌==◌, ℕ, ◌+◌, ◌-◌, ◌<◌, ◌≤◌, List, [], ◌∷◌, ◌++◌, Bool, true, false, cond, Option, None, Some, length, drop, take, refl, sym, ap, ◌∙◌, arith, nat_lt, length-append, subst, Bor, MatchOption, IfSome, inl, inr, nat_tests, eqb-true, chars-append, encodes-chars, encodes-append, scalars-chars, length-encode, IsCharBoundary-at_seam, IsUtf8-take, is_whitespace, len_utf8, list_any, chars, IsUtf8, IsCharBoundary, skip_leading_whitespace, begins, Lacks, IsLastPart, is_line_end, sign, space_front, last_line, is_framed, onto_front, at_byte, encode, encodes, scalar, scalars, ne_eqb, or-true, cond_both, both_second, list_any-append, some_same}
 use Rattle.std.proofs.lemmas.List.{take-append-drop}
 use Rattle.std.specs.Prelude.{◌↔◌, IsSome}
 use Rattle.snap_literal.specs.Signed.{IsSigned}
@@ -60,9 +60,7 @@ cut_step c w k n cs r is some more =
     let other : (n == 0) ≡ false = grind (arith, nat_tests) in
     let enough : nat_lt n w ≡ false = grind (arith, nat_tests) in
     let left : n - w ≡ k = omega (arith, is) in
-    ap (λ b. cond b (Some ([], c ∷ cs)) (cond (nat_lt n w) None (onto_front c (at_byte (n - w) cs)))) other
-    ∙ ap (λ b. cond b None (onto_front c (at_byte (n - w) cs))) enough
-    ∙ ap (λ m. onto_front c (at_byte m cs)) left ∙ ap (onto_front c) more
+    rw (other, enough, left, more)
 
 at-start : (rest : List ℕ) → at_byte 0 rest ≡ Some ([], rest)
 at-start [] = refl

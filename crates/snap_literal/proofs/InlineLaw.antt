@@ -59,9 +59,7 @@ zero_lead text l m rest c w e h =
 -- the last line of a frame, the indentation, is white space
 space_end : (indentation : List ℕ) → IsIndentation indentation → list_any is_line_end indentation ≡ false → list_all is_whitespace (flat_map behind (lines indentation)) ≡ true
 space_end [] h n = refl
-space_end (c ∷ cs) h n =
-    ap (λ r. list_all is_whitespace (flat_map behind r)) (lines-unbroken c cs n)
-    ∙ ap (list_all is_whitespace) (append-nil (10 ∷ c ∷ cs)) ∙ space-indentation (c ∷ cs) h
+space_end (c ∷ cs) h n = rw (lines-unbroken c cs n, append-nil cs) (space-indentation (c ∷ cs) h)
 
 space_cut : (indentation : List ℕ) → IsIndentation indentation → list_any is_line_end indentation ≡ false
     → list_all is_whitespace (flat_map behind (map (from_byte (length indentation)) (lines indentation))) ≡ true
@@ -88,9 +86,7 @@ of_framed indentation x y zs i c w hidden =
     let well : IsWell (10 ∷ whole xs) = well-cons 10 (whole xs) (well-whole xs w) in
     let trim : trimmed t ≡ 10 ∷ whole xs = trimmed-space (10 ∷ whole xs) (10 ∷ indentation) (space-indentation indentation i) ∙ trimmed-well (10 ∷ whole xs) well.well in
     let short : is_short (lines (trimmed t)) ≡ false = ap (λ s. is_short (lines s)) trim ∙ ap (λ r. is_short ([] ∷ r)) (lines-whole xs c w) in
-    ap (λ b. cond (b || list_any is_hidden t) (trimmed t) (joined_from 0 (without_empty (lines t)))) short
-    ∙ ap (λ b. cond b (trimmed t) (joined_from 0 (without_empty (lines t)))) hidden
-    ∙ ap (joined_from 0) (lines-more x (y ∷ zs) indentation c) ∙ joined-whole 0 (xs ++ lines indentation) ∙ ap whole (from_byte-zeros (xs ++ lines indentation))
+    rw (short, hidden, lines-more x (y ∷ zs) indentation c) (joined-whole 0 (xs ++ lines indentation) ∙ ap whole (from_byte-zeros (xs ++ lines indentation)))
 
 back : (indentation text l m : List ℕ) (rest : List (List ℕ)) → IsIndentation indentation → list_any is_line_end indentation ≡ false → list_any is_return indentation ≡ false
     → AreClean (l ∷ m ∷ rest) → EndsWell (l ∷ m ∷ rest) → whole (l ∷ m ∷ rest) ≡ text → inline_normal text ≡ text

@@ -136,15 +136,11 @@ whole-less n (l ∷ m ∷ ls) h =
 -- the shortest lead of indented lines
 pub lead-blank : (indentation line : List ℕ) → IsIndentation indentation → lead (indentation ++ line) ≡ indentation ++ lead line
 lead-blank [] line h = refl
-lead-blank (c ∷ cs) line h =
-    ap (λ b. cond b (c ∷ lead (cs ++ line)) []) (both_first (is_indent c) (list_all is_indent cs) h)
-    ∙ ap (λ t. c ∷ t) (lead-blank cs line (both_second (is_indent c) (list_all is_indent cs) h))
+lead-blank (c ∷ cs) line h = rw (both_first (is_indent c) (list_all is_indent cs) h, lead-blank cs line (both_second (is_indent c) (list_all is_indent cs) h))
 
 shortest-filled : (found : Bool) (best line rest_of : List ℕ) (c : ℕ) (ls : List (List ℕ)) → line ≡ c ∷ rest_of
     → shortest found best (line ∷ ls) ≡ cond (not found || nat_lt (length (lead line)) (length best)) (shortest true (lead line) ls) (shortest found best ls)
-shortest-filled found best line rest_of c ls is =
-    ap (λ l. shortest found best (l ∷ ls)) is
-    ∙ ap (λ l. cond (not found || nat_lt (length (lead l)) (length best)) (shortest true (lead l) ls) (shortest found best ls)) (sym is)
+shortest-filled found best line rest_of c ls is = rw is
 
 pub filled : (front : List ℕ) (c : ℕ) (cs : List ℕ) → (d : ℕ) × (ds : List ℕ) × (front ++ c ∷ cs ≡ d ∷ ds)
 filled [] c cs = (c, cs, refl)
@@ -153,13 +149,9 @@ filled (d ∷ front) c cs = (d, front ++ c ∷ cs, refl)
 same_less : (i a b x y : ℕ) → x ≡ i + a → y ≡ i + b → nat_lt x y ≡ nat_lt a b
 same_less i a b x y h k = grind (arith, nat_tests)
 
-shift_step : (b : Bool) (i x y u v : ℕ) → x ≡ i + y → u ≡ i + v → cond b x u ≡ i + cond b y v
-shift_step true i x y u v h k = h
-shift_step false i x y u v h k = k
-
-length_if : (b : Bool) (x y : List ℕ) → length (cond b x y) ≡ cond b (length x) (length y)
-length_if true x y = refl
-length_if false x y = refl
+shift_if : (b : Bool) (i : ℕ) (x y u v : List ℕ) → length x ≡ i + length y → length u ≡ i + length v → length (cond b x u) ≡ i + length (cond b y v)
+shift_if true i x y u v h k = h
+shift_if false i x y u v h k = k
 
 pub shortest-shift : (indentation best other : List ℕ) (ls : List (List ℕ)) → IsIndentation indentation → length other ≡ length indentation + length best
     → length (shortest true other (map (indent indentation) ls)) ≡ length indentation + length (shortest true best ls)
@@ -174,10 +166,8 @@ shortest-shift indentation best other ((c ∷ cs) ∷ ls) h e =
     ap length (shortest-filled true other line f.1 f.0 indented f.2)
     ∙ ap (λ b. length (cond b (shortest true (lead line) indented) (shortest true other indented)))
     (same_less (length indentation) (length here) (length best) (length (lead line)) (length other) width e)
-    ∙ length_if (nat_lt (length here) (length best)) (shortest true (lead line) indented) (shortest true other indented)
-    ∙ shift_step (nat_lt (length here) (length best)) (length indentation) (length (shortest true (lead line) indented)) (length (shortest true here ls))
-    (length (shortest true other indented)) (length (shortest true best ls)) (shortest-shift indentation here (lead line) ls h width) (shortest-shift indentation best other ls h e)
-    ∙ ap (λ n. length indentation + n) (sym (length_if (nat_lt (length here) (length best)) (shortest true here ls) (shortest true best ls)))
+    ∙ shift_if (nat_lt (length here) (length best)) (length indentation) (shortest true (lead line) indented) (shortest true here ls) (shortest true other indented) (shortest true best ls)
+    (shortest-shift indentation here (lead line) ls h width) (shortest-shift indentation best other ls h e)
 
 pub shortest-indented : (indentation : List ℕ) (ls : List (List ℕ)) → IsIndentation indentation → EndsWell ls
     → length (shortest false [] (map (indent indentation) ls)) ≡ length indentation + length (shortest false [] ls)

@@ -1,5 +1,5 @@
 -- Lines of a text, and their leads.
-use Rattle.snap_literal.proofs.Prelude.{◌≡◌, ◌==◌, ℕ, ◌<◌, List, [], ◌∷◌, ◌++◌, true, false, ◌||◌, ◌&&◌, cond, length, refl, sym, ap, ◌∙◌, append_assoc, append-nil, nat_lt, ◌-◌, arith, nat_tests, list_all, is_ascii, len_utf8, chars-nil, chars, IsUtf8, IsAscii-list_all, trimmed, is_indent, lead, from_byte, shortest, indentation_of, lines, ne_eqb, lt-ltb, cond_both}
+use Rattle.snap_literal.proofs.Prelude.{◌≡◌, ℕ, ◌<◌, List, [], ◌∷◌, ◌++◌, true, false, ◌&&◌, cond, length, refl, sym, ap, ◌∙◌, append_assoc, append-nil, ◌-◌, arith, nat_tests, list_all, is_ascii, len_utf8, chars-nil, chars, IsUtf8, IsAscii-list_all, trimmed, is_indent, lead, from_byte, shortest, indentation_of, lines, ne_eqb, lt-ltb, cond_both}
 use Rattle.snap_content.proofs.Ends.{bytes_are}
 
 -- what was passed of a line are blanks and tabs
@@ -20,13 +20,10 @@ pub lead-bytes : (bs line : List ℕ) → IsUtf8 bs → chars bs ≡ lead line �
 lead-bytes bs line u is = ap length (bytes_are bs (lead line) u (IsAscii-list_all (lead line) (lead_ascii line)) is)
 
 pub from_byte-inside : (n c : ℕ) (rest more : List ℕ) → rest ≡ c ∷ more → (n ≡ 0 → ⊥) → n < len_utf8 c → from_byte n rest ≡ []
-from_byte-inside n c rest more is some less =
-    ap (from_byte n) is ∙ ap (λ b. cond b (c ∷ more) (cond (nat_lt n (len_utf8 c)) [] (from_byte (n - len_utf8 c) more))) (ne_eqb n 0 some)
-    ∙ ap (λ b. cond b [] (from_byte (n - len_utf8 c) more)) (lt-ltb n (len_utf8 c) less)
+from_byte-inside n c rest more is some less = rw (is, ne_eqb n 0 some, lt-ltb n (len_utf8 c) less)
 
 pub lead_stop : (c : ℕ) (rest more : List ℕ) → rest ≡ c ∷ more → (c ≡ 32 → ⊥) → (c ≡ 9 → ⊥) → lead rest ≡ []
-lead_stop c rest more is a b =
-    ap lead is ∙ ap (λ x. cond (x || c == 9) (c ∷ lead more) []) (ne_eqb c 32 a) ∙ ap (λ x. cond x (c ∷ lead more) []) (ne_eqb c 9 b)
+lead_stop c rest more is a b = rw (is, ne_eqb c 32 a, ne_eqb c 9 b)
 
 pub lead_done : (line rest result : List ℕ) (s : IsLead line rest) → lead rest ≡ [] → chars result ≡ s.front → IsUtf8 result → length result ≡ length (lead line)
 lead_done line rest result s none is u = lead-bytes result line u (is ∙ sym (s.more ∙ ap (λ t. s.front ++ t) none ∙ append-nil s.front))

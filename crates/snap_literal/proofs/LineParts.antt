@@ -1,17 +1,14 @@
 -- Texts cut at their line ends, and framed again.
-use Rattle.snap_literal.proofs.Prelude.{◌≡◌, ◌==◌, ℕ, List, [], ◌∷◌, ◌++◌, true, false, cond, Result, Ok, Err, refl, sym, ap, ◌∙◌, append-nil, append_assoc, list_any, flat_map, OnOk, or_left, or_right, IsUnbroken, IsLineThen, is_line_end, line_parts, framed_line, shown, onto}
+use Rattle.snap_literal.proofs.Prelude.{◌≡◌, ◌==◌, ℕ, List, [], ◌∷◌, ◌++◌, true, false, cond, Result, Ok, Err, refl, sym, ap, ◌∙◌, append-nil, append_assoc, list_any, flat_map, OnOk, or_left, or_right, IsUnbroken, IsLineThen, is_line_end, line_parts, framed_line, shown}
 
 pub pieces-line : (line more : List ℕ) → list_any is_line_end line ≡ false → line_parts (line ++ 10 ∷ more) ≡ line ∷ line_parts more
 pieces-line [] more h = refl
 pieces-line (c ∷ line) more h =
-    ap (λ b. cond b ([] ∷ line_parts (line ++ 10 ∷ more)) (onto c (line_parts (line ++ 10 ∷ more)))) (or_left (c == 10) (list_any is_line_end line) h)
-    ∙ ap (onto c) (pieces-line line more (or_right (c == 10) (list_any is_line_end line) h))
+    rw (or_left (c == 10) (list_any is_line_end line) h, pieces-line line more (or_right (c == 10) (list_any is_line_end line) h))
 
 pub pieces-unbroken : (line : List ℕ) → list_any is_line_end line ≡ false → line_parts line ≡ line ∷ []
 pieces-unbroken [] h = refl
-pieces-unbroken (c ∷ line) h =
-    ap (λ b. cond b ([] ∷ line_parts line) (onto c (line_parts line))) (or_left (c == 10) (list_any is_line_end line) h)
-    ∙ ap (onto c) (pieces-unbroken line (or_right (c == 10) (list_any is_line_end line) h))
+pieces-unbroken (c ∷ line) h = rw (or_left (c == 10) (list_any is_line_end line) h, pieces-unbroken line (or_right (c == 10) (list_any is_line_end line) h))
 
 pub framed_past : (indentation next made rest line more whole : List ℕ) → IsLineThen rest line more → next ≡ made ++ framed_line indentation line
     → made ++ flat_map (framed_line indentation) (line_parts rest) ≡ whole → next ++ flat_map (framed_line indentation) (line_parts more) ≡ whole
