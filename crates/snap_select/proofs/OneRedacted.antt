@@ -88,15 +88,10 @@ module _ (ss : Parts) (put : t.Tree → t.Tree) where
 
     named_pairs : (path : List Step) (pairs : t.TreePairs) → PairsRedacted ss (only put) path pairs (redacted_pairs ss put path pairs)
     named_pairs path t.no_pairs = refl
-    named_pairs path (t.pair key value rest) = let at_key = path ++ into_field (codes "$key") ∷ [] in let at_value = path ++ under_key key ∷ [] in (
-      redacted ss put at_key key,
-      redacted ss put at_value value,
-      redacted_pairs ss put path rest,
-      refl,
-      named_at at_key key (named_inside at_key key),
-      named_at at_value value (named_inside at_value value),
-      named_pairs path rest,
-    )
+    named_pairs path (t.pair key value rest) =
+        let at_key = path ++ into_field (codes "$key") ∷ [] in
+        let at_value = path ++ under_key key ∷ [] in
+        (_, _, _, refl, named_at at_key key (named_inside at_key key), named_at at_value value (named_inside at_value value), named_pairs path rest)
 
     named_fields : (path : List Step) (fields : t.TreeFields) → FieldsRedacted ss (only put) path fields (redacted_fields ss put path fields)
     named_fields path t.no_fields = refl
@@ -140,15 +135,10 @@ module _ (ss : Parts) (a b : Allowed) (weaker : (c : t.Tree) (steps : List Step)
 
     pairs_weaker : (path : List Step) (pairs out : t.TreePairs) → PairsRedacted ss a path pairs out → PairsRedacted ss b path pairs out
     pairs_weaker path t.no_pairs out p = p
-    pairs_weaker path (t.pair key value rest) out p = (
-      p.0,
-      p.1,
-      p.2,
-      p.3,
-      at_weaker (path ++ into_field (codes "$key") ∷ []) key p.0 (inside_weaker (path ++ into_field (codes "$key") ∷ []) key p.0) p.4,
-      at_weaker (path ++ under_key key ∷ []) value p.1 (inside_weaker (path ++ under_key key ∷ []) value p.1) p.5,
-      pairs_weaker path rest p.2 p.6,
-    )
+    pairs_weaker path (t.pair key value rest) out p =
+        let at_key = path ++ into_field (codes "$key") ∷ [] in
+        let at_value = path ++ under_key key ∷ [] in
+        (p.0, p.1, p.2, p.3, at_weaker at_key key p.0 (inside_weaker at_key key p.0) p.4, at_weaker at_value value p.1 (inside_weaker at_value value p.1) p.5, pairs_weaker path rest p.2 p.6)
 
     fields_weaker : (path : List Step) (fields out : t.TreeFields) → FieldsRedacted ss a path fields out → FieldsRedacted ss b path fields out
     fields_weaker path t.no_fields out p = p

@@ -100,16 +100,11 @@ module _ (ss : Parts) (allows : Allowed) (Q : List Step → t.Tree → Type 0) (
     same_pairs path (t.pair key value rest) all =
         let at_key = path ++ into_field (codes "$key") ∷ [] in
         let of_key = all 0 (record { steps = into_field (codes "$key") ∷ []; part = key }) refl in
+        let same_key = same_at at_key key of_key (same_inside at_key key (below at_key key of_key)) in
         let at_value = path ++ under_key key ∷ [] in
-        let of_value = all 1 (record { steps = under_key key ∷ []; part = value }) refl in (
-          key,
-          value,
-          rest,
-          refl,
-          same_at at_key key of_key (same_inside at_key key (below at_key key of_key)),
-          same_at at_value value of_value (same_inside at_value value (below at_value value of_value)),
-          same_pairs path rest (λ k. all (suc (suc k))),
-        )
+        let of_value = all 1 (record { steps = under_key key ∷ []; part = value }) refl in
+        let same_value = same_at at_value value of_value (same_inside at_value value (below at_value value of_value)) in
+        (key, value, rest, refl, same_key, same_value, same_pairs path rest (λ k. all (suc (suc k))))
 
     same_fields : (path : List Step) (fields : t.TreeFields) → AllBelow Q path (field_children fields) → FieldsRedacted ss allows path fields fields
     same_fields path t.no_fields all = refl
