@@ -6,8 +6,7 @@ use Rattle.snap_scan.proofs.Soundness.{sound-given}
 use Rattle.snap_scan.proofs.Stepping.{step-over}
 
 ahead-of : (started : Bool) (held : List Token) (ahead : Bool) → started ≡ true → begins_stream held ≡ ahead → (not started || begins_stream held) ≡ ahead
-ahead-of true held ahead begun first = first
-ahead-of false held ahead begun first = absurd (cc)
+ahead-of started held ahead begun first = rw begun first
 
 pub ahead-is : {ahead : Bool} → (source : List ℕ) (s : State) → IsSound ahead source s → is_start_ahead s ≡ ahead
 ahead-is source s (untouched starts same) = ap (λ (v : State). is_start_ahead v) same ∙ sym starts
@@ -18,8 +17,7 @@ pub sound-ahead : {ahead : Bool} → (source : List ℕ) (s : State) → IsSound
 sound-ahead source s is = let P : Bool → Type 0 = λ b. IsSound b source s in subst P (sym (ahead-is source s is)) is
 
 going-on : (b : Bool) (n : ℕ) → b ≡ false → (b && n == 0) ≡ false
-going-on true n going = absurd (cc)
-going-on false n going = refl
+going-on b n going = rw going
 
 last-of : (token : Token) (rest : List Token) (ended : Bool) → ended ≡ true → EndsStream (token ∷ rest) → is_end token.1 ≡ (ended && length rest == 0)
 last-of token [] true ended is = is
