@@ -46,32 +46,14 @@ last_case : (c : ℕ) (rest : List ℕ) (b : Bool) → is_control c ≡ b → (c
 last_case c rest true e x y z = braced_digits c rest (nat_lt c 16) refl (control_small c e)
 last_case c rest false e x y z = unit-bare c rest x y z
 
-abbrev at7 : ℕ → List ℕ
-at7 c = cond (is_control c) (92 ∷ 117 ∷ 123 ∷ (digits c ++ 125 ∷ [])) (c ∷ [])
-
-abbrev at6 : ℕ → List ℕ
-at6 c = cond (c == 92) (92 ∷ 92 ∷ []) (at7 c)
-
-abbrev at5 : ℕ → List ℕ
-at5 c = cond (c == 34) (92 ∷ 34 ∷ []) (at6 c)
-
-abbrev at4 : ℕ → List ℕ
-at4 c = cond (c == 13) (92 ∷ 114 ∷ []) (at5 c)
-
-abbrev at3 : ℕ → List ℕ
-at3 c = cond (c == 10) (92 ∷ 110 ∷ []) (at4 c)
-
-abbrev at2 : ℕ → List ℕ
-at2 c = cond (c == 9) (92 ∷ 116 ∷ []) (at3 c)
-
 unit-escaped : (c : ℕ) (rest : List ℕ) → unit_of (escaped_char c ++ rest) ≡ Some (c ∷ [], rest)
 unit-escaped c rest =
-    escape_case c 0 (92 ∷ 48 ∷ []) (at2 c) rest (c == 0) refl refl (λ _.
-    escape_case c 9 (92 ∷ 116 ∷ []) (at3 c) rest (c == 9) refl refl (λ _.
-    escape_case c 10 (92 ∷ 110 ∷ []) (at4 c) rest (c == 10) refl refl (λ _.
-    escape_case c 13 (92 ∷ 114 ∷ []) (at5 c) rest (c == 13) refl refl (λ z.
-    escape_case c 34 (92 ∷ 34 ∷ []) (at6 c) rest (c == 34) refl refl (λ y.
-    escape_case c 92 (92 ∷ 92 ∷ []) (at7 c) rest (c == 92) refl refl (λ x. last_case c rest (is_control c) refl x y z))))))
+    escape_case c 0 (92 ∷ 48 ∷ []) _ rest (c == 0) refl refl (λ _.
+    escape_case c 9 (92 ∷ 116 ∷ []) _ rest (c == 9) refl refl (λ _.
+    escape_case c 10 (92 ∷ 110 ∷ []) _ rest (c == 10) refl refl (λ _.
+    escape_case c 13 (92 ∷ 114 ∷ []) _ rest (c == 13) refl refl (λ z.
+    escape_case c 34 (92 ∷ 34 ∷ []) _ rest (c == 34) refl refl (λ y.
+    escape_case c 92 (92 ∷ 92 ∷ []) _ rest (c == 92) refl refl (λ x. last_case c rest (is_control c) refl x y z))))))
 
 pub reads-escaped : (text : List ℕ) → Inside (flat_map escaped_char text ++ 34 ∷ []) text
 reads-escaped [] = ends refl refl

@@ -100,12 +100,9 @@ module _ {Y : Type 0} (cmp : Y → Y → Ordering) (total : IsTotalOrder cmp) wh
       cond_both (is_before cmp y x) _ _ (IsSortedBy (is_before cmp)) (λ e. behind y (put_in cmp x ys) (none_first_put x y ys (weak.one_way y x e) (none_first y ys up)) later)
       (λ e. behind x (y ∷ ys) e up)
 
-  none_sorted : IsSortedBy (is_before cmp) []
-  none_sorted k d low high = absurd (omega arith)
-
   ordered_sorted : (xs : List Y) → IsSortedBy (is_before cmp) (ordered cmp xs)
-  ordered_sorted [] = none_sorted
-  ordered_sorted (x ∷ xs) = put_sorted x (ordered cmp xs) (ordered_sorted xs)
+  ordered_sorted [] k d low high = absurd (omega arith)
+  ordered_sorted (x ∷ xs) k d low high = put_sorted x (ordered cmp xs) (ordered_sorted xs) k d low high
 
   -- and those that tie stand in it as they stood
   tied_equal : (z x : Y) → ties (is_before cmp) z x ≡ true → cmp z x ≡ Equal
