@@ -77,9 +77,7 @@ from_byte-past (c ∷ cs) line h =
 pub from_byte-indented : (indentation : List ℕ) (ls : List (List ℕ)) → IsIndentation indentation → map (from_byte (length indentation)) (map (indent indentation) ls) ≡ ls
 from_byte-indented indentation [] h = refl
 from_byte-indented indentation ([] ∷ ls) h = ap (λ r. [] ∷ r) (from_byte-indented indentation ls h)
-from_byte-indented indentation ((c ∷ cs) ∷ ls) h =
-    ap (λ l. l ∷ map (from_byte (length indentation)) (map (indent indentation) ls)) (from_byte-past indentation (c ∷ cs) h)
-    ∙ ap (λ r. (c ∷ cs) ∷ r) (from_byte-indented indentation ls h)
+from_byte-indented indentation ((c ∷ cs) ∷ ls) h = rw (from_byte-past indentation (c ∷ cs) h, from_byte-indented indentation ls h)
 
 flat_from : (n : ℕ) (ls : List (List ℕ)) → flat_map (behind_end n) ls ≡ flat_map behind (map (from_byte n) ls)
 flat_from n [] = refl
@@ -163,11 +161,9 @@ shortest-shift indentation best other ((c ∷ cs) ∷ ls) h e =
     let here : List ℕ = lead (c ∷ cs) in
     let width : length (lead line) ≡ length indentation + length here = ap length (lead-blank indentation (c ∷ cs) h) ∙ length-append indentation here in
     let indented : List (List ℕ) = map (indent indentation) ls in
-    ap length (shortest-filled true other line f.1 f.0 indented f.2)
-    ∙ ap (λ b. length (cond b (shortest true (lead line) indented) (shortest true other indented)))
-    (same_less (length indentation) (length here) (length best) (length (lead line)) (length other) width e)
-    ∙ shift_if (nat_lt (length here) (length best)) (length indentation) (shortest true (lead line) indented) (shortest true here ls) (shortest true other indented) (shortest true best ls)
-    (shortest-shift indentation here (lead line) ls h width) (shortest-shift indentation best other ls h e)
+    rw (shortest-filled true other line f.1 f.0 indented f.2, same_less (length indentation) (length here) (length best) (length (lead line)) (length other) width e)
+    (shift_if (nat_lt (length here) (length best)) (length indentation) (shortest true (lead line) indented) (shortest true here ls) (shortest true other indented) (shortest true best ls)
+    (shortest-shift indentation here (lead line) ls h width) (shortest-shift indentation best other ls h e))
 
 pub shortest-indented : (indentation : List ℕ) (ls : List (List ℕ)) → IsIndentation indentation → EndsWell ls
     → length (shortest false [] (map (indent indentation) ls)) ≡ length indentation + length (shortest false [] ls)

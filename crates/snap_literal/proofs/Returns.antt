@@ -35,10 +35,7 @@ unreturned-line (c ∷ line) more h =
 -- the loop over the lines
 pub past_line : (next made rest line more whole : List ℕ) → IsLineThen rest line more → next ≡ made ++ without_returns line ++ 10 ∷ []
     → made ++ unreturned rest ≡ whole → next ++ unreturned more ≡ whole
-past_line next made rest line more whole h is so_far =
-    ap (λ n. n ++ unreturned more) is ∙ append_assoc (made ++ without_returns line) (10 ∷ []) (unreturned more)
-    ∙ append_assoc made (without_returns line) (10 ∷ unreturned more)
-    ∙ ap (λ r. made ++ r) (sym (ap unreturned h.is ∙ unreturned-line line more h.unbroken)) ∙ so_far
+past_line next made rest line more whole h is so_far = rw (is, append_assoc, append_assoc) (rw (h.is, unreturned-line line more h.unbroken) at so_far)
 
 begins-unbroken : (text : List ℕ) → IsUnbroken text → begins 10 text ≡ false
 begins-unbroken [] h = refl

@@ -8,10 +8,7 @@ use Rattle.snap_literal.proofs.Trimming.{trimmed-well, well-trimmed, trimmed-beh
 use Rattle.snap_literal.proofs.WellEnded.{IsWell, EndsWell, whole, well-pieces, some-pieces, whole-pieces}
 
 pub written-line : (byte : ℕ) (text line more : List ℕ) → IsLineThen text line more → written byte text ≡ without_returns (from_byte byte line) ++ 10 ∷ written byte more
-written-line byte text line more h =
-    let s = some-pieces more in
-    ap (written_lines byte) (ap line_parts h.is ∙ pieces-line line more h.unbroken) ∙ ap (λ r. written_lines byte (line ∷ r)) s.2
-    ∙ ap (λ r. without_returns (from_byte byte line) ++ 10 ∷ written_lines byte r) (sym s.2)
+written-line byte text line more h = let s = some-pieces more in rw (h.is, pieces-line line more h.unbroken, s.2)
 
 pub written-last : (byte : ℕ) (text : List ℕ) → IsUnbroken text → written byte text ≡ from_byte byte text
 written-last byte text h = ap (written_lines byte) (pieces-unbroken text h)

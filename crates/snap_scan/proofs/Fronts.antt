@@ -1,5 +1,5 @@
 -- Fetching does not see the tokens that are held, and gives up keys only once.
-use Rattle.snap_scan.proofs.Prelude.{◌≡◌, ℕ, suc, ◌+◌, ◌-◌, ◌≤◌, List, [], ◌∷◌, ◌++◌, Bool, true, false, refl, ap, ◌∙◌, arith, Some, None, Option, map, nat_lt, length, min, get_or, map-append, length-map, take-map, list_any, ◌&&◌, ◌==◌, not, if◌then◌else◌, Mark, Place, mark_of, skipped, skip_from, forced, Plain, plain_from, Quoted, single_from, double_from, is_break, ScanInfo, Token, TokenType, TScalarStyle, Outcome, done, refused, read, kind_step, token_step, closed, document, sign, flow_start, flow_end, value_behind, read_key, plain_read, quoted_read, innermost, Keys, fresh, is_past, is_required, is_overdue, any_overdue, has_levels, deeper, shallower, kind_of, left_by, fetched, State, in_flow, to_next, past_comment, is_space, line_ended, advanced, allowing, unrolled, ends, kept, at, saved, is_innermost, inserted, put, rolled, is_deeper, pushed, keyless, is_key_owed, stale, SimpleKey, TokenKind}
+use Rattle.snap_scan.proofs.Prelude.{◌≡◌, ℕ, suc, ◌+◌, ◌-◌, ◌≤◌, List, [], ◌∷◌, ◌++◌, Bool, true, false, refl, ap, ◌∙◌, arith, Some, None, Option, map, nat_lt, length, min, get_or, map-append, length-map, take-map, list_any, ◌&&◌, ◌==◌, not, if◌then◌else◌, Mark, Place, mark_of, skipped, skip_from, forced, Plain, plain_from, Quoted, single_from, double_from, is_break, ScanInfo, Token, TokenType, TScalarStyle, Outcome, done, refused, kind_step, token_step, document, sign, flow_start, flow_end, value_behind, read_key, plain_read, quoted_read, innermost, Keys, fresh, is_past, is_required, is_overdue, any_overdue, has_levels, deeper, shallower, kind_of, left_by, fetched, State, in_flow, to_next, past_comment, is_space, line_ended, advanced, allowing, unrolled, ends, kept, at, saved, is_innermost, inserted, put, rolled, is_deeper, pushed, keyless, is_key_owed, stale, SimpleKey, TokenKind}
 use Rattle.std.proofs.Math.ListN.{get_or-map}
 use Rattle.snap_scan.proofs.Soundness.{either, to_next-keeps}
 use Rattle.snap_token.specs.declared.info.ScanInfo.TheVariants as i
@@ -133,11 +133,6 @@ fronts-if : (x : Token) (b b' : Bool) (o p o' p' : Outcome) → b' ≡ b → lef
 fronts-if x true b' o p o' p' same h k = rw same h
 fronts-if x false b' o p o' p' same h k = rw same k
 
--- a refusal, or what comes else
-fronts-else : (x : Token) (b b' : Bool) (m : Mark) (why : ScanInfo) (o o' : Outcome) → b' ≡ b → left_by o' ≡ fronts x (left_by o)
-    → left_by (if b' then refused m why else o') ≡ fronts x (left_by (if b then refused m why else o))
-fronts-else x b b' m why o o' same h = fronts-if x b b' _ o _ o' same refl h
-
 some-front : (x : Token) (f : State → State) (s s' : State) → s' ≡ in_front x s → f (in_front x s) ≡ in_front x (f s) → Some (f s') ≡ fronts x (Some (f s))
 some-front x f s s' same h = let some : State → Option State = λ v. Some v in let g : State → State = λ v. f v in ap some (ap g same ∙ h)
 
@@ -147,7 +142,7 @@ flow-start-front x kind s =
     let f : State → State = λ v. sign kind true (record v { keys = deeper v.keys }) in
     let deep : f (in_front x (saved s)) ≡ in_front x (f (saved s)) = rw (map-append raised (saved s).keys.outer ((saved s).keys.key ∷ [])) refl in
     let same : nat_lt (length (map raised s.keys.outer)) 255 ≡ nat_lt (length s.keys.outer) 255 = rw length-map refl in
-    fronts-else x (is_key_owed s) (is_key_owed (in_front x s)) m i.S2 _ _ (owed-front x s)
+    fronts-if x (is_key_owed s) _ _ _ _ _ (owed-front x s) refl
     (fronts-if x (nat_lt (length s.keys.outer) 255) _ (done (f (saved s))) _ (done (f (saved (in_front x s)))) _ same
     (some-front x f (saved s) (saved (in_front x s)) (saved-front x s) deep) refl)
 
@@ -164,13 +159,12 @@ flow-end-front x kind s =
     let f : State → State = λ v. sign kind false v in
     let inner : State = record (keyless s) { keys = shallower (keyless s).keys } in
     let inner' : State = record (keyless (in_front x s)) { keys = shallower (keyless (in_front x s)).keys } in
-    fronts-else x (is_required s.keys.key) (is_required (raised s.keys.key)) (mark_of s.place) i.S2 (done (f inner)) (done (f inner')) (required-raised s.keys.key)
-    (some-front x f inner inner' (shallower-front x (keyless s)) refl)
+    fronts-if x (is_required s.keys.key) _ _ _ _ _ (required-raised s.keys.key) refl (some-front x f inner inner' (shallower-front x (keyless s)) refl)
 
 -- a mark that needs a place for a key, outside flow
 mark-front : (x : Token) (b b' : Bool) (why : ScanInfo) (f : State → State) (s u u' : State) → b' ≡ b → u' ≡ in_front x u → f (in_front x u) ≡ in_front x (f u)
     → left_by (if b' then refused (mark_of s.place) why else done (f u')) ≡ fronts x (left_by (if b then refused (mark_of s.place) why else done (f u)))
-mark-front x b b' why f s u u' same is h = fronts-else x b b' (mark_of s.place) why (done (f u)) (done (f u')) same (some-front x f u u' is h)
+mark-front x b b' why f s u u' same is h = fronts-if x b _ _ _ _ _ same refl (some-front x f u u' is h)
 
 no-place : (x : Token) (s : State) → (not (in_flow (in_front x s)) && not (in_front x s).allowed) ≡ (not (in_flow s) && not s.allowed)
 no-place x s = rw (has_levels-map raised s.keys.outer) refl
@@ -194,7 +188,7 @@ value-front x None s =
 
 read-front : (x : Token) (kind : TokenKind) (b : Bool) (s : State) → left_by (read_key kind b (in_front x s)) ≡ fronts x (left_by (read_key kind b s))
 read-front x kind b s =
-    fronts-else x (is_key_owed s) (is_key_owed (in_front x s)) (mark_of s.place) i.S2 (read kind (allowing b (saved s))) (read kind (allowing b (saved (in_front x s)))) (owed-front x s) refl
+    fronts-if x (is_key_owed s) _ _ _ _ _ (owed-front x s) refl refl
 
 quoted-read-front : (x : Token) (written : TScalarStyle) (r : Option Quoted) (s : State) → left_by (quoted_read written r (in_front x s)) ≡ fronts x (left_by (quoted_read written r s))
 quoted-read-front x written None s = refl
@@ -206,7 +200,7 @@ quoted-front : (x : Token) (written : TScalarStyle) (r : Option Quoted) (s : Sta
     → left_by (if is_key_owed (in_front x s) then refused (mark_of s.place) i.S2 else quoted_read written r (in_front x s))
     ≡ fronts x (left_by (if is_key_owed s then refused (mark_of s.place) i.S2 else quoted_read written r s))
 quoted-front x written r s =
-    fronts-else x (is_key_owed s) (is_key_owed (in_front x s)) (mark_of s.place) i.S2 _ _ (owed-front x s) (quoted-read-front x written r s)
+    fronts-if x (is_key_owed s) _ _ _ _ _ (owed-front x s) refl (quoted-read-front x written r s)
 
 plain-read-front : (x : Token) (r : Option Plain) (s : State) → left_by (plain_read r (in_front x s)) ≡ fronts x (left_by (plain_read r s))
 plain-read-front x None s = refl
@@ -217,8 +211,7 @@ plain-read-front x (Some r) s =
 plain-front : (x : Token) (s : State) → left_by (kind_step k.Plain (in_front x s)) ≡ fronts x (left_by (kind_step k.Plain s))
 plain-front x s =
     let reads : Bool → Option State = λ b. left_by (plain_read (plain_from (innermost s.columns) b s.place) (in_front x s)) in
-    fronts-else x (is_key_owed s) (is_key_owed (in_front x s)) (mark_of s.place) i.S2 (plain_read (plain_from (innermost s.columns) (in_flow s) s.place) s)
-    (plain_read (plain_from (innermost s.columns) (in_flow (in_front x s)) s.place) (in_front x s)) (owed-front x s)
+    fronts-if x (is_key_owed s) _ _ _ _ _ (owed-front x s) refl
     (ap reads (has_levels-map raised s.keys.outer) ∙ plain-read-front x (plain_from (innermost s.columns) (in_flow s) s.place) s)
 
 document-front : (x : Token) (kind : TokenType) (s : State) → left_by (document kind (in_front x s)) ≡ fronts x (left_by (document kind s))
@@ -232,7 +225,7 @@ kind-front x k.StreamEnd s =
     let f : State → State = λ v. record (pushed (at (mark_of u.place) t.StreamEnd) (allowing false (keyless v))) { ended = true } in
     mark-front x (is_required s.keys.key) (is_required (raised s.keys.key)) i.S2 f u (unrolled None u) (unrolled None (in_front x u)) (required-raised s.keys.key) (unrolled-front x None u) refl
 kind-front x k.Directive s =
-    fronts-else x (is_required s.keys.key) (is_required (raised s.keys.key)) (mark_of s.place) i.S2 (read k.Directive (closed s)) (read k.Directive (closed (in_front x s))) (required-raised s.keys.key) refl
+    fronts-if x (is_required s.keys.key) _ _ _ _ _ (required-raised s.keys.key) refl refl
 kind-front x k.DocumentStart s = document-front x t.DocumentStart s
 kind-front x k.DocumentEnd s = document-front x t.DocumentEnd s
 kind-front x k.FlowSequenceStart s = flow-start-front x t.FlowSequenceStart s
@@ -245,15 +238,15 @@ kind-front x k.FlowEntry s =
 kind-front x k.BlockEntry s =
     let m = at (mark_of s.place) t.BlockSequenceStart in
     let f : State → State = λ v. sign t.BlockEntry true (keyless v) in
-    fronts-else x (in_flow s) (in_flow (in_front x s)) (mark_of s.place) i.S25 _ _ (has_levels-map raised s.keys.outer)
-    (fronts-else x (not s.allowed) (not s.allowed) (mark_of s.place) i.S24 _ _ refl
+    fronts-if x (in_flow s) _ _ _ _ _ (has_levels-map raised s.keys.outer) refl
+    (fronts-if x (not s.allowed) _ _ _ _ _ refl refl
     (mark-front x (is_required s.keys.key) (is_required (raised s.keys.key)) i.S2 f s (rolled s.place.col None m s) (rolled s.place.col None m (in_front x s)) (required-raised s.keys.key)
     (rolled-front x s.place.col None m s) refl))
 kind-front x k.Key s =
     let m = at (mark_of s.place) t.BlockMappingStart in
     let f : State → State = λ v. sign t.Key (not (in_flow s)) (keyless v) in
     let inner : Bool → Option State = λ b. left_by (if is_required (raised s.keys.key) then refused (mark_of s.place) i.S2 else done (sign t.Key (not b) (keyless (rolled s.place.col None m (in_front x s))))) in
-    fronts-else x (not (in_flow s) && not s.allowed) (not (in_flow (in_front x s)) && not s.allowed) (mark_of s.place) i.S35 _ _ (no-place x s)
+    fronts-if x (not (in_flow s) && not s.allowed) _ _ _ _ _ (no-place x s) refl
     (ap inner (has_levels-map raised s.keys.outer)
     ∙ mark-front x (is_required s.keys.key) (is_required (raised s.keys.key)) i.S2 f s (rolled s.place.col None m s) (rolled s.place.col None m (in_front x s)) (required-raised s.keys.key)
     (rolled-front x s.place.col None m s) refl)
@@ -282,7 +275,7 @@ fetch-front x s =
 token-front : (x : Token) (s : State) → left_by (token_step (in_front x s)) ≡ fronts x (left_by (token_step s))
 token-front x s =
     let whole : State → Option State = λ v. fetch_at v in
-    fronts-else x (any_overdue (mark_of s.place) s.keys) (any_overdue (mark_of s.place) (in_front x s).keys) (mark_of s.place) i.S1 _ _ (any-overdue-front x (mark_of s.place) s)
+    fronts-if x (any_overdue (mark_of s.place) s.keys) _ _ _ _ _ (any-overdue-front x (mark_of s.place) s) refl
     (ap whole (stale-front x s) ∙ fetch-front x (stale s))
 
 -- fetching does not see a token before the others

@@ -190,11 +190,9 @@ record StepsBehind (x : Token) (s e : State) : Type 0 where
 steps-behind : (x : Token) (r e : State) → Steps r e → (s : State) → r ≡ in_front x s → StepsBehind x s e
 steps-behind x _ _ (none_more r) s is = record { end = s; steps = none_more s; front = is }
 steps-behind x _ _ (one_more r t e open_ found rest) s is =
-    let fetch : State → Option State = λ v. fetched v in
-    let ended_of : State → Bool = λ v. v.ended in
-    let b = behind-some x (fetched s) t (sym (step-front x s) ∙ sym (ap fetch is) ∙ found) in
+    let b = behind-some x (fetched s) t (sym (step-front x s) ∙ rw is at found) in
     let others = steps-behind x t e rest b.state b.front in
-    record { end = others.end; steps = one_more s b.state others.end (sym (ap ended_of is) ∙ open_) b.is others.steps; front = others.front }
+    record { end = others.end; steps = one_more s b.state others.end (rw is at open_) b.is others.steps; front = others.front }
 
 -- the first token that is owed, and the others
 record OwesFirst (x : Token) (s : State) (ts : List TokenType) : Type 0 where
@@ -205,17 +203,15 @@ record OwesFirst (x : Token) (s : State) (ts : List TokenType) : Type 0 where
 owes-front : (x : Token) (s : State) (ts : List TokenType) → Owes (in_front x s) ts → OwesFirst x s ts
 owes-front x s ts o =
     let b = steps-behind x (in_front x s) o.end o.steps s refl in
-    let ended_of : State → Bool = λ v. v.ended in
     let types_of : State → List TokenType = λ v. map type_of v.held in
-    let late : State → Bool = λ v. any_overdue (mark_of v.place) v.keys in
     record {
       rest = map type_of b.end.held;
       is = sym o.given ∙ ap types_of b.front;
       owes = record {
         end = b.end;
         steps = b.steps;
-        ended = sym (ap ended_of b.front) ∙ o.ended;
-        timely = sym (any-overdue-front x (mark_of b.end.place) b.end) ∙ sym (ap late b.front) ∙ o.timely;
+        ended = rw b.front at o.ended;
+        timely = sym (any-overdue-front x (mark_of b.end.place) b.end) ∙ rw b.front at o.timely;
         given = refl;
       };
     }
@@ -259,16 +255,14 @@ pub gives-first : (r : Option Token) (s t : State) (ts : List TokenType) → IsF
 gives-first None s t ts sure ready (none, same) o = owes-ended s ts o (ready none) ∙ ap (map type_of) none
 gives-first (Some x) s t ts (inl ended) ready (is, same) o =
     let e : ts ≡ type_of x ∷ map type_of t.held = owes-ended s ts o ended ∙ ap (map type_of) is in
-    let ended_of : State → Bool = λ v. v.ended in
-    let late : State → Bool = λ v. any_overdue (mark_of v.place) v.keys in
     let timely = rw (none-left s o.end o.steps ended) at o.timely in
     rw e (
       refl,
       record {
         end = t;
         steps = none_more t;
-        ended = ap ended_of same ∙ ended;
-        timely = ap late same ∙ any-overdue-lowered (mark_of s.place) s.keys ∙ timely;
+        ended = rw same ended;
+        timely = rw same (any-overdue-lowered (mark_of s.place) s.keys ∙ timely);
         given = refl;
       },
     )

@@ -1,5 +1,5 @@
 -- A stable sort has one outcome: the list in order.
-use Rattle.snap_select.proofs.Prelude.{◌≡◌, zero, suc, ◌+◌, ◌<◌, Bool, true, false, cond, not, ◌&&◌, List, [], ◌∷◌, map, filter, get_or, length, refl, sym, ap, ◌∙◌, subst, arith, add-one, inl, inr, ◌⊎◌, ⊤, both_ways, length-map, get_or-map, ranks_by, sorted_far, tied_itself, IsStrictWeakOrder, IsTotalOrder, All, put_in, ordered, cond_both}
+use Rattle.snap_select.proofs.Prelude.{◌≡◌, zero, suc, ◌+◌, ◌<◌, Bool, true, false, cond, not, ◌&&◌, List, [], ◌∷◌, map, filter, length, refl, sym, ap, ◌∙◌, subst, arith, add-one, inl, inr, ◌⊎◌, ⊤, both_ways, length-map, get_or-map, ranks_by, sorted_far, tied_itself, IsStrictWeakOrder, IsTotalOrder, All, put_in, ordered, cond_both}
 use Rattle.std.proofs.lemmas.List.Elements.{All-filter, All-cons, All-head, filter_agree}
 use Rattle.std.specs.List.Sorted.{IsSortedBy, IsStableBy, ties}
 use Rattle.std.specs.declared.cmp.Ordering.{Ordering}
@@ -146,8 +146,7 @@ module _ {X Y : Type 0} (cmp : Y → Y → Ordering) (total : IsTotalOrder cmp) 
   sorted_map (x ∷ xs) h k d low high =
       let small : k + 1 < length (x ∷ xs) = subst (λ n. k + 1 < n) (length-map (x ∷ xs) f) high in
       let smaller : k < length (x ∷ xs) = omega arith in
-      ap (λ a. is_before cmp a (get_or (map f (x ∷ xs)) k d)) (get_or-map f (x ∷ xs) (k + 1) x d small)
-      ∙ ap (λ a. is_before cmp (f (get_or (x ∷ xs) (k + 1) x)) a) (get_or-map f (x ∷ xs) k x d smaller) ∙ h k x low small
+      rw (get_or-map f (x ∷ xs) (k + 1) x d small, get_or-map f (x ∷ xs) k x d smaller) (h k x low small)
 
   filter_cases : (b : Bool) (x : X) (xs : List X) (ys : List Y) → ys ≡ map f xs → cond b (f x ∷ ys) ys ≡ map f (cond b (x ∷ xs) xs)
   filter_cases true x xs ys e = ap (λ z. f x ∷ z) e
