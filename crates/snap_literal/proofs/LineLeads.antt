@@ -1,5 +1,5 @@
 -- Lines of a text, and their leads.
-use Rattle.snap_literal.proofs.Prelude.{◌≡◌, ℕ, ◌<◌, List, [], ◌∷◌, ◌++◌, true, false, ◌&&◌, cond, length, refl, sym, ap, ◌∙◌, append_assoc, append-nil, ◌-◌, arith, nat_tests, list_all, is_ascii, len_utf8, chars-nil, chars, IsUtf8, IsAscii-list_all, trimmed, is_indent, lead, from_byte, shortest, indentation_of, lines, ne_eqb, lt-ltb, cond_both}
+use Rattle.snap_literal.proofs.Prelude.{◌≡◌, ℕ, ◌<◌, List, [], ◌∷◌, ◌++◌, true, false, ◌&&◌, cond, length, refl, sym, ap, ◌∙◌, append_assoc, append-nil, arith, nat_tests, list_all, is_ascii, len_utf8, chars-nil, chars, IsUtf8, IsAscii-list_all, trimmed, is_indent, lead, from_byte, shortest, indentation_of, lines, ne_eqb, lt-ltb, cond_both}
 use Rattle.snap_content.proofs.Ends.{bytes_are}
 
 -- what was passed of a line are blanks and tabs
