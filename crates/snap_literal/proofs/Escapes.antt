@@ -1,5 +1,5 @@
 -- An escaped character reads as itself.
-use Rattle.snap_literal.proofs.Prelude.{◌≡◌, ◌==◌, ℕ, ◌+◌, ◌*◌, ◌/◌, ◌%◌, ◌<◌, List, [], ◌∷◌, ◌++◌, Bool, true, false, ◌||◌, ◌&&◌, cond, nat_lt, Some, None, refl, sym, ap, ◌∙◌, arith, append_assoc, true-eqb, nat_tests, digit_value-digit_char, digit_value, digit_char, list_any, flat_map, scalar, low_scalar, or_left, or_right, unit_of, braced, escape, Unit_read, Inside, ends, goes_on, escaped_char, is_control, digits, or_from}
+use Rattle.snap_literal.proofs.Prelude.{◌≡◌, ◌==◌, ℕ, ◌+◌, ◌*◌, ◌/◌, ◌%◌, ◌<◌, List, [], ◌∷◌, ◌++◌, Bool, true, false, ◌||◌, cond, nat_lt, Some, refl, sym, ap, ◌∙◌, arith, append_assoc, true-eqb, nat_tests, digit_value-digit_char, digit_value, digit_char, list_any, flat_map, scalar, low_scalar, or_left, or_right, unit_of, braced, Inside, ends, goes_on, escaped_char, is_control, digits}
 
 digit_no_brace : (d : ℕ) → d < 16 → (digit_char d == 125) ≡ false
 digit_no_brace d h = grind (arith, nat_tests)
@@ -9,16 +9,10 @@ digit_small d h = let e : digit_value (digit_char d) ≡ d = digit_value-digit_c
 
 braced_digit : (count value d : ℕ) (rest : List ℕ) → nat_lt count 6 ≡ true → d < 16 → braced count value (digit_char d ∷ rest) ≡ braced (count + 1) (value * 16 + d) rest
 braced_digit count value d rest room h =
-    let v = digit_value (digit_char d) in
-    ap (λ b. cond b (cond (nat_lt 0 count && scalar value) (Some (value ∷ [], rest)) None) (cond (nat_lt count 6 && nat_lt v 16) (braced (count + 1) (value * 16 + v) rest) None)) (digit_no_brace d h)
-    ∙ ap (λ b. cond (b && nat_lt v 16) (braced (count + 1) (value * 16 + v) rest) None) room
-    ∙ ap (λ b. cond b (braced (count + 1) (value * 16 + v) rest) None) (digit_small d h)
-    ∙ ap (λ x. braced (count + 1) (value * 16 + x) rest) (digit_value-digit_char d (omega arith))
+    rw (digit_no_brace d h, room, digit_small d h, digit_value-digit_char d (omega arith))
 
 braced_close : (count value : ℕ) (rest : List ℕ) → nat_lt 0 count ≡ true → scalar value ≡ true → braced count value (125 ∷ rest) ≡ Some (value ∷ [], rest)
-braced_close count value rest h k =
-    ap (λ b. cond {A = Unit_read} (b && scalar value) (Some (value ∷ [], rest)) None) h
-    ∙ ap (λ b. cond {A = Unit_read} b (Some (value ∷ [], rest)) None) k
+braced_close count value rest h k = rw (h, k)
 
 braced_digits : (c : ℕ) (rest : List ℕ) (one : Bool) → nat_lt c 16 ≡ one → c < 256
     → braced 0 0 ((cond one (digit_char c ∷ []) (digit_char (c / 16) ∷ digit_char (c % 16) ∷ []) ++ 125 ∷ []) ++ rest) ≡ Some (c ∷ [], rest)
@@ -45,41 +39,21 @@ escape_case c k front other rest true e h next = h ∙ ap (λ x. Some (x ∷ [],
 escape_case c k front other rest false e h next = next e
 
 pub unit-bare : (c : ℕ) (rest : List ℕ) → (c == 92) ≡ false → (c == 34) ≡ false → (c == 13) ≡ false → unit_of (c ∷ rest) ≡ Some (c ∷ [], rest)
-unit-bare c rest a b d =
-    ap (λ x. cond x (escape rest) (cond (c == 34 || c == 13) None (Some (c ∷ [], rest)))) a
-    ∙ ap (λ x. cond x None (Some (c ∷ [], rest))) (or_from (c == 34) (c == 13) b d)
+unit-bare c rest a b d = rw (a, b, d)
 
 last_case : (c : ℕ) (rest : List ℕ) (b : Bool) → is_control c ≡ b → (c == 92) ≡ false → (c == 34) ≡ false → (c == 13) ≡ false
     → unit_of (cond b (92 ∷ 117 ∷ 123 ∷ (digits c ++ 125 ∷ [])) (c ∷ []) ++ rest) ≡ Some (c ∷ [], rest)
 last_case c rest true e x y z = braced_digits c rest (nat_lt c 16) refl (control_small c e)
 last_case c rest false e x y z = unit-bare c rest x y z
 
-abbrev at7 : ℕ → List ℕ
-at7 c = cond (is_control c) (92 ∷ 117 ∷ 123 ∷ (digits c ++ 125 ∷ [])) (c ∷ [])
-
-abbrev at6 : ℕ → List ℕ
-at6 c = cond (c == 92) (92 ∷ 92 ∷ []) (at7 c)
-
-abbrev at5 : ℕ → List ℕ
-at5 c = cond (c == 34) (92 ∷ 34 ∷ []) (at6 c)
-
-abbrev at4 : ℕ → List ℕ
-at4 c = cond (c == 13) (92 ∷ 114 ∷ []) (at5 c)
-
-abbrev at3 : ℕ → List ℕ
-at3 c = cond (c == 10) (92 ∷ 110 ∷ []) (at4 c)
-
-abbrev at2 : ℕ → List ℕ
-at2 c = cond (c == 9) (92 ∷ 116 ∷ []) (at3 c)
-
 unit-escaped : (c : ℕ) (rest : List ℕ) → unit_of (escaped_char c ++ rest) ≡ Some (c ∷ [], rest)
 unit-escaped c rest =
-    escape_case c 0 (92 ∷ 48 ∷ []) (at2 c) rest (c == 0) refl refl (λ _.
-    escape_case c 9 (92 ∷ 116 ∷ []) (at3 c) rest (c == 9) refl refl (λ _.
-    escape_case c 10 (92 ∷ 110 ∷ []) (at4 c) rest (c == 10) refl refl (λ _.
-    escape_case c 13 (92 ∷ 114 ∷ []) (at5 c) rest (c == 13) refl refl (λ z.
-    escape_case c 34 (92 ∷ 34 ∷ []) (at6 c) rest (c == 34) refl refl (λ y.
-    escape_case c 92 (92 ∷ 92 ∷ []) (at7 c) rest (c == 92) refl refl (λ x. last_case c rest (is_control c) refl x y z))))))
+    escape_case c 0 (92 ∷ 48 ∷ []) _ rest (c == 0) refl refl (λ _.
+    escape_case c 9 (92 ∷ 116 ∷ []) _ rest (c == 9) refl refl (λ _.
+    escape_case c 10 (92 ∷ 110 ∷ []) _ rest (c == 10) refl refl (λ _.
+    escape_case c 13 (92 ∷ 114 ∷ []) _ rest (c == 13) refl refl (λ z.
+    escape_case c 34 (92 ∷ 34 ∷ []) _ rest (c == 34) refl refl (λ y.
+    escape_case c 92 (92 ∷ 92 ∷ []) _ rest (c == 92) refl refl (λ x. last_case c rest (is_control c) refl x y z))))))
 
 pub reads-escaped : (text : List ℕ) → Inside (flat_map escaped_char text ++ 34 ∷ []) text
 reads-escaped [] = ends refl refl

@@ -1,5 +1,5 @@
 -- Framed texts, and lines cut at a byte.
-use Rattle.snap_literal.proofs.Prelude.{◌≡◌, ◌==◌, ℕ, ◌+◌, ◌-◌, ◌<◌, ◌≤◌, List, [], ◌∷◌, ◌++◌, Bool, true, false, ◌||◌, ◌&&◌, cond, Option, None, Some, length, drop, take, refl, sym, ap, ◌∙◌, arith, nat_lt, length-append, subst, Bor, MatchOption, IfSome, inl, inr, nat_tests, eqb-true, chars-append, encodes-chars, encodes-append, scalars-chars, length-encode, IsCharBoundary-at_seam, IsUtf8-take, is_whitespace, len_utf8, list_any, chars, IsUtf8, IsCharBoundary, skip_leading_whitespace, some_same, begins, Lacks, IsLastPart, is_line_end, sign, space_front, last_line, is_framed, onto_front, at_byte, encode, encodes, scalar, scalars}
+use Rattle.snap_literal.proofs.Prelude.{◌≡◌, ◌==◌, ℕ, ◌+◌, ◌-◌, ◌<◌, ◌≤◌, List, [], ◌∷◌, ◌++◌, Bool, true, false, cond, Option, None, Some, length, drop, take, refl, sym, ap, ◌∙◌, arith, nat_lt, length-append, subst, Bor, MatchOption, IfSome, inl, inr, nat_tests, eqb-true, chars-append, encodes-chars, encodes-append, scalars-chars, length-encode, IsCharBoundary-at_seam, IsUtf8-take, is_whitespace, len_utf8, list_any, chars, IsUtf8, IsCharBoundary, skip_leading_whitespace, begins, Lacks, IsLastPart, is_line_end, sign, space_front, last_line, is_framed, onto_front, at_byte, encode, encodes, scalar, scalars, ne_eqb, or-true, cond_both, both_second, list_any-append, some_same}
 use Rattle.std.proofs.lemmas.List.{take-append-drop}
 use Rattle.std.specs.Prelude.{◌↔◌, IsSome}
 use Rattle.snap_literal.specs.Signed.{IsSigned}
@@ -26,10 +26,7 @@ unsigned text body is never = ap (begins sign) (sym is) ∙ by body never
   where
     by : (body : List ℕ) → ((cs : List ℕ) → body ≡ 8942 ∷ cs → ⊥) → begins sign body ≡ false
     by [] n = refl
-    by (c ∷ cs) n = other c (λ e. n cs (ap (λ d. d ∷ cs) e))
-      where
-        other : (c : ℕ) → (c ≡ 8942 → ⊥) → (c == 8942) ≡ false
-        other c h = grind (arith, nat_tests)
+    by (c ∷ cs) n = ne_eqb c 8942 (λ e. n cs (ap (λ d. d ∷ cs) e))
 
 -- what stands behind the last line end
 lacking : (part : List ℕ) → Lacks 10 part → part ≡ last_line part
@@ -37,12 +34,7 @@ lacking [] h = refl
 lacking (c ∷ cs) h = ap (λ b. cond b (last_line cs) (c ∷ cs)) (sym h)
 
 holds-end : (before part : List ℕ) → list_any is_line_end (before ++ 10 ∷ part) ≡ true
-holds-end [] part = refl
-holds-end (c ∷ before) part = ap (λ b. (c == 10) || b) (holds-end before part) ∙ by (c == 10)
-  where
-    by : (b : Bool) → (b || true) ≡ true
-    by true = refl
-    by false = refl
+holds-end before part = list_any-append is_line_end before (10 ∷ part) ∙ or-true (list_any is_line_end before)
 
 behind-end : (before part : List ℕ) → Lacks 10 part → part ≡ last_line (before ++ 10 ∷ part)
 behind-end [] part h = lacking part h
@@ -57,13 +49,10 @@ last_width-is text part u h = ap length (sym (encodes-chars part u) ∙ ap encod
 
 -- a line cut at a byte
 some_width : (c : ℕ) → 0 < len_utf8 c
-some_width c = by (nat_lt c 128) (nat_lt c 2048) (nat_lt c 65536)
-  where
-    by : (a b d : Bool) → 0 < cond a 1 (cond b 2 (cond d 3 4))
-    by true b d = omega arith
-    by false true d = omega arith
-    by false false true = omega arith
-    by false false false = omega arith
+some_width c =
+    let P : ℕ → Type 0 = λ n. 0 < n in
+    cond_both (nat_lt c 128) _ _ P (λ _. omega arith) (λ _. cond_both (nat_lt c 2048) _ _ P (λ _. omega arith)
+    (λ _. cond_both (nat_lt c 65536) _ _ P (λ _. omega arith) (λ _. omega arith)))
 
 cut_step : (c w k n : ℕ) (cs : List ℕ) (r : Option (List ℕ × List ℕ)) → n ≡ w + k → 0 < w → at_byte k cs ≡ r
     → cond (n == 0) (Some ([], c ∷ cs)) (cond (nat_lt n w) None (onto_front c (at_byte (n - w) cs))) ≡ onto_front c r
@@ -71,9 +60,7 @@ cut_step c w k n cs r is some more =
     let other : (n == 0) ≡ false = grind (arith, nat_tests) in
     let enough : nat_lt n w ≡ false = grind (arith, nat_tests) in
     let left : n - w ≡ k = omega (arith, is) in
-    ap (λ b. cond b (Some ([], c ∷ cs)) (cond (nat_lt n w) None (onto_front c (at_byte (n - w) cs)))) other
-    ∙ ap (λ b. cond b None (onto_front c (at_byte (n - w) cs))) enough
-    ∙ ap (λ m. onto_front c (at_byte m cs)) left ∙ ap (onto_front c) more
+    rw (other, enough, left, more)
 
 at-start : (rest : List ℕ) → at_byte 0 rest ≡ Some ([], rest)
 at-start [] = refl
@@ -129,11 +116,7 @@ cut-is n (c ∷ cs) front rest e = by (n == 0) (nat_lt n (len_utf8 c)) refl refl
 
 scalars-back : (front rest : List ℕ) → scalars (front ++ rest) ≡ true → scalars rest ≡ true
 scalars-back [] rest h = h
-scalars-back (c ∷ front) rest h = scalars-back front rest (later (scalar c) (scalars (front ++ rest)) h)
-  where
-    later : (a b : Bool) → (a && b) ≡ true → b ≡ true
-    later true b k = k
-    later false b k = absurd (cc)
+scalars-back (c ∷ front) rest h = scalars-back front rest (both_second (scalar c) (scalars (front ++ rest)) h)
 
 no_boundary : (n : ℕ) (s : List ℕ) → IsUtf8 s → (IsCharBoundary s n → ⊥) → at_byte n (chars s) ≡ None
 no_boundary n s u never = by (at_byte n (chars s)) refl

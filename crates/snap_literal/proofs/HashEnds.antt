@@ -1,5 +1,5 @@
 -- No quote of a text is followed by as many `#` as the text requires, nor is one of its framed form.
-use Rattle.snap_literal.proofs.Prelude.{◌≡◌, ◌==◌, ℕ, zero, suc, ◌<◌, ◌≤◌, max, List, [], ◌∷◌, ◌++◌, Bool, true, false, cond, None, refl, sym, ap, ◌∙◌, arith, append_assoc, append-nil, true-eqb, list_any, flat_map, is_some, or_left, or_right, past_hashes, past_end, has_end, run, required, line_parts, framed_line, shown, onto, is_line_end, or_from}
+use Rattle.snap_literal.proofs.Prelude.{◌≡◌, ◌==◌, ℕ, zero, suc, ◌<◌, ◌≤◌, max, List, [], ◌∷◌, ◌++◌, Bool, true, false, cond, None, refl, sym, ap, ◌∙◌, arith, append_assoc, append-nil, true-eqb, list_any, flat_map, is_some, or_left, or_right, past_hashes, past_end, has_end, run, required, line_parts, framed_line, shown, onto, is_line_end, or_from, cond_both}
 
 past_step : (b : Bool) (k : ℕ) (cs : List ℕ) → cond b (suc (run cs)) 0 < suc k → (run cs < k → past_hashes k cs ≡ None) → cond b (past_hashes k cs) None ≡ None
 past_step true k cs h next = next (omega arith)
@@ -60,16 +60,12 @@ run-pieces : (text : List ℕ) → first_run (line_parts text) ≡ run text
 run-pieces [] = refl
 run-pieces (c ∷ cs) = run_onto c cs (line_parts cs) (c == 10) refl (run-pieces cs)
 
-joined_from : (b : Bool) (r m n l k : ℕ) → r ≡ m → max n k ≡ l → max (cond b (max (suc r) n) n) k ≡ cond b (max (suc m) l) l
-joined_from true r m n l k e f = omega (arith, e, f)
-joined_from false r m n l k e f = f
-
 most_onto : (c : ℕ) (cs : List ℕ) (lines : List (List ℕ)) (b : Bool) → (c == 10) ≡ b → first_run lines ≡ run cs → most lines ≡ required cs → most (cond b ([] ∷ lines) (onto c lines)) ≡ required (c ∷ cs)
 most_onto c cs lines true e r h =
     let zero_left : max 0 (most lines) ≡ most lines = omega arith in
     zero_left ∙ h ∙ ap (λ x. cond (x == 34) (max (suc (run cs)) (required cs)) (required cs)) (sym (true-eqb c 10 (sym e)))
-most_onto c cs [] false e r h = joined_from (c == 34) 0 (run cs) 0 (required cs) 0 r h
-most_onto c cs (line ∷ lines) false e r h = joined_from (c == 34) (run line) (run cs) (required line) (required cs) (most lines) r h
+most_onto c cs [] false e r h = sym (required_step (c == 34) 0 (run cs) 0 (required cs) 0 (sym r) (sym h))
+most_onto c cs (line ∷ lines) false e r h = sym (required_step (c == 34) (run line) (run cs) (required line) (required cs) (most lines) (sym r) (sym h))
 
 most-pieces : (text : List ℕ) → most (line_parts text) ≡ required text
 most-pieces [] = refl
@@ -98,8 +94,6 @@ required-tail indentation ((c ∷ cs) ∷ lines) h =
     ∙ required-line (c ∷ cs) (tail_of indentation lines) ∙ ap (λ n. max (required (c ∷ cs)) n) (required-tail indentation lines h)
 
 pub required-shown : (indentation text : List ℕ) → list_any is_quote indentation ≡ false → required (shown indentation text) ≡ required text
-required-shown indentation text h = by (list_any is_line_end text)
-  where
-    by : (b : Bool) → required (cond b (flat_map (framed_line indentation) (line_parts text) ++ 10 ∷ indentation) text) ≡ required text
-    by true = ap required (tail_is indentation (line_parts text)) ∙ required-tail indentation (line_parts text) h ∙ most-pieces text
-    by false = refl
+required-shown indentation text h =
+    let framed = ap required (tail_is indentation (line_parts text)) ∙ required-tail indentation (line_parts text) h ∙ most-pieces text in
+    cond_both (list_any is_line_end text) _ text (λ t. required t ≡ required text) (λ _. framed) (λ _. refl)

@@ -1,11 +1,11 @@
 -- What is written for an inline text that is its own normal form stands for that text.
-use Rattle.snap_literal.proofs.Prelude.{◌≡◌, ◌==◌, ℕ, zero, suc, ◌+◌, ◌≤◌, List, [], ◌∷◌, ◌++◌, Bool, true, false, ◌||◌, cond, map, Result, Ok, Err, length, refl, sym, ap, ◌∙◌, arith, append-nil, subst, list_any, list_all, flat_map, is_whitespace, IfOk, ends_badly, trimmed, unreturned, normal, is_return, literal_reads, is_hidden, line_parts, framed_line, spelled, meant, IsIndentation, shortest, indentation_of, from_byte, joined_from, is_short, normalized, inline_normal, lines-unbroken, onto, lines, is_line_end}
+use Rattle.snap_literal.proofs.Prelude.{◌≡◌, ◌==◌, ℕ, zero, suc, ◌+◌, ◌≤◌, List, [], ◌∷◌, ◌++◌, Bool, true, false, ◌||◌, cond, map, Result, Ok, Err, length, refl, sym, ap, ◌∙◌, arith, append-nil, list_any, list_all, flat_map, is_whitespace, IfOk, ends_badly, trimmed, unreturned, normal, is_return, is_hidden, line_parts, framed_line, spelled, meant, IsIndentation, shortest, indentation_of, from_byte, joined_from, is_short, normalized, inline_normal, lines-unbroken, onto, lines, is_line_end, map-append}
 use Rattle.snap_literal.proofs.Trimming.{trimmed-well, well-trimmed}
 use Rattle.snap_literal.proofs.Returns.{ends-unreturned, normal-once}
 use Rattle.snap_literal.proofs.Free.{any-weaker, any-blank, free-shown}
 use Rattle.snap_literal.proofs.Meanings.{return_hidden, reads}
 use Rattle.snap_literal.proofs.WellEnded.{IsWell, EndsWell, AreClean, behind, whole, well-cons, well-pieces, clean-pieces, some-pieces, whole-pieces, well-whole, lines-whole, lines-more}
-use Rattle.snap_literal.proofs.Leads.{indent, framed-behind, ends-indented, clean-indented, trimmed-space, space-indentation, from_byte-past, from_byte-indented, joined-whole, from_byte-zeros, whole-append, map-append, length-trimmed, length-unreturned, whole-less, shortest-indented}
+use Rattle.snap_literal.proofs.Leads.{indent, framed-behind, ends-indented, clean-indented, trimmed-space, space-indentation, from_byte-past, from_byte-indented, joined-whole, from_byte-zeros, whole-append, length-trimmed, length-unreturned, whole-less, shortest-indented}
 use Rattle.snap_literal.specs.OfLiteral.{without_empty, of_literal, ComesBack}
 use Rattle.std.proofs.lemmas.Bool.{or_right}
 
@@ -59,9 +59,7 @@ zero_lead text l m rest c w e h =
 -- the last line of a frame, the indentation, is white space
 space_end : (indentation : List ℕ) → IsIndentation indentation → list_any is_line_end indentation ≡ false → list_all is_whitespace (flat_map behind (lines indentation)) ≡ true
 space_end [] h n = refl
-space_end (c ∷ cs) h n =
-    ap (λ r. list_all is_whitespace (flat_map behind r)) (lines-unbroken c cs n)
-    ∙ ap (list_all is_whitespace) (append-nil (10 ∷ c ∷ cs)) ∙ space-indentation (c ∷ cs) h
+space_end (c ∷ cs) h n = rw (lines-unbroken c cs n, append-nil cs) (space-indentation (c ∷ cs) h)
 
 space_cut : (indentation : List ℕ) → IsIndentation indentation → list_any is_line_end indentation ≡ false
     → list_all is_whitespace (flat_map behind (map (from_byte (length indentation)) (lines indentation))) ≡ true
@@ -88,9 +86,7 @@ of_framed indentation x y zs i c w hidden =
     let well : IsWell (10 ∷ whole xs) = well-cons 10 (whole xs) (well-whole xs w) in
     let trim : trimmed t ≡ 10 ∷ whole xs = trimmed-space (10 ∷ whole xs) (10 ∷ indentation) (space-indentation indentation i) ∙ trimmed-well (10 ∷ whole xs) well.well in
     let short : is_short (lines (trimmed t)) ≡ false = ap (λ s. is_short (lines s)) trim ∙ ap (λ r. is_short ([] ∷ r)) (lines-whole xs c w) in
-    ap (λ b. cond (b || list_any is_hidden t) (trimmed t) (joined_from 0 (without_empty (lines t)))) short
-    ∙ ap (λ b. cond b (trimmed t) (joined_from 0 (without_empty (lines t)))) hidden
-    ∙ ap (joined_from 0) (lines-more x (y ∷ zs) indentation c) ∙ joined-whole 0 (xs ++ lines indentation) ∙ ap whole (from_byte-zeros (xs ++ lines indentation))
+    rw (short, hidden, lines-more x (y ∷ zs) indentation c) (joined-whole 0 (xs ++ lines indentation) ∙ ap whole (from_byte-zeros (xs ++ lines indentation)))
 
 back : (indentation text l m : List ℕ) (rest : List (List ℕ)) → IsIndentation indentation → list_any is_line_end indentation ≡ false → list_any is_return indentation ≡ false
     → AreClean (l ∷ m ∷ rest) → EndsWell (l ∷ m ∷ rest) → whole (l ∷ m ∷ rest) ≡ text → inline_normal text ≡ text
@@ -113,7 +109,7 @@ back indentation text l m rest i n r c w e h =
     let made : normalized y ≡ whole ls ++ flat_map behind cut =
     ap (λ s. cond (is_short s) (trimmed y) (joined_from (length (indentation_of y)) (lines y))) lines_trim ∙ ap (λ k. joined_from k (lines y)) width
     ∙ ap (joined_from (length indentation)) (lines_framed indentation x xs n clean well) ∙ joined-whole (length indentation) ((x ∷ xs) ++ lines indentation)
-    ∙ ap whole (map-append (length indentation) (x ∷ xs) (lines indentation) ∙ ap (λ s. s ++ cut) (from_byte-indented indentation ls i))
+    ∙ ap whole (map-append (from_byte (length indentation)) (x ∷ xs) (lines indentation) ∙ ap (λ s. s ++ cut) (from_byte-indented indentation ls i))
     ∙ whole-append l (m ∷ rest) cut in
     ap normal made ∙ ap unreturned (trimmed-space (whole ls) (flat_map behind cut) (space_cut indentation i n)) ∙ ap normal e ∙ normal_text text h
 
@@ -132,10 +128,8 @@ broken indentation text t i h hidden ends free =
     let ls : List (List ℕ) = t.first ∷ t.second ∷ t.rest in
     let n : list_any is_line_end indentation ≡ false = any-blank is_line_end refl refl indentation i in
     let r : list_any is_return indentation ≡ false = any-blank is_return refl refl indentation i in
-    let C : List (List ℕ) → Type 0 = λ s. AreClean s in
-    let W : List (List ℕ) → Type 0 = λ s. EndsWell s in
-    let clean : AreClean ls = subst C t.is (clean-pieces text (any-weaker is_hidden is_return return_hidden text hidden)) in
-    let well : EndsWell ls = subst W t.is (well_broken text ends (well_text text h)) in
+    let clean : AreClean ls = rw t.is at (clean-pieces text (any-weaker is_hidden is_return return_hidden text hidden)) in
+    let well : EndsWell ls = rw t.is at (well_broken text ends (well_text text h)) in
     let whole_is : whole ls ≡ text = ap whole (sym t.is) ∙ whole-pieces text in
     let x : List ℕ = indent indentation t.first in
     let y : List ℕ = indent indentation t.second in
@@ -166,8 +160,7 @@ inline-law indentation text i h = by (list_any is_hidden text) (list_any is_line
 pub comes-back : (literal indentation text : List ℕ) → literal ≡ spelled indentation (inline_normal text) → ComesBack literal indentation text
 comes-back literal indentation text is i h =
     let n = inline_normal text in
-    let P : List ℕ → Type 0 = λ s. literal_reads s (meant indentation (inline_normal text)) in
-    (meant indentation n, subst P (sym is) (reads indentation n i), inline-law indentation n i h)
+    (meant indentation n, rw is (reads indentation n i), inline-law indentation n i h)
 
 pub comes-back-ok : {E : Type 0} (r : Result (List ℕ) E) (indentation text : List ℕ) → IfOk r (λ made. made ≡ spelled indentation (inline_normal text)) → IfOk r (λ made. ComesBack made indentation text)
 comes-back-ok (Ok made) indentation text h = comes-back made indentation text h

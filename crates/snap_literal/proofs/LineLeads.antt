@@ -1,5 +1,5 @@
 -- Lines of a text, and their leads.
-use Rattle.snap_literal.proofs.Prelude.{◌≡◌, ◌==◌, ℕ, ◌<◌, List, [], ◌∷◌, ◌++◌, Bool, true, false, ◌||◌, ◌&&◌, cond, length, refl, sym, ap, ◌∙◌, append_assoc, append-nil, nat_lt, ◌-◌, arith, nat_tests, list_all, is_ascii, len_utf8, chars-nil, chars, IsUtf8, IsAscii-list_all, trimmed, is_indent, lead, from_byte, shortest, indentation_of, lines}
+use Rattle.snap_literal.proofs.Prelude.{◌≡◌, ℕ, ◌<◌, List, [], ◌∷◌, ◌++◌, true, false, ◌&&◌, cond, length, refl, sym, ap, ◌∙◌, append_assoc, append-nil, arith, nat_tests, list_all, is_ascii, len_utf8, chars-nil, chars, IsUtf8, IsAscii-list_all, trimmed, is_indent, lead, from_byte, shortest, indentation_of, lines, ne_eqb, lt-ltb, cond_both}
 use Rattle.snap_content.proofs.Ends.{bytes_are}
 
 -- what was passed of a line are blanks and tabs
@@ -13,32 +13,17 @@ blank_ascii c h = grind (arith, nat_tests)
 
 lead_ascii : (line : List ℕ) → list_all is_ascii (lead line) ≡ true
 lead_ascii [] = refl
-lead_ascii (c ∷ cs) = by (is_indent c) refl (lead_ascii cs)
-  where
-    by : (b : Bool) → is_indent c ≡ b → list_all is_ascii (lead cs) ≡ true → list_all is_ascii (cond b (c ∷ lead cs) []) ≡ true
-    by true e h = ap (λ x. x && list_all is_ascii (lead cs)) (blank_ascii c e) ∙ h
-    by false e h = refl
+lead_ascii (c ∷ cs) =
+    cond_both (is_indent c) _ [] (λ t. list_all is_ascii t ≡ true) (λ e. ap (λ x. x && list_all is_ascii (lead cs)) (blank_ascii c e) ∙ lead_ascii cs) (λ _. refl)
 
 pub lead-bytes : (bs line : List ℕ) → IsUtf8 bs → chars bs ≡ lead line → length bs ≡ length (lead line)
 lead-bytes bs line u is = ap length (bytes_are bs (lead line) u (IsAscii-list_all (lead line) (lead_ascii line)) is)
 
-pub other_test : (a b : ℕ) → (a ≡ b → ⊥) → (a == b) ≡ false
-other_test a b h = grind (arith, nat_tests)
-
-pub same_test : (a b : ℕ) → a ≡ b → (a == b) ≡ true
-same_test a b h = grind (arith, nat_tests)
-
-below_test : (a b : ℕ) → a < b → nat_lt a b ≡ true
-below_test a b h = grind (arith, nat_tests)
-
 pub from_byte-inside : (n c : ℕ) (rest more : List ℕ) → rest ≡ c ∷ more → (n ≡ 0 → ⊥) → n < len_utf8 c → from_byte n rest ≡ []
-from_byte-inside n c rest more is some less =
-    ap (from_byte n) is ∙ ap (λ b. cond b (c ∷ more) (cond (nat_lt n (len_utf8 c)) [] (from_byte (n - len_utf8 c) more))) (other_test n 0 some)
-    ∙ ap (λ b. cond b [] (from_byte (n - len_utf8 c) more)) (below_test n (len_utf8 c) less)
+from_byte-inside n c rest more is some less = rw (is, ne_eqb n 0 some, lt-ltb n (len_utf8 c) less)
 
 pub lead_stop : (c : ℕ) (rest more : List ℕ) → rest ≡ c ∷ more → (c ≡ 32 → ⊥) → (c ≡ 9 → ⊥) → lead rest ≡ []
-lead_stop c rest more is a b =
-    ap lead is ∙ ap (λ x. cond (x || c == 9) (c ∷ lead more) []) (other_test c 32 a) ∙ ap (λ x. cond x (c ∷ lead more) []) (other_test c 9 b)
+lead_stop c rest more is a b = rw (is, ne_eqb c 32 a, ne_eqb c 9 b)
 
 pub lead_done : (line rest result : List ℕ) (s : IsLead line rest) → lead rest ≡ [] → chars result ≡ s.front → IsUtf8 result → length result ≡ length (lead line)
 lead_done line rest result s none is u = lead-bytes result line u (is ∙ sym (s.more ∙ ap (λ t. s.front ++ t) none ∙ append-nil s.front))
@@ -51,12 +36,6 @@ lead_step line rest more c s is blank = record {
       s.more ∙ ap (λ t. s.front ++ t) (ap lead is ∙ ap (λ b. cond b (c ∷ lead more) []) blank)
       ∙ sym (append_assoc s.front (c ∷ []) (lead more));
 }
-
-pub blank_32 : (c : ℕ) → c ≡ 32 → is_indent c ≡ true
-blank_32 c e = ap is_indent e
-
-pub blank_9 : (c : ℕ) → c ≡ 9 → is_indent c ≡ true
-blank_9 c e = ap is_indent e
 
 pub shortest_start : (text trim : List ℕ) → chars trim ≡ trimmed text → shortest false (chars []) (lines (chars trim)) ≡ indentation_of text
 shortest_start text trim is = ap (λ b. shortest false b (lines (chars trim))) chars-nil ∙ ap (λ t. shortest false [] (lines t)) is

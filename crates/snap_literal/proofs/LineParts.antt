@@ -1,34 +1,26 @@
 -- Texts cut at their line ends, and framed again.
-use Rattle.snap_literal.proofs.Prelude.{◌≡◌, ◌==◌, ℕ, List, [], ◌∷◌, ◌++◌, true, false, cond, Result, Ok, Err, refl, sym, ap, ◌∙◌, append-nil, append_assoc, list_any, flat_map, OnOk, or_left, or_right, IsUnbroken, IsLineThen, is_line_end, line_parts, framed_line, shown, onto}
+use Rattle.snap_literal.proofs.Prelude.{◌≡◌, ◌==◌, ℕ, List, [], ◌∷◌, ◌++◌, true, false, Result, Ok, Err, refl, append-nil, append_assoc, list_any, flat_map, OnOk, or_left, or_right, IsUnbroken, IsLineThen, is_line_end, line_parts, framed_line, shown}
 
 pub pieces-line : (line more : List ℕ) → list_any is_line_end line ≡ false → line_parts (line ++ 10 ∷ more) ≡ line ∷ line_parts more
 pieces-line [] more h = refl
 pieces-line (c ∷ line) more h =
-    ap (λ b. cond b ([] ∷ line_parts (line ++ 10 ∷ more)) (onto c (line_parts (line ++ 10 ∷ more)))) (or_left (c == 10) (list_any is_line_end line) h)
-    ∙ ap (onto c) (pieces-line line more (or_right (c == 10) (list_any is_line_end line) h))
+    rw (or_left (c == 10) (list_any is_line_end line) h, pieces-line line more (or_right (c == 10) (list_any is_line_end line) h))
 
 pub pieces-unbroken : (line : List ℕ) → list_any is_line_end line ≡ false → line_parts line ≡ line ∷ []
 pieces-unbroken [] h = refl
-pieces-unbroken (c ∷ line) h =
-    ap (λ b. cond b ([] ∷ line_parts line) (onto c (line_parts line))) (or_left (c == 10) (list_any is_line_end line) h)
-    ∙ ap (onto c) (pieces-unbroken line (or_right (c == 10) (list_any is_line_end line) h))
+pieces-unbroken (c ∷ line) h = rw (or_left (c == 10) (list_any is_line_end line) h, pieces-unbroken line (or_right (c == 10) (list_any is_line_end line) h))
 
 pub framed_past : (indentation next made rest line more whole : List ℕ) → IsLineThen rest line more → next ≡ made ++ framed_line indentation line
     → made ++ flat_map (framed_line indentation) (line_parts rest) ≡ whole → next ++ flat_map (framed_line indentation) (line_parts more) ≡ whole
 framed_past indentation next made rest line more whole h is so_far =
-    let frame = flat_map (framed_line indentation) in
-    ap (λ n. n ++ flat_map (framed_line indentation) (line_parts more)) is ∙ append_assoc made (framed_line indentation line) (flat_map (framed_line indentation) (line_parts more))
-    ∙ ap (λ p. made ++ flat_map (framed_line indentation) p) (sym (ap line_parts h.is ∙ pieces-line line more h.unbroken)) ∙ so_far
+    rw (is, append_assoc made (framed_line indentation line) (flat_map (framed_line indentation) (line_parts more))) (rw (h.is, pieces-line line more h.unbroken) at so_far)
 
 pub framed_end : (indentation text old made rest one two three : List ℕ) → IsUnbroken rest → list_any is_line_end text ≡ true
     → made ++ flat_map (framed_line indentation) (line_parts rest) ≡ old ++ flat_map (framed_line indentation) (line_parts text)
     → one ≡ made ++ framed_line indentation rest → two ≡ one ++ 10 ∷ [] → three ≡ two ++ indentation → three ≡ old ++ shown indentation text
 framed_end indentation text old made rest one two three unbroken broken so_far a b z =
-    let lines : List ℕ = flat_map (framed_line indentation) (line_parts text) in
-    let last : made ++ framed_line indentation rest ≡ old ++ lines =
-    ap (λ t. made ++ t) (sym (append-nil (framed_line indentation rest))) ∙ ap (λ p. made ++ flat_map (framed_line indentation) p) (sym (pieces-unbroken rest unbroken)) ∙ so_far in
-    z ∙ ap (λ t. t ++ indentation) (b ∙ ap (λ t. t ++ 10 ∷ []) (a ∙ last)) ∙ append_assoc (old ++ lines) (10 ∷ []) indentation ∙ append_assoc old lines (10 ∷ indentation)
-    ∙ ap (λ t. old ++ cond t (lines ++ 10 ∷ indentation) text) (sym broken)
+    let last = rw (pieces-unbroken rest unbroken, append-nil) at so_far in
+    rw (z, b, a, last, broken, append_assoc, append_assoc)
 
 pub on_ok : {T E : Type 0} (r : Result T E) (P Q : Type 0) → (P → Q) → OnOk r P → OnOk r Q
 on_ok (Ok x) P Q f h = f h

@@ -1,12 +1,11 @@
 -- What a reader's steps and results come to.
-use Rattle.snap_literal.proofs.Prelude.{◌≡◌, ℕ, ◌^◌, ◌<◌, ◌≤◌, List, [], ◌∷◌, ◌++◌, false, Some, None, Result, Ok, Err, refl, sym, ap, ◌∙◌, subst, arith, inl, inr, MatchResult, OnOk, is_err, begins, hashes, past_end, IsBody, IsRaw, literal_reads}
+use Rattle.snap_literal.proofs.Prelude.{◌≡◌, ℕ, ◌^◌, ◌<◌, ◌≤◌, List, [], ◌∷◌, ◌++◌, false, Result, Ok, Err, refl, sym, ap, ◌∙◌, arith, inl, inr, MatchResult, OnOk, is_err, begins, hashes, IsBody, IsRaw, literal_reads}
 use Rattle.std.proofs.Math.Nat.{pow-le-pow_right}
 use Rattle.snap_literal.specs.Refusal.{Refuses}
 use Rattle.snap_literal.specs.declared.error.LiteralError.{LiteralError}
 use Rattle.snap_literal.specs.declared.error.LiteralError.TheVariants.{NotLiteral, OutOfMemory}
 use Rattle.snap_literal.proofs.Hashed.{differ}
-use Rattle.snap_literal.proofs.Reading.{body_ahead, body_behind, body_ends, body_more, body_empty, body_return, raw_body}
-use Rattle.snap_literal.proofs.LineLeads.{other_test, same_test}
+use Rattle.snap_literal.proofs.Reading.{raw_body}
 
 pub ok_then : {T E : Type 0} (r : Result T E) (P : Type 0) → false ≡ is_err r → OnOk r P → P
 ok_then (Ok x) P h k = k
@@ -14,31 +13,6 @@ ok_then (Err e) P h k = absurd (cc)
 
 pub not_alone : (rest behind more : List ℕ) (x : ℕ) → rest ≡ 34 ∷ behind → behind ≡ x ∷ more → rest ≡ 34 ∷ [] → ⊥
 not_alone rest behind more x e f g = cc
-
-pub body_done : (n : ℕ) (rest behind : List ℕ) → past_end n rest ≡ Some behind → behind ≡ [] → IsBody n rest []
-body_done n [] behind h e = absurd (cc)
-body_done n (c ∷ more) behind h e = body_ends n c more (h ∙ ap Some e)
-
-pub body_too_long : (n : ℕ) (rest behind : List ℕ) (d : ℕ) (ds : List ℕ) → past_end n rest ≡ Some behind → behind ≡ d ∷ ds → (t : List ℕ) → IsBody n rest t → ⊥
-body_too_long n [] behind d ds h e t b = cc
-body_too_long n (c ∷ more) behind d ds h e t b = body_more n c more d ds (h ∙ ap Some e) t b
-
-pub body_with_return : (n : ℕ) (rest : List ℕ) (c : ℕ) (more : List ℕ) → rest ≡ c ∷ more → c ≡ 13 → (t : List ℕ) → IsBody n rest t → ⊥
-body_with_return n rest c more is same t b =
-    let P : List ℕ → Type 0 = λ x. IsBody n x t in body_return n c more (same_test c 13 same) t (subst P is b)
-
-pub body_nothing : (n : ℕ) (rest : List ℕ) → rest ≡ [] → (t : List ℕ) → IsBody n rest t → ⊥
-body_nothing n rest is t b = let P : List ℕ → Type 0 = λ x. IsBody n x t in body_empty n t (subst P is b)
-
-pub body_on : (n : ℕ) (rest : List ℕ) (c : ℕ) (more : List ℕ) → rest ≡ c ∷ more → (c ≡ 13 → ⊥) → past_end n rest ≡ None → (t : List ℕ) → IsBody n more t → IsBody n rest ((c ∷ []) ++ t)
-body_on n rest c more is other e t b =
-    let P : List ℕ → Type 0 = λ x. IsBody n x (c ∷ t) in
-    subst P (sym is) (body_ahead n c more (other_test c 13 other) (ap (past_end n) (sym is) ∙ e) t b)
-
-pub body_off : (n : ℕ) (rest : List ℕ) (c : ℕ) (more : List ℕ) → rest ≡ c ∷ more → past_end n rest ≡ None → (t : List ℕ) → IsBody n rest t → (u : List ℕ) × IsBody n more u
-body_off n rest c more is e t b =
-    let P : List ℕ → Type 0 = λ x. IsBody n x t in
-    body_behind n c more (ap (past_end n) (sym is) ∙ e) t (subst P is b)
 
 pub raw_result : (r : Result (List ℕ) LiteralError) (source rest body : List ℕ) (count : ℕ) → source ≡ hashes count ++ rest → begins 35 rest ≡ false → rest ≡ 34 ∷ body
     → MatchResult r (λ text. IsBody count body text) (λ error. Refuses error (IsBody count body))
@@ -49,8 +23,7 @@ raw_result (Err NotLiteral) source rest body count is whole quote h = λ t k.
     let p = raw_body source rest count is whole t k in
     let e : 34 ∷ p.0 ≡ 34 ∷ body = sym p.1 ∙ quote in
     let same : p.0 ≡ body = cc in
-    let P : List ℕ → Type 0 = λ b. IsBody count b t in
-    h t (subst P same p.2)
+    h t (rw same at p.2)
 raw_result (Err OutOfMemory) source rest body count is whole quote h = tt
 
 pub literal_result : (r : Result (List ℕ) LiteralError) (source rest : List ℕ) (first : ℕ) → source ≡ first ∷ rest → first ≡ 114
@@ -58,14 +31,13 @@ pub literal_result : (r : Result (List ℕ) LiteralError) (source rest : List �
     → MatchResult r (λ text. literal_reads source text) (λ error. Refuses error (literal_reads source))
 literal_result (Ok text) source rest first is r h =
     let e : source ≡ 114 ∷ rest = is ∙ ap (λ c. c ∷ rest) r in
-    let P : List ℕ → Type 0 = λ s. IsRaw s text in
-    inr (subst P (sym e) h)
+    inr (rw e h)
 literal_result (Err NotLiteral) source rest first is r h = λ t k. no_raw source rest t (is ∙ ap (λ c. c ∷ rest) r) (h t) k
   where
     no_raw : (source rest t : List ℕ) → source ≡ 114 ∷ rest → (IsRaw (114 ∷ rest) t → ⊥) → literal_reads source t → ⊥
     no_raw source rest t e never (inl q) =
         let f : 34 ∷ q.behind ≡ 114 ∷ rest = sym q.is ∙ e in differ 34 114 refl cc
-    no_raw source rest t e never (inr w) = let P : List ℕ → Type 0 = λ s. IsRaw s t in never (subst P e w)
+    no_raw source rest t e never (inr w) = never (rw e at w)
 literal_result (Err OutOfMemory) source rest first is r h = tt
 
 pub braced_room : (count value : ℕ) → count ≤ 6 → (count ≡ 6 → ⊥) → value < 16 ^ count → value < 16 ^ 5

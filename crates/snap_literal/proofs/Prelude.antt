@@ -1,6 +1,10 @@
 -- The words that the proofs of this crate speak in: those of the library, of the crates below, and of its own definitions.
 pub use Rattle.std.proofs.Common.{◌≡◌, ◌==◌, ℕ, suc, ◌<◌, List, [], ◌∷◌, Bool, true, false, ◌||◌, length, get_or, refl, sym, ap, ◌∙◌, arith, true-eqb, ◌+◌, ◌*◌, ◌/◌, ◌%◌, ◌≤◌, ◌++◌, ◌&&◌, cond, nat_lt, nat_le, Some, None, append_assoc, lit<, zero, ◌-◌, Option, drop, take, length-append, subst, Bor, MatchOption, IfSome, inl, inr, max, append-nil, add-one, eq-eqb, map, Result, Ok, Err, not, ◌^◌, ◌⊎◌, ◌≢◌, rules, option_to_list}
-pub use Rattle.std.proofs.lemmas.Bool.{or_from, eqb-true, or_parts, ltb-false}
+pub use Rattle.std.proofs.lemmas.Bool.{or_from, eqb-true, or_parts, ltb-false, ne_eqb, lt-ltb, cond_both, cond-false, both_ways}
+pub use Rattle.std.proofs.Math.Bool.{and-true, or-true}
+pub use Rattle.std.proofs.lemmas.List.{map-append}
+pub use Rattle.std.proofs.lemmas.List.Folds.{list_any-append, list_all-append}
+pub use Rattle.std.proofs.lemmas.Grind.{flat_map-append}
 pub use Rattle.std.proofs.lemmas.Bool.Decides.{nat_tests}
 pub use Rattle.std.proofs.lemmas.Str.{encodes-chars, encodes-append, encodes-IsAscii, digit_value-digit_char, chars-nil, chars-append, scalars-chars, length-encode, IsCharBoundary-at_seam, IsUtf8-take, IsUtf8-drop, length-le-encodes, chars_from_encodes}
 pub use Rattle.std.specs.Char.{digit_value, digit_char, is_whitespace, len_utf8, is_ascii}
@@ -13,7 +17,7 @@ pub use denote.Shadow.{shadow}
 pub use denote.Text.{Utf8}
 pub use lib.Utf8.{scalar, low_scalar, encode, encodes, scalars}
 pub use Rattle.snap_content.proofs.Ascii.{IsAscii-list_all}
-pub use Rattle.snap_content.proofs.Booleans.{or_left, or_right, some_same, both_second, both_first}
+pub use Rattle.snap_content.proofs.Booleans.{or_left, or_right, some_same, both_second, both_first, and_nothing}
 pub use Rattle.snap_content.specs.Front.{begins}
 pub use Rattle.snap_content.specs.Quotes.{ends_badly}
 pub use Rattle.snap_str.proofs.LineTexts.{lines-unbroken, lines-line}

@@ -1,6 +1,6 @@
 -- Reading a literal from its front.
-use Rattle.snap_literal.proofs.Prelude.{◌≡◌, ◌==◌, ℕ, List, [], ◌∷◌, ◌++◌, Bool, true, false, cond, Some, None, length, refl, sym, ap, ◌∙◌, subst, arith, append-nil, append_assoc, length-append, inl, inr, is_some, list_any, nat_tests, begins, or_left, or_right, some_same, unit_of, hashes, past_hashes, past_end, has_end, Inside, IsBody, IsQuoted, IsRaw, literal_reads, is_return, ends, goes_on, or_from}
-use Rattle.snap_literal.proofs.Hashed.{past_hashes-is, past_hashes-all, past_hashes-longer, past_hashes-quote, count-one, differ}
+use Rattle.snap_literal.proofs.Prelude.{◌≡◌, ◌==◌, ℕ, List, [], ◌∷◌, ◌++◌, Bool, true, false, cond, Some, None, length, refl, sym, ap, ◌∙◌, arith, append-nil, append_assoc, length-append, inl, inr, is_some, list_any, nat_tests, begins, or_left, or_right, some_same, unit_of, hashes, past_hashes, past_end, has_end, Inside, IsBody, IsQuoted, IsRaw, literal_reads, is_return, ends, goes_on, or_from, ne_eqb, eq-eqb}
+use Rattle.snap_literal.proofs.Hashed.{none_if, past_hashes-is, past_hashes-all, past_hashes-longer, past_hashes-quote, count-one, differ}
 
 -- what was made, and what is left, are the whole
 pub record IsReading (Reads : List ℕ → List ℕ → Type 0) (source made rest : List ℕ) : Type 0 where
@@ -10,14 +10,12 @@ pub record IsReading (Reads : List ℕ → List ℕ → Type 0) (source made res
 pub reading_step : (Reads : List ℕ → List ℕ → Type 0) (source made rest next given more : List ℕ) → IsReading Reads source made rest → next ≡ made ++ given
     → ((t : List ℕ) → Reads more t → Reads rest (given ++ t)) → ((t : List ℕ) → Reads rest t → (u : List ℕ) × Reads more u) → IsReading Reads source next more
 reading_step Reads source made rest next given more r is ahead behind = record {
-  forward = λ t h.
-      let P : List ℕ → Type 0 = λ x. Reads source x in
-      subst P (sym (append_assoc made given t) ∙ ap (λ n. n ++ t) (sym is)) (r.forward (given ++ t) (ahead t h));
+  forward = λ t h. rw (is, append_assoc made given t) (r.forward (given ++ t) (ahead t h));
   back = λ t h. let p = r.back t h in behind p.0 p.1;
 }
 
 pub reading_end : (Reads : List ℕ → List ℕ → Type 0) (source made rest : List ℕ) → IsReading Reads source made rest → Reads rest [] → Reads source made
-reading_end Reads source made rest r h = let P : List ℕ → Type 0 = λ x. Reads source x in subst P (append-nil made) (r.forward [] h)
+reading_end Reads source made rest r h = rw (append-nil made) at (r.forward [] h)
 
 pub reading_none : (Reads : List ℕ → List ℕ → Type 0) (source made rest : List ℕ) → IsReading Reads source made rest → ((u : List ℕ) → Reads rest u → ⊥) → (t : List ℕ) → Reads source t → ⊥
 reading_none Reads source made rest r never t h = let p = r.back t h in never p.0 p.1
@@ -37,8 +35,7 @@ inside-one {source} (ends s e) (goes_on given rest more u m h) = absurd (no_unit
 inside-one {source} (goes_on given rest more u m h) (ends s e) = absurd (no_unit source given rest s u)
 inside-one {source} (goes_on given rest more u m h) (goes_on other last after v n k) =
     let same = unit-one source given rest other last u v in
-    let P : List ℕ → Type 0 = λ r. Inside r after in
-    m ∙ ap (λ g. g ++ more) same.0 ∙ ap (λ t. other ++ t) (inside-one h (subst P (sym same.1) k)) ∙ sym n
+    m ∙ ap (λ g. g ++ more) same.0 ∙ ap (λ t. other ++ t) (inside-one h (rw same.1 k)) ∙ sym n
 
 pub inside_ahead : (rest given more : List ℕ) → unit_of rest ≡ Some (given, more) → (t : List ℕ) → Inside more t → Inside rest (given ++ t)
 inside_ahead rest given more u t h = goes_on given more t u refl h
@@ -47,76 +44,70 @@ pub inside_behind : (rest given more : List ℕ) → unit_of rest ≡ Some (give
 inside_behind rest given more u t (ends s e) = absurd (no_unit rest given more s u)
 inside_behind rest given more u t (goes_on other last after v n k) =
     let same = unit-one rest given more other last u v in
-    let P : List ℕ → Type 0 = λ r. Inside r after in
-    (after, subst P (sym same.1) k)
+    (after, rw same.1 k)
 
 pub inside_none : (rest : List ℕ) → unit_of rest ≡ None → (rest ≡ 34 ∷ [] → ⊥) → (t : List ℕ) → Inside rest t → ⊥
 inside_none rest u never t (ends s e) = never s
 inside_none rest u never t (goes_on other last after v n k) = let e : None ≡ Some (other, last) = sym u ∙ v in cc
 
 -- bodies of raw literals
-pub body_ahead : (n c : ℕ) (more : List ℕ) → (c == 13) ≡ false → past_end n (c ∷ more) ≡ None → (t : List ℕ) → IsBody n more t → IsBody n (c ∷ more) (c ∷ t)
-body_ahead n c more not_return no_end t h = record {
-  is = ap (λ r. c ∷ r) h.is;
-  no_return = or_from (c == 13) (list_any is_return t) not_return h.no_return;
-  no_end = or_from (is_some (past_end n (c ∷ t))) (has_end n t) (by (c == 34) (ap is_some (ap (λ r. past_end n (c ∷ r)) (sym h.is) ∙ no_end))) h.no_end;
-}
-  where
-    by : (b : Bool) → is_some (cond b (past_hashes n (t ++ 34 ∷ hashes n)) None) ≡ false → is_some (cond b (past_hashes n t) None) ≡ false
-    by true k = past_hashes-longer n t (34 ∷ hashes n) k
-    by false k = refl
+pub body_on : (n : ℕ) (rest : List ℕ) (c : ℕ) (more : List ℕ) → rest ≡ c ∷ more → (c ≡ 13 → ⊥) → past_end n rest ≡ None → (t : List ℕ) → IsBody n more t → IsBody n rest ((c ∷ []) ++ t)
+body_on n rest c more is other no_end t h =
+    let whole : rest ≡ c ∷ (t ++ 34 ∷ hashes n) = is ∙ ap (λ r. c ∷ r) h.is in
+    let none = ap is_some (ap (past_end n) (sym whole) ∙ no_end) in
+    let still = none_if (c == 34) (past_hashes n (t ++ 34 ∷ hashes n)) (past_hashes n t) none (past_hashes-longer n t (34 ∷ hashes n)) in record {
+      is = whole;
+      no_return = or_from (c == 13) (list_any is_return t) (ne_eqb c 13 other) h.no_return;
+      no_end = or_from (is_some (past_end n (c ∷ t))) (has_end n t) still h.no_end;
+    }
 
-pub body_behind : (n c : ℕ) (more : List ℕ) → past_end n (c ∷ more) ≡ None → (t : List ℕ) → IsBody n (c ∷ more) t → (u : List ℕ) × IsBody n more u
-body_behind n c more no_end [] h =
+pub body_off : (n : ℕ) (rest : List ℕ) (c : ℕ) (more : List ℕ) → rest ≡ c ∷ more → past_end n rest ≡ None → (t : List ℕ) → IsBody n rest t → (u : List ℕ) × IsBody n more u
+body_off n rest c more is no_end [] h =
     absurd (let e : None ≡ Some [] = sym no_end ∙ ap (past_end n) h.is ∙ past_hashes-all n in cc)
-body_behind n c more no_end (d ∷ u) h = (
+body_off n rest c more is no_end (d ∷ u) h = (
   u,
   record {
-    is = let e : c ∷ more ≡ d ∷ (u ++ 34 ∷ hashes n) = h.is in cc;
+    is = let e : c ∷ more ≡ d ∷ (u ++ 34 ∷ hashes n) = sym is ∙ h.is in cc;
     no_return = or_right (d == 13) (list_any is_return u) h.no_return;
     no_end = or_right (is_some (past_end n (d ∷ u))) (has_end n u) h.no_end;
   },
 )
 
-pub body_ends : (n c : ℕ) (more : List ℕ) → past_end n (c ∷ more) ≡ Some [] → IsBody n (c ∷ more) []
-body_ends n c more h = by (c == 34) refl
+pub body_done : (n : ℕ) (rest behind : List ℕ) → past_end n rest ≡ Some behind → behind ≡ [] → IsBody n rest []
+body_done n [] behind h none = absurd (cc)
+body_done n (c ∷ more) behind h none = by (c == 34) refl
   where
     by : (b : Bool) → (c == 34) ≡ b → IsBody n (c ∷ more) []
     by true e =
         let is : c ≡ 34 = grind (arith, nat_tests) in
-        let k : past_hashes n more ≡ Some [] = sym (ap (λ t. cond t (past_hashes n more) None) e) ∙ h in
+        let k : past_hashes n more ≡ Some [] = sym (ap (λ t. cond t (past_hashes n more) None) e) ∙ h ∙ ap Some none in
         let same : more ≡ hashes n = past_hashes-is n more [] k ∙ append-nil (hashes n) in
         record { is = cc; no_return = refl; no_end = refl }
-    by false e = absurd (let no : None ≡ Some [] = sym (ap (λ t. cond t (past_hashes n more) None) e) ∙ h in cc)
+    by false e = absurd (let no : None ≡ Some behind = sym (ap (λ t. cond t (past_hashes n more) None) e) ∙ h in cc)
 
-pub body_more : (n c : ℕ) (more : List ℕ) (d : ℕ) (ds : List ℕ) → past_end n (c ∷ more) ≡ Some (d ∷ ds) → (t : List ℕ) → IsBody n (c ∷ more) t → ⊥
-body_more n c more d ds e [] h =
-    let k : Some (d ∷ ds) ≡ Some [] = sym e ∙ ap (past_end n) h.is ∙ past_hashes-all n in cc
-body_more n c more d ds e (f ∷ u) h =
-    let whole : c ∷ more ≡ f ∷ (u ++ 34 ∷ hashes n) = h.is in
-    let some : is_some (past_end n (f ∷ (u ++ 34 ∷ hashes n))) ≡ true = ap is_some (ap (past_end n) (sym whole) ∙ e) in
-    let none : is_some (past_end n (f ∷ (u ++ 34 ∷ hashes n))) ≡ false = by (f == 34) (or_left (is_some (past_end n (f ∷ u))) (has_end n u) h.no_end) in
+pub body_too_long : (n : ℕ) (rest behind : List ℕ) (d : ℕ) (ds : List ℕ) → past_end n rest ≡ Some behind → behind ≡ d ∷ ds → (t : List ℕ) → IsBody n rest t → ⊥
+body_too_long n rest behind d ds e long [] h =
+    let k : Some (d ∷ ds) ≡ Some [] = sym (e ∙ ap Some long) ∙ ap (past_end n) h.is ∙ past_hashes-all n in cc
+body_too_long n rest behind d ds e long (f ∷ u) h =
+    let some : is_some (past_end n (f ∷ (u ++ 34 ∷ hashes n))) ≡ true = ap is_some (ap (past_end n) (sym h.is) ∙ e) in
+    let none : is_some (past_end n (f ∷ (u ++ 34 ∷ hashes n))) ≡ false =
+    none_if (f == 34) (past_hashes n u) (past_hashes n (u ++ 34 ∷ hashes n)) (or_left (is_some (past_end n (f ∷ u))) (has_end n u) h.no_end) (past_hashes-quote n u (hashes n)) in
     let no : true ≡ false = sym some ∙ none in
     cc
-  where
-    by : (b : Bool) → is_some (cond b (past_hashes n u) None) ≡ false → is_some (cond b (past_hashes n (u ++ 34 ∷ hashes n)) None) ≡ false
-    by true k = past_hashes-quote n u (hashes n) k
-    by false k = refl
 
-pub body_empty : (n : ℕ) (t : List ℕ) → IsBody n [] t → ⊥
-body_empty n [] h = let e : [] ≡ 34 ∷ hashes n = h.is in cc
-body_empty n (d ∷ u) h = let e : [] ≡ d ∷ (u ++ 34 ∷ hashes n) = h.is in cc
+pub body_nothing : (n : ℕ) (rest : List ℕ) → rest ≡ [] → (t : List ℕ) → IsBody n rest t → ⊥
+body_nothing n rest is [] h = let e : [] ≡ 34 ∷ hashes n = sym is ∙ h.is in cc
+body_nothing n rest is (d ∷ u) h = let e : [] ≡ d ∷ (u ++ 34 ∷ hashes n) = sym is ∙ h.is in cc
 
-pub body_return : (n c : ℕ) (more : List ℕ) → (c == 13) ≡ true → (t : List ℕ) → IsBody n (c ∷ more) t → ⊥
-body_return n c more r [] h =
-    let e : c ∷ more ≡ 34 ∷ hashes n = h.is in
-    let is : c ≡ 34 = cc in
-    let no : (34 == 13) ≡ true = ap (λ x. x == 13) (sym is) ∙ r in
-    cc no
-body_return n c more r (d ∷ u) h =
-    let e : c ∷ more ≡ d ∷ (u ++ 34 ∷ hashes n) = h.is in
-    let is : c ≡ d = cc in
-    let no : true ≡ false = sym r ∙ ap (λ x. x == 13) is ∙ or_left (d == 13) (list_any is_return u) h.no_return in
+pub body_with_return : (n : ℕ) (rest : List ℕ) (c : ℕ) (more : List ℕ) → rest ≡ c ∷ more → c ≡ 13 → (t : List ℕ) → IsBody n rest t → ⊥
+body_with_return n rest c more is return [] h =
+    let e : c ∷ more ≡ 34 ∷ hashes n = sym is ∙ h.is in
+    let quote : c ≡ 34 = cc in
+    omega arith
+body_with_return n rest c more is return (d ∷ u) h =
+    let e : c ∷ more ≡ d ∷ (u ++ 34 ∷ hashes n) = sym is ∙ h.is in
+    let same : d ≡ 13 = cc in
+    let no : true ≡ false = sym (eq-eqb d 13 same) ∙ or_left (d == 13) (list_any is_return u) h.no_return in
     cc
 
 pub body-one : (n : ℕ) (text other x : List ℕ) → text ++ 34 ∷ hashes n ≡ other ++ 34 ∷ hashes n → text ≡ other
@@ -134,8 +125,7 @@ pub raw_body : (source rest : List ℕ) (count : ℕ) → source ≡ hashes coun
 raw_body source rest count is whole t h =
     let more : source ≡ hashes h.count ++ 34 ∷ h.body = (let e = h.is in cc) in
     let same = count-one h.count count h.body rest (sym more ∙ is) whole in
-    let P : ℕ → Type 0 = λ n. IsBody n h.body t in
-    (h.body, sym same.1, subst P same.0 h.spelled)
+    (h.body, sym same.1, rw same.0 at h.spelled)
 
 raw-one : (source text other : List ℕ) → IsRaw source text → IsRaw source other → text ≡ other
 raw-one source text other h k =
@@ -154,8 +144,7 @@ apart source text other h k =
 pub reads-one : (source text other : List ℕ) → literal_reads source text → literal_reads source other → text ≡ other
 reads-one source text other (inl h) (inl k) =
     let same : h.behind ≡ k.behind = (let e : 34 ∷ h.behind ≡ 34 ∷ k.behind = sym h.is ∙ k.is in cc) in
-    let P : List ℕ → Type 0 = λ s. Inside s other in
-    inside-one h.inside (subst P (sym same) k.inside)
+    inside-one h.inside (rw same k.inside)
 reads-one source text other (inl h) (inr k) = absurd (apart source text other h k)
 reads-one source text other (inr h) (inl k) = absurd (apart source other text k h)
 reads-one source text other (inr h) (inr k) = raw-one source text other h k

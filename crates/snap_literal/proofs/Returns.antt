@@ -1,10 +1,13 @@
 -- Texts without the returns in front of a line's end.
-use Rattle.snap_literal.proofs.Prelude.{◌≡◌, ◌≢◌, ◌==◌, ℕ, List, [], ◌∷◌, ◌++◌, Bool, true, false, ◌&&◌, cond, refl, sym, ap, ◌∙◌, append_assoc, true-eqb, list_any, begins, ends_badly, unreturned, trimmed, normal, is_line_end, IsUnbroken, IsLineThen, before_return, without_returns, or_left, or_right}
+use Rattle.snap_literal.proofs.Prelude.{◌≡◌, ◌≢◌, ◌==◌, ℕ, List, [], ◌∷◌, ◌++◌, Bool, true, false, ◌&&◌, cond, refl, sym, ap, ◌∙◌, append_assoc, list_any, begins, ends_badly, unreturned, trimmed, normal, is_line_end, IsUnbroken, IsLineThen, before_return, without_returns, or_left, or_right, subst, ne_eqb, cond_both, cond-false, and_nothing}
 use Rattle.snap_literal.proofs.Trimming.{trimmed-well, well-trimmed}
 
 -- one step of `unreturned`
 abbrev stepped : ℕ → List ℕ → List ℕ
 stepped c cs = cond (c == 13 && begins 10 cs) cs (c ∷ cs)
+
+unbroken_step : (c : ℕ) (cs : List ℕ) → begins 10 cs ≡ false → stepped c cs ≡ c ∷ cs
+unbroken_step c cs h = cond-false (c == 13 && begins 10 cs) cs (c ∷ cs) (ap (λ e. c == 13 && e) h ∙ and_nothing (c == 13))
 
 -- in front of a line's end: what is left of the line, and whether its returns go on
 line_step : (c : ℕ) (line more : List ℕ) → begins 10 line ≡ false → stepped c (line ++ 10 ∷ more) ≡ before_return c line ++ 10 ∷ more
@@ -13,18 +16,10 @@ line_step c [] more h = by (c == 13)
     by : (b : Bool) → cond (b && true) (10 ∷ more) (c ∷ 10 ∷ more) ≡ cond b [] (c ∷ []) ++ 10 ∷ more
     by true = refl
     by false = refl
-line_step c (d ∷ ds) more h = ap (λ e. cond (c == 13 && e) (d ∷ (ds ++ 10 ∷ more)) (c ∷ d ∷ (ds ++ 10 ∷ more))) h ∙ by (c == 13)
-  where
-    by : (b : Bool) → cond (b && false) (d ∷ (ds ++ 10 ∷ more)) (c ∷ d ∷ (ds ++ 10 ∷ more)) ≡ c ∷ d ∷ (ds ++ 10 ∷ more)
-    by true = refl
-    by false = refl
+line_step c (d ∷ ds) more h = unbroken_step c (d ∷ (ds ++ 10 ∷ more)) h
 
 begins_step : (c : ℕ) (line : List ℕ) → (c == 10) ≡ false → begins 10 (before_return c line) ≡ false
-begins_step c [] h = by (c == 13)
-  where
-    by : (b : Bool) → begins 10 (cond b [] (c ∷ [])) ≡ false
-    by true = refl
-    by false = h
+begins_step c [] h = cond_both (c == 13) [] (c ∷ []) (λ t. begins 10 t ≡ false) (λ _. refl) (λ _. h)
 begins_step c (d ∷ ds) h = h
 
 begins-without : (line : List ℕ) → IsUnbroken line → begins 10 (without_returns line) ≡ false
@@ -40,17 +35,7 @@ unreturned-line (c ∷ line) more h =
 -- the loop over the lines
 pub past_line : (next made rest line more whole : List ℕ) → IsLineThen rest line more → next ≡ made ++ without_returns line ++ 10 ∷ []
     → made ++ unreturned rest ≡ whole → next ++ unreturned more ≡ whole
-past_line next made rest line more whole h is so_far =
-    ap (λ n. n ++ unreturned more) is ∙ append_assoc (made ++ without_returns line) (10 ∷ []) (unreturned more)
-    ∙ append_assoc made (without_returns line) (10 ∷ unreturned more)
-    ∙ ap (λ r. made ++ r) (sym (ap unreturned h.is ∙ unreturned-line line more h.unbroken)) ∙ so_far
-
-unbroken_step : (c : ℕ) (cs : List ℕ) → begins 10 cs ≡ false → stepped c cs ≡ c ∷ cs
-unbroken_step c cs h = ap (λ e. cond (c == 13 && e) cs (c ∷ cs)) h ∙ by (c == 13)
-  where
-    by : (b : Bool) → cond (b && false) cs (c ∷ cs) ≡ c ∷ cs
-    by true = refl
-    by false = refl
+past_line next made rest line more whole h is so_far = rw (is, append_assoc, append_assoc) (rw (h.is, unreturned-line line more h.unbroken) at so_far)
 
 begins-unbroken : (text : List ℕ) → IsUnbroken text → begins 10 text ≡ false
 begins-unbroken [] h = refl
@@ -63,7 +48,7 @@ unreturned-unbroken (c ∷ cs) h =
     ap (stepped c) (unreturned-unbroken cs later) ∙ unbroken_step c cs (begins-unbroken cs later)
 
 -- dropping returns from the end
-before_return-push : (cs : List ℕ) → without_returns (cs ++ 13 ∷ []) ≡ without_returns cs
+pub before_return-push : (cs : List ℕ) → without_returns (cs ++ 13 ∷ []) ≡ without_returns cs
 before_return-push [] = refl
 before_return-push (c ∷ cs) = ap (before_return c) (before_return-push cs)
 
@@ -77,11 +62,7 @@ kept_step (d ∷ []) c h = ap (before_return d) (kept_step [] c h)
 kept_step (d ∷ e ∷ cs) c h = ap (before_return d) (kept_step (e ∷ cs) c h)
 
 pub returns-none : (cs front : List ℕ) (c : ℕ) → cs ≡ front ++ c ∷ [] → c ≢ 13 → without_returns cs ≡ cs
-returns-none cs front c is other = ap without_returns is ∙ kept_step front c (by (c == 13) refl) ∙ sym is
-  where
-    by : (b : Bool) → (c == 13) ≡ b → (c == 13) ≡ false
-    by true same = absurd (other (true-eqb c 13 (sym same)))
-    by false differs = differs
+returns-none cs front c is other = ap without_returns is ∙ kept_step front c (ne_eqb c 13 other) ∙ sym is
 
 -- a text without returns is left as it is
 pub unreturned-free : (text : List ℕ) → list_any (λ c. c == 13) text ≡ false → unreturned text ≡ text
@@ -91,13 +72,11 @@ unreturned-free (c ∷ cs) h =
     ∙ ap (λ b. cond (b && begins 10 cs) cs (c ∷ cs)) (or_left (c == 13) (list_any (λ c. c == 13) cs) h)
 
 -- once the returns are dropped, no more are
-once_step : (c : ℕ) (cs : List ℕ) (drops : Bool) → (c == 13 && begins 10 cs) ≡ drops → unreturned cs ≡ cs → unreturned (cond drops cs (c ∷ cs)) ≡ cond drops cs (c ∷ cs)
-once_step c cs true is h = h
-once_step c cs false is h = ap (stepped c) h ∙ ap (λ b. cond b cs (c ∷ cs)) is
-
 unreturned-once : (text : List ℕ) → unreturned (unreturned text) ≡ unreturned text
 unreturned-once [] = refl
-unreturned-once (c ∷ cs) = once_step c (unreturned cs) (c == 13 && begins 10 (unreturned cs)) refl (unreturned-once cs)
+unreturned-once (c ∷ cs) =
+    let h = unreturned-once cs in
+    cond_both (c == 13 && begins 10 (unreturned cs)) _ _ (λ t. unreturned t ≡ t) (λ _. h) (λ e. ap (stepped c) h ∙ cond-false _ _ _ e)
 
 -- what ends well ends well without returns
 pub record IsFilled (text : List ℕ) : Type 0 where
@@ -106,30 +85,19 @@ pub record IsFilled (text : List ℕ) : Type 0 where
   pub is : text ≡ first ∷ more
 
 filled_step : (c : ℕ) (cs : List ℕ) → IsFilled (stepped c cs)
-filled_step c [] = by (c == 13)
-  where
-    by : (b : Bool) → IsFilled (cond (b && false) [] (c ∷ []))
-    by true = record { first = c; more = []; is = refl }
-    by false = record { first = c; more = []; is = refl }
-filled_step c (d ∷ ds) = by (c == 13 && begins 10 (d ∷ ds))
-  where
-    by : (b : Bool) → IsFilled (cond b (d ∷ ds) (c ∷ d ∷ ds))
-    by true = record { first = d; more = ds; is = refl }
-    by false = record { first = c; more = d ∷ ds; is = refl }
-
-ends_step : (c : ℕ) (cs : List ℕ) (drops : Bool) → IsFilled cs → ends_badly cs ≡ false → ends_badly (cond drops cs (c ∷ cs)) ≡ false
-ends_step c cs true filled h = h
-ends_step c cs false filled h = ap (λ t. ends_badly (c ∷ t)) filled.is ∙ sym (ap ends_badly filled.is) ∙ h
+filled_step c [] = let P : List ℕ → Type 0 = λ t. IsFilled t in subst P (sym (unbroken_step c [] refl)) (record { first = c; more = []; is = refl })
+filled_step c (d ∷ ds) =
+    cond_both (c == 13 && begins 10 (d ∷ ds)) (d ∷ ds) (c ∷ d ∷ ds) IsFilled (λ _. record { first = d; more = ds; is = refl })
+    (λ _. record { first = c; more = d ∷ ds; is = refl })
 
 pub ends-unreturned : (text : List ℕ) → ends_badly text ≡ false → ends_badly (unreturned text) ≡ false
 ends-unreturned [] h = refl
-ends-unreturned (c ∷ []) h = by (c == 13)
-  where
-    by : (b : Bool) → ends_badly (cond (b && false) [] (c ∷ [])) ≡ false
-    by true = h
-    by false = h
+ends-unreturned (c ∷ []) h = ap ends_badly (unbroken_step c [] refl) ∙ h
 ends-unreturned (c ∷ d ∷ cs) h =
-    ends_step c (unreturned (d ∷ cs)) (c == 13 && begins 10 (unreturned (d ∷ cs))) (filled_step d (unreturned cs)) (ends-unreturned (d ∷ cs) h)
+    let filled = filled_step d (unreturned cs) in
+    let later = ends-unreturned (d ∷ cs) h in
+    cond_both (c == 13 && begins 10 (unreturned (d ∷ cs))) _ _ (λ t. ends_badly t ≡ false) (λ _. later)
+    (λ _. ap (λ t. ends_badly (c ∷ t)) filled.is ∙ sym (ap ends_badly filled.is) ∙ later)
 
 pub normal-once : (text : List ℕ) → normal (normal text) ≡ normal text
 normal-once text =

@@ -1,21 +1,12 @@
 -- Texts without the white space at their end.
-use Rattle.snap_literal.proofs.Prelude.{◌≡◌, ◌==◌, ℕ, List, [], ◌∷◌, ◌++◌, Bool, true, false, ◌&&◌, cond, length, refl, sym, ap, ◌∙◌, arith, is_whitespace, drop_trailing_whitespace, trim_end, chars, IsUtf8, nat_tests, chars_from_encodes, ends_badly, before_trimmed, trimmed}
+use Rattle.snap_literal.proofs.Prelude.{◌≡◌, ◌==◌, ℕ, List, [], ◌∷◌, ◌++◌, true, false, ◌&&◌, cond, length, refl, sym, ap, ◌∙◌, arith, is_whitespace, drop_trailing_whitespace, trim_end, chars, IsUtf8, nat_tests, chars_from_encodes, ends_badly, before_trimmed, trimmed, and-true, and_nothing, cond_both}
 
 -- what std leaves of a text is its trimmed form
 same_step : (c : ℕ) (cs : List ℕ) → cond (is_whitespace c && length cs == 0) [] (c ∷ cs) ≡ before_trimmed c cs
-same_step c [] = by (is_whitespace c)
-  where
-    by : (b : Bool) → cond (b && true) [] (c ∷ []) ≡ cond b [] (c ∷ [])
-    by true = refl
-    by false = refl
-same_step c (d ∷ ds) = by (is_whitespace c)
-  where
-    more : (length (d ∷ ds) == 0) ≡ false
-    more = grind (arith, nat_tests)
-
-    by : (b : Bool) → cond (b && (length (d ∷ ds) == 0)) [] (c ∷ d ∷ ds) ≡ c ∷ d ∷ ds
-    by true = ap (λ e. cond e [] (c ∷ d ∷ ds)) more
-    by false = refl
+same_step c [] = ap (λ b. cond b [] (c ∷ [])) (and-true (is_whitespace c))
+same_step c (d ∷ ds) =
+    let more : (length (d ∷ ds) == 0) ≡ false = grind (arith, nat_tests) in
+    ap (λ b. cond b [] (c ∷ d ∷ ds)) (ap (λ b. is_whitespace c && b) more ∙ and_nothing (is_whitespace c))
 
 same_trim : (cs : List ℕ) → drop_trailing_whitespace cs ≡ trimmed cs
 same_trim [] = refl
@@ -33,11 +24,7 @@ trimmed-well (c ∷ []) h = ap (λ b. cond b [] (c ∷ [])) h
 trimmed-well (c ∷ d ∷ cs) h = ap (before_trimmed c) (trimmed-well (d ∷ cs) h)
 
 well_step : (c : ℕ) (cs : List ℕ) → ends_badly cs ≡ false → ends_badly (before_trimmed c cs) ≡ false
-well_step c [] h = by (is_whitespace c) refl
-  where
-    by : (b : Bool) → is_whitespace c ≡ b → ends_badly (cond b [] (c ∷ [])) ≡ false
-    by true is = refl
-    by false is = is
+well_step c [] h = cond_both (is_whitespace c) [] (c ∷ []) (λ t. ends_badly t ≡ false) (λ _. refl) (λ e. e)
 well_step c (d ∷ ds) h = h
 
 pub well-trimmed : (cs : List ℕ) → ends_badly (trimmed cs) ≡ false

@@ -1,5 +1,6 @@
 -- Lines whose last is not empty and ends well, and their text.
-use Rattle.snap_literal.proofs.Prelude.{◌≡◌, ◌==◌, ℕ, List, [], ◌∷◌, ◌++◌, Bool, true, false, cond, refl, sym, ap, ◌∙◌, append_assoc, append-nil, true-eqb, subst, list_any, flat_map, is_whitespace, ends_badly, or_left, or_right, is_return, line_parts, lines-line, lines-unbroken, onto, lines, without_return, is_line_end, or_from}
+use Rattle.snap_literal.proofs.Prelude.{◌≡◌, ◌==◌, ℕ, List, [], ◌∷◌, ◌++◌, Bool, true, false, cond, refl, sym, ap, ◌∙◌, append_assoc, append-nil, true-eqb, subst, list_any, flat_map, is_whitespace, ends_badly, or_left, or_right, is_return, line_parts, lines-line, lines-unbroken, onto, lines, without_return, is_line_end}
+use Rattle.snap_literal.proofs.Free.{AreFree, unbroken-parts, free-pieces}
 
 pub record IsWell (text : List ℕ) : Type 0 where
   pub first : ℕ
@@ -36,17 +37,10 @@ well-pieces c (d ∷ ds) h = well_put c (line_parts (d ∷ ds)) (c == 10) (well-
 
 -- lines without line ends and returns
 abbrev pub AreClean : List (List ℕ) → Type 0
-AreClean [] = Unit {0}
-AreClean (line ∷ rest) = (list_any is_line_end line ≡ false) × (list_any is_return line ≡ false) × AreClean rest
-
-clean_put : (c : ℕ) (ls : List (List ℕ)) (b : Bool) → (c == 10) ≡ b → is_return c ≡ false → AreClean ls → AreClean (cond b ([] ∷ ls) (onto c ls))
-clean_put c ls true e r h = (refl, refl, h)
-clean_put c [] false e r h = (or_from (c == 10) false e refl, or_from (c == 13) false r refl, tt)
-clean_put c (l ∷ ls) false e r h = (or_from (c == 10) (list_any is_line_end l) e h.0, or_from (c == 13) (list_any is_return l) r h.1, h.2)
+AreClean ls = AreFree is_line_end ls × AreFree is_return ls
 
 pub clean-pieces : (text : List ℕ) → list_any is_return text ≡ false → AreClean (line_parts text)
-clean-pieces [] h = (refl, refl, tt)
-clean-pieces (c ∷ cs) h = clean_put c (line_parts cs) (c == 10) refl (or_left (c == 13) (list_any is_return cs) h) (clean-pieces cs (or_right (c == 13) (list_any is_return cs) h))
+clean-pieces text h = (unbroken-parts text, free-pieces is_return text h)
 
 -- the text of lines
 abbrev pub behind : List ℕ → List ℕ
@@ -95,10 +89,10 @@ lines_well line h w =
 -- the lines of a text of lines
 pub lines-whole : (ls : List (List ℕ)) → AreClean ls → EndsWell ls → lines (whole ls) ≡ ls
 lines-whole [] c h = refl
-lines-whole (l ∷ []) c h = ap lines (append-nil l) ∙ lines_well l c.0 h
-lines-whole (l ∷ m ∷ ls) c h = clean_line l (whole (m ∷ ls)) c.0 c.1 ∙ ap (λ r. l ∷ r) (lines-whole (m ∷ ls) c.2 h)
+lines-whole (l ∷ []) c h = ap lines (append-nil l) ∙ lines_well l c.0.0 h
+lines-whole (l ∷ m ∷ ls) c h = clean_line l (whole (m ∷ ls)) c.0.0 c.1.0 ∙ ap (λ r. l ∷ r) (lines-whole (m ∷ ls) (c.0.1, c.1.1) h)
 
 pub lines-more : (l : List ℕ) (ls : List (List ℕ)) (end : List ℕ) → AreClean (l ∷ ls) → lines (whole (l ∷ ls) ++ 10 ∷ end) ≡ (l ∷ ls) ++ lines end
-lines-more l [] end c = ap (λ t. lines (t ++ 10 ∷ end)) (append-nil l) ∙ clean_line l end c.0 c.1
+lines-more l [] end c = ap (λ t. lines (t ++ 10 ∷ end)) (append-nil l) ∙ clean_line l end c.0.0 c.1.0
 lines-more l (m ∷ ls) end c =
-    ap lines (append_assoc l (10 ∷ whole (m ∷ ls)) (10 ∷ end)) ∙ clean_line l (whole (m ∷ ls) ++ 10 ∷ end) c.0 c.1 ∙ ap (λ r. l ∷ r) (lines-more m ls end c.2)
+    ap lines (append_assoc l (10 ∷ whole (m ∷ ls)) (10 ∷ end)) ∙ clean_line l (whole (m ∷ ls) ++ 10 ∷ end) c.0.0 c.1.0 ∙ ap (λ r. l ∷ r) (lines-more m ls end (c.0.1, c.1.1))

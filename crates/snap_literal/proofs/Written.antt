@@ -1,37 +1,20 @@
 -- The normal form of an inline text, line by line of its trimmed text.
-use Rattle.snap_literal.proofs.Prelude.{◌≡◌, ◌==◌, ℕ, zero, suc, ◌-◌, ◌≤◌, List, [], ◌∷◌, ◌++◌, Bool, true, false, ◌||◌, ◌&&◌, not, cond, length, nat_lt, refl, sym, ap, ◌∙◌, arith, append_assoc, append-nil, subst, inl, inr, ◌⊎◌, or_parts, eqb-true, ltb-false, is_whitespace, len_utf8, list_any, list_all, flat_map, ends_badly, Lacks, onto, lines, without_return, begins_line_end, lines-line, lines-unbroken, lead, shortest, indentation_of, from_byte, behind_end, joined_from, is_short, inline_normal, inline_width, written_lines, written, IsUnbroken, IsLineThen, without_returns, before_return, before_trimmed, trimmed, unreturned, normal, is_indent, line_parts, both_second, both_first}
-use Rattle.snap_literal.proofs.Free.{any-append}
-use Rattle.snap_literal.proofs.Leads.{from_byte-zero, trimmed-space, blank_space, blank_width, not_none, not_inside, filled}
+use Rattle.snap_literal.proofs.Prelude.{◌≡◌, ◌==◌, ℕ, zero, suc, ◌-◌, ◌≤◌, List, [], ◌∷◌, ◌++◌, Bool, true, false, ◌||◌, ◌&&◌, not, cond, length, nat_lt, refl, sym, ap, ◌∙◌, arith, append_assoc, append-nil, subst, inl, inr, ◌⊎◌, or_parts, eqb-true, ltb-false, is_whitespace, len_utf8, list_any, list_all, flat_map, ends_badly, Lacks, onto, lines, without_return, begins_line_end, lines-line, lines-unbroken, lead, shortest, indentation_of, from_byte, behind_end, joined_from, is_short, inline_normal, inline_width, written_lines, written, IsUnbroken, IsLineThen, without_returns, before_return, before_trimmed, trimmed, unreturned, normal, is_indent, line_parts, both_second, both_first, cond_both, or_left, or_right, list_any-append, list_all-append, is_line_end}
+use Rattle.snap_literal.proofs.Free.{AreFree, any-append, blank_char, unbroken-parts}
+use Rattle.snap_literal.proofs.Leads.{from_byte-zero, from_byte-either, cut-indent, trimmed-space, filled}
 use Rattle.snap_literal.proofs.LineParts.{pieces-line, pieces-unbroken}
-use Rattle.snap_literal.proofs.Returns.{unreturned-line, unreturned-unbroken}
+use Rattle.snap_literal.proofs.Returns.{before_return-push, unreturned-line, unreturned-unbroken}
 use Rattle.snap_literal.proofs.Trimming.{trimmed-well, well-trimmed, trimmed-behind}
 use Rattle.snap_literal.proofs.WellEnded.{IsWell, EndsWell, whole, well-pieces, some-pieces, whole-pieces}
 
 pub written-line : (byte : ℕ) (text line more : List ℕ) → IsLineThen text line more → written byte text ≡ without_returns (from_byte byte line) ++ 10 ∷ written byte more
-written-line byte text line more h =
-    let s = some-pieces more in
-    ap (written_lines byte) (ap line_parts h.is ∙ pieces-line line more h.unbroken) ∙ ap (λ r. written_lines byte (line ∷ r)) s.2
-    ∙ ap (λ r. without_returns (from_byte byte line) ++ 10 ∷ written_lines byte r) (sym s.2)
+written-line byte text line more h = let s = some-pieces more in rw (h.is, pieces-line line more h.unbroken, s.2)
 
 pub written-last : (byte : ℕ) (text : List ℕ) → IsUnbroken text → written byte text ≡ from_byte byte text
 written-last byte text h = ap (written_lines byte) (pieces-unbroken text h)
 
--- lines that hold no line end
-abbrev AreUnbroken : List (List ℕ) → Type 0
-AreUnbroken [] = Unit {0}
-AreUnbroken (line ∷ rest) = Lacks 10 line × AreUnbroken rest
-
-unbroken_put : (c : ℕ) (ls : List (List ℕ)) (b : Bool) → (c == 10) ≡ b → AreUnbroken ls → AreUnbroken (cond b ([] ∷ ls) (onto c ls))
-unbroken_put c ls true e h = (refl, h)
-unbroken_put c [] false e h = (ap (λ b. b || false) e, tt)
-unbroken_put c (l ∷ ls) false e h = (ap (λ b. b || list_any (λ d. d == 10) l) e ∙ h.0, h.1)
-
-unbroken-parts : (text : List ℕ) → AreUnbroken (line_parts text)
-unbroken-parts [] = (refl, tt)
-unbroken-parts (c ∷ cs) = unbroken_put c (line_parts cs) (c == 10) refl (unbroken-parts cs)
-
 -- from byte 0 on, nothing but the returns is left out
-lines-zero : (ls : List (List ℕ)) → AreUnbroken ls → written_lines 0 ls ≡ unreturned (whole ls)
+lines-zero : (ls : List (List ℕ)) → AreFree is_line_end ls → written_lines 0 ls ≡ unreturned (whole ls)
 lines-zero [] h = refl
 lines-zero (l ∷ []) h = from_byte-zero l ∙ sym (ap unreturned (append-nil l) ∙ unreturned-unbroken l h.0)
 lines-zero (l ∷ m ∷ ls) h =
@@ -45,33 +28,21 @@ written-zero text = lines-zero (line_parts text) (unbroken-parts text) ∙ ap un
 abbrev IsSameBut : List ℕ → List ℕ → Type 0
 IsSameBut long short = without_returns long ≡ without_returns short
 
-returned : (cs : List ℕ) → without_returns (cs ++ 13 ∷ []) ≡ without_returns cs
-returned [] = refl
-returned (c ∷ cs) = ap (before_return c) (returned cs)
-
 cut-return : (n : ℕ) (cs : List ℕ) → IsSameBut (from_byte n (cs ++ 13 ∷ [])) (from_byte n cs)
-cut-return n [] = by (n == 0) (nat_lt n 1)
-  where
-    by : (a b : Bool) → without_returns (cond a (13 ∷ []) (cond b [] [])) ≡ []
-    by true b = refl
-    by false true = refl
-    by false false = refl
+cut-return n [] = from_byte-either (λ t. without_returns t ≡ []) n 13 [] refl refl refl
 cut-return n (c ∷ cs) = by (n == 0) (nat_lt n (len_utf8 c)) (cut-return (n - len_utf8 c) cs)
   where
     by : (a b : Bool) → IsSameBut (from_byte (n - len_utf8 c) (cs ++ 13 ∷ [])) (from_byte (n - len_utf8 c) cs)
         → IsSameBut (cond a (c ∷ (cs ++ 13 ∷ [])) (cond b [] (from_byte (n - len_utf8 c) (cs ++ 13 ∷ [])))) (cond a (c ∷ cs) (cond b [] (from_byte (n - len_utf8 c) cs)))
-    by true b h = ap (before_return c) (returned cs)
+    by true b h = ap (before_return c) (before_return-push cs)
     by false true h = refl
     by false false h = h
 
 -- a line loses nothing, or one return
 chop-cases : (P : List ℕ → List ℕ → Type 0) → ((cs : List ℕ) → P cs cs) → ((cs : List ℕ) → P (cs ++ 13 ∷ []) cs) → (line : List ℕ) → P line (without_return line)
 chop-cases P same less [] = same []
-chop-cases P same less (c ∷ []) = by (c == 13) refl
-  where
-    by : (b : Bool) → (c == 13) ≡ b → P (c ∷ []) (cond b [] (c ∷ []))
-    by true e = let is : 13 ≡ c = sym (eqb-true c 13 e) in subst (λ d. P (d ∷ []) []) is (less [])
-    by false e = same (c ∷ [])
+chop-cases P same less (c ∷ []) =
+    cond_both (c == 13) [] (c ∷ []) (P (c ∷ [])) (λ e. let is : 13 ≡ c = sym (eqb-true c 13 e) in subst (λ d. P (d ∷ []) []) is (less [])) (λ _. same (c ∷ []))
 chop-cases P same less (c ∷ d ∷ ds) = chop-cases (λ long short. P (c ∷ long) (c ∷ short)) (λ cs. same (c ∷ cs)) (λ cs. less (c ∷ cs)) (d ∷ ds)
 
 cut-chopped : (n : ℕ) (line : List ℕ) → IsSameBut (from_byte n line) (from_byte n (without_return line))
@@ -80,29 +51,19 @@ cut-chopped n = chop-cases (λ long short. IsSameBut (from_byte n long) (from_by
 -- what is cut holds no line end where the line holds none
 cut-lacks : (n : ℕ) (line : List ℕ) → Lacks 10 line → Lacks 10 (from_byte n line)
 cut-lacks n [] h = refl
-cut-lacks n (c ∷ cs) h = by (n == 0) (nat_lt n (len_utf8 c)) (cut-lacks (n - len_utf8 c) cs (or_parts (c == 10) (list_any (λ d. d == 10) cs) h).1)
-  where
-    by : (a b : Bool) → Lacks 10 (from_byte (n - len_utf8 c) cs) → Lacks 10 (cond a (c ∷ cs) (cond b [] (from_byte (n - len_utf8 c) cs)))
-    by true b k = h
-    by false true k = refl
-    by false false k = k
+cut-lacks n (c ∷ cs) h =
+    from_byte-either (Lacks 10) n c cs h refl (cut-lacks (n - len_utf8 c) cs (or_parts (c == 10) (list_any (λ d. d == 10) cs) h).1)
 
 chop-lacks : (line : List ℕ) → Lacks 10 line → Lacks 10 (without_return line)
-chop-lacks = chop-cases (λ long short. Lacks 10 long → Lacks 10 short) (λ cs h. h) front
-  where
-    front : (cs : List ℕ) → Lacks 10 (cs ++ 13 ∷ []) → Lacks 10 cs
-    front [] h = refl
-    front (c ∷ cs) h = let p = or_parts (c == 10) (list_any (λ d. d == 10) (cs ++ 13 ∷ [])) h in ap (λ b. b || list_any (λ d. d == 10) cs) p.0 ∙ front cs p.1
+chop-lacks =
+    let is_end : ℕ → Bool = λ d. d == 10 in
+    chop-cases (λ long short. Lacks 10 long → Lacks 10 short) (λ cs h. h) (λ cs h. or_left (list_any is_end cs) _ (sym (list_any-append is_end cs (13 ∷ [])) ∙ h))
 
 -- white space stays white space, wherever it is cut
 white-cut : (n : ℕ) (cs : List ℕ) → list_all is_whitespace cs ≡ true → list_all is_whitespace (from_byte n cs) ≡ true
 white-cut n [] h = refl
-white-cut n (c ∷ cs) h = by (n == 0) (nat_lt n (len_utf8 c)) (white-cut (n - len_utf8 c) cs (both_second (is_whitespace c) (list_all is_whitespace cs) h))
-  where
-    by : (a b : Bool) → list_all is_whitespace (from_byte (n - len_utf8 c) cs) ≡ true → list_all is_whitespace (cond a (c ∷ cs) (cond b [] (from_byte (n - len_utf8 c) cs))) ≡ true
-    by true b k = h
-    by false true k = refl
-    by false false k = k
+white-cut n (c ∷ cs) h =
+    from_byte-either (λ t. list_all is_whitespace t ≡ true) n c cs h refl (white-cut (n - len_utf8 c) cs (both_second (is_whitespace c) (list_all is_whitespace cs) h))
 
 abbrev AreWhite : List (List ℕ) → Type 0
 AreWhite [] = Unit {0}
@@ -112,34 +73,19 @@ white_onto : (c : ℕ) (ls : List (List ℕ)) → is_whitespace c ≡ true → A
 white_onto c [] h k = (ap (λ b. b && true) h, tt)
 white_onto c (l ∷ ls) h k = (ap (λ b. b && list_all is_whitespace l) h ∙ k.0, k.1)
 
-white_put : (c : ℕ) (ls : List (List ℕ)) (a b : Bool) → is_whitespace c ≡ true → AreWhite ls → AreWhite (cond a ([] ∷ ls) (cond b ls (onto c ls)))
-white_put c ls true b h k = (refl, k)
-white_put c ls false true h k = k
-white_put c ls false false h k = white_onto c ls h k
-
 white-lines : (cs : List ℕ) → list_all is_whitespace cs ≡ true → AreWhite (lines cs)
 white-lines [] h = tt
-white-lines (c ∷ cs) h = white_put c (lines cs) (c == 10) (c == 13 && begins_line_end cs) (both_first (is_whitespace c) (list_all is_whitespace cs) h) (white-lines cs (both_second (is_whitespace c) (list_all is_whitespace cs) h))
+white-lines (c ∷ cs) h =
+    let later = white-lines cs (both_second (is_whitespace c) (list_all is_whitespace cs) h) in
+    cond_both (c == 10) _ _ AreWhite (λ _. (refl, later)) (λ _. cond_both (c == 13 && begins_line_end cs) _ _ AreWhite (λ _. later)
+    (λ _. white_onto c (lines cs) (both_first (is_whitespace c) (list_all is_whitespace cs) h) later))
 
 white-append : (xs ys : List ℕ) → list_all is_whitespace xs ≡ true → list_all is_whitespace ys ≡ true → list_all is_whitespace (xs ++ ys) ≡ true
-white-append [] ys h k = k
-white-append (x ∷ xs) ys h k =
-    ap (λ b. b && list_all is_whitespace (xs ++ ys)) (both_first (is_whitespace x) (list_all is_whitespace xs) h) ∙ white-append xs ys (both_second (is_whitespace x) (list_all is_whitespace xs) h) k
+white-append xs ys h k = rw (list_all-append is_whitespace xs ys, h, k)
 
 white-joined : (n : ℕ) (ls : List (List ℕ)) → AreWhite ls → list_all is_whitespace (flat_map (behind_end n) ls) ≡ true
 white-joined n [] h = refl
 white-joined n (l ∷ ls) h = white-append (10 ∷ from_byte n l) (flat_map (behind_end n) ls) (white-cut n l h.0) (white-joined n ls h.1)
-
--- a blank or a tab takes one byte, and is white space
-indent_white : (c : ℕ) → is_indent c ≡ true → is_whitespace c ≡ true
-indent_white c h = blank_space c (c == 32) (c == 9) refl refl h
-
-cut-indent : (n c : ℕ) (cs : List ℕ) → is_indent c ≡ true → from_byte (suc n) (c ∷ cs) ≡ from_byte n cs
-cut-indent n c cs h =
-    let w = blank_width c (c == 32) (c == 9) refl refl h in
-    let left : suc n - len_utf8 c ≡ n = omega (arith, w) in
-    ap (λ b. cond b (c ∷ cs) (cond (nat_lt (suc n) (len_utf8 c)) [] (from_byte (suc n - len_utf8 c) cs))) (not_none n)
-    ∙ ap (λ b. cond b [] (from_byte (suc n - len_utf8 c) cs)) (not_inside n (len_utf8 c) w) ∙ ap (λ k. from_byte k cs) left
 
 -- a line whose lead has so many bytes is cut within it
 record CutsWell (n : ℕ) (line : List ℕ) : Type 0 where
@@ -152,7 +98,7 @@ cut-well (suc n) [] le w = absurd (omega (arith, le))
 cut-well (suc n) (c ∷ []) le w = absurd (alone (is_indent c) refl)
   where
     alone : (b : Bool) → is_indent c ≡ b → ⊥
-    alone true e = let h : ends_badly (c ∷ []) ≡ false = w.well in let k : true ≡ false = sym (indent_white c e) ∙ h in cc k
+    alone true e = let h : ends_badly (c ∷ []) ≡ false = w.well in let k : true ≡ false = sym (blank_char is_whitespace true c e refl refl) ∙ h in cc k
     alone false e = omega (arith, le, ap (λ b. length (cond b (c ∷ []) [])) e)
 cut-well (suc n) (c ∷ d ∷ ds) le w = by (is_indent c) refl (λ k. cut-well n (d ∷ ds) k (record { first = d; more = ds; is = refl; well = w.well }))
   where
@@ -174,19 +120,14 @@ last_of (line ∷ next ∷ rest) = last_of (next ∷ rest)
 least-last : (found : Bool) (best : List ℕ) (ls : List (List ℕ)) → EndsWell ls → length (shortest found best ls) ≤ length (lead (last_of ls))
 least-last found best [] w = absurd w
 least-last found best ([] ∷ []) w = let e = w.is in absurd (cc e)
-least-last found best ((c ∷ cs) ∷ []) w = by found (nat_lt (length (lead (c ∷ cs))) (length best)) refl
-  where
-    by : (f b : Bool) → nat_lt (length (lead (c ∷ cs))) (length best) ≡ b → length (cond (not f || b) (lead (c ∷ cs)) best) ≤ length (lead (c ∷ cs))
-    by false b e = omega arith
-    by true true e = omega arith
-    by true false e = ltb-false _ _ e
+least-last found best ((c ∷ cs) ∷ []) w =
+    let here : List ℕ = lead (c ∷ cs) in
+    cond_both (not found || nat_lt (length here) (length best)) here best (λ t. length t ≤ length here) (λ _. omega arith)
+    (λ e. ltb-false _ _ (or_right (not found) _ e))
 least-last found best ([] ∷ m ∷ ls) w = least-last found best (m ∷ ls) w
-least-last found best ((c ∷ cs) ∷ m ∷ ls) w = by (not found || nat_lt (length (lead (c ∷ cs))) (length best)) (least-last true (lead (c ∷ cs)) (m ∷ ls) w) (least-last found best (m ∷ ls) w)
-  where
-    by : (b : Bool) → length (shortest true (lead (c ∷ cs)) (m ∷ ls)) ≤ length (lead (last_of (m ∷ ls))) → length (shortest found best (m ∷ ls)) ≤ length (lead (last_of (m ∷ ls)))
-        → length (cond b (shortest true (lead (c ∷ cs)) (m ∷ ls)) (shortest found best (m ∷ ls))) ≤ length (lead (last_of (m ∷ ls)))
-    by true h k = h
-    by false h k = k
+least-last found best ((c ∷ cs) ∷ m ∷ ls) w =
+    cond_both (not found || nat_lt (length (lead (c ∷ cs))) (length best)) _ _ (λ t. length t ≤ length (lead (last_of (m ∷ ls))))
+    (λ _. least-last true (lead (c ∷ cs)) (m ∷ ls) w) (λ _. least-last found best (m ∷ ls) w)
 
 -- white space behind the last line
 first_end : (ws : List ℕ) → Lacks 10 ws ⊎ ((before : List ℕ) × (after : List ℕ) × (ws ≡ before ++ 10 ∷ after) × Lacks 10 before)
@@ -204,27 +145,16 @@ first_end (c ∷ cs) = by (c == 10) refl (first_end cs)
     by false e more = on e more
 
 white-back : (before after : List ℕ) → list_all is_whitespace (before ++ 10 ∷ after) ≡ true → (list_all is_whitespace before ≡ true) × (list_all is_whitespace after ≡ true)
-white-back [] after h = (refl, h)
-white-back (c ∷ before) after h =
-    let more = white-back before after (both_second (is_whitespace c) (list_all is_whitespace (before ++ 10 ∷ after)) h) in
-    (ap (λ b. b && list_all is_whitespace before) (both_first (is_whitespace c) (list_all is_whitespace (before ++ 10 ∷ after)) h) ∙ more.0, more.1)
-
-white-front : (cs : List ℕ) → list_all is_whitespace (cs ++ 13 ∷ []) ≡ true → list_all is_whitespace cs ≡ true
-white-front [] h = refl
-white-front (c ∷ cs) h =
-    ap (λ b. b && list_all is_whitespace cs) (both_first (is_whitespace c) (list_all is_whitespace (cs ++ 13 ∷ [])) h)
-    ∙ white-front cs (both_second (is_whitespace c) (list_all is_whitespace (cs ++ 13 ∷ [])) h)
+white-back before after h = let both = sym (list_all-append is_whitespace before (10 ∷ after)) ∙ h in (both_first _ _ both, both_second _ _ both)
 
 white-chop : (line : List ℕ) → list_all is_whitespace line ≡ true → list_all is_whitespace (without_return line) ≡ true
-white-chop = chop-cases (λ long short. list_all is_whitespace long ≡ true → list_all is_whitespace short ≡ true) (λ cs h. h) white-front
+white-chop = chop-cases (λ long short. list_all is_whitespace long ≡ true → list_all is_whitespace short ≡ true) (λ cs h. h)
+    (λ cs h. both_first (list_all is_whitespace cs) _ (sym (list_all-append is_whitespace cs (13 ∷ [])) ∙ h))
 
 well-chop : (line : List ℕ) → ends_badly line ≡ false → without_return line ≡ line
 well-chop [] h = refl
-well-chop (c ∷ []) h = by (c == 13) refl
-  where
-    by : (b : Bool) → (c == 13) ≡ b → cond b [] (c ∷ []) ≡ c ∷ []
-    by true e = let wrong : true ≡ false = sym (ap is_whitespace (eqb-true c 13 e)) ∙ h in absurd (cc wrong)
-    by false e = refl
+well-chop (c ∷ []) h =
+    cond_both (c == 13) [] (c ∷ []) (λ t. t ≡ c ∷ []) (λ e. let wrong : true ≡ false = sym (ap is_whitespace (eqb-true c 13 e)) ∙ h in absurd (cc wrong)) (λ _. refl)
 well-chop (c ∷ d ∷ ds) h = ap (λ t. c ∷ t) (well-chop (d ∷ ds) h)
 
 chop-behind : (line : List ℕ) (d : ℕ) (ds : List ℕ) → without_return (line ++ d ∷ ds) ≡ line ++ without_return (d ∷ ds)
@@ -314,7 +244,7 @@ reached_line n line next ls parts none r =
           ∙ ap (λ t. t ++ 10 ∷ unreturned (r.first ∷ r.more)) (sym (cut-chopped n line)) ∙ ap (λ t. without_returns (from_byte n line) ++ 10 ∷ t) r.same;
     }
 
-reached : (n : ℕ) (ls : List (List ℕ)) (ws : List ℕ) → AreUnbroken ls → EndsWell ls → list_all is_whitespace ws ≡ true → n ≤ length (lead (last_of ls)) → IsReached n (lines (whole ls ++ ws)) ls
+reached : (n : ℕ) (ls : List (List ℕ)) (ws : List ℕ) → AreFree is_line_end ls → EndsWell ls → list_all is_whitespace ws ≡ true → n ≤ length (lead (last_of ls)) → IsReached n (lines (whole ls ++ ws)) ls
 reached n [] ws u w h le = absurd w
 reached n (l ∷ []) ws u w h le =
     subst (λ t. IsReached n (lines (t ++ ws)) (l ∷ [])) (sym (append-nil l)) (reached_last n l (lines (l ++ ws)) (last_lines l ws w u.0 h) le w u.0)
@@ -332,7 +262,7 @@ alike_line : (x line next : List ℕ) (ls parts : List (List ℕ)) → EndsAlike
 alike_line x line next [] parts a = absurd a.well
 alike_line x line next (l ∷ ls) parts a = record { well = a.well; last = a.last }
 
-alike : (ls : List (List ℕ)) → AreUnbroken ls → EndsWell ls → EndsAlike (lines (whole ls)) ls
+alike : (ls : List (List ℕ)) → AreFree is_line_end ls → EndsWell ls → EndsAlike (lines (whole ls)) ls
 alike [] u w = absurd w
 alike (l ∷ []) u w =
     let lines_are : lines (whole (l ∷ [])) ≡ l ∷ [] =
@@ -346,13 +276,10 @@ trimmed-then : (text : List ℕ) → (ws : List ℕ) × (text ≡ trimmed text +
 trimmed-then [] = ([], refl, refl)
 trimmed-then (c ∷ cs) = let (ws, is, white) = trimmed-then cs in by (trimmed cs) ws is white
   where
-    one : (b : Bool) (ws : List ℕ) → is_whitespace c ≡ b → cs ≡ ws → list_all is_whitespace ws ≡ true
-        → (end : List ℕ) × (c ∷ cs ≡ cond b [] (c ∷ []) ++ end) × (list_all is_whitespace end ≡ true)
-    one true ws e is white = (c ∷ cs, refl, ap (λ b. b && list_all is_whitespace cs) e ∙ ap (list_all is_whitespace) is ∙ white)
-    one false ws e is white = (ws, ap (λ t. c ∷ t) is, white)
-
     by : (t ws : List ℕ) → cs ≡ t ++ ws → list_all is_whitespace ws ≡ true → (end : List ℕ) × (c ∷ cs ≡ before_trimmed c t ++ end) × (list_all is_whitespace end ≡ true)
-    by [] ws is white = one (is_whitespace c) ws refl is white
+    by [] ws is white =
+        cond_both (is_whitespace c) [] (c ∷ []) (λ t. (end : List ℕ) × (c ∷ cs ≡ t ++ end) × (list_all is_whitespace end ≡ true))
+        (λ e. (c ∷ cs, refl, ap (λ b. b && list_all is_whitespace cs) e ∙ ap (list_all is_whitespace) is ∙ white)) (λ _. (ws, ap (λ t. c ∷ t) is, white))
     by (d ∷ ds) ws is white = (ws, ap (λ t. c ∷ t) is, white)
 
 -- a text of several lines
@@ -362,7 +289,7 @@ stretched raw [] trim well long = absurd (cc)
 stretched raw (c ∷ cs) trim well long =
     let t : List ℕ = c ∷ cs in
     let parts : List (List ℕ) = line_parts t in
-    let unbroken : AreUnbroken parts = unbroken-parts t in
+    let unbroken : AreFree is_line_end parts = unbroken-parts t in
     let ends : EndsWell parts = well-pieces c cs well in
     let whole_is : whole parts ≡ t = whole-pieces t in
     let n : ℕ = length (shortest false [] (lines t)) in

@@ -1,5 +1,5 @@
 -- What begins at a place begins with its sign.
-use Rattle.snap_scan.proofs.Prelude.{◌≡◌, ◌≢◌, ℕ, Bool, true, false, refl, subst, sym, slice_index, if◌then◌else◌, ◌==◌, ◌&&◌, ◌∙◌, arith, eqb-true, Place, explains, is_document_start, is_document_end, ScanInfo, TokenKind, Begins, is_alone, is_value, kind_of, kind_of_sign, both_second}
+use Rattle.snap_scan.proofs.Prelude.{◌≡◌, ◌≢◌, ℕ, Bool, true, false, refl, subst, sym, slice_index, if◌then◌else◌, ◌==◌, ◌&&◌, ◌∙◌, arith, eqb-true, Place, explains, is_document_start, is_document_end, ScanInfo, TokenKind, Begins, is_alone, is_value, kind_of, kind_of_sign, both_second, eqb-false}
 use Rattle.snap_token.specs.declared.info.ScanInfo.TheVariants as i
 use Rattle.snap_scan.specs.declared.kind.TokenKind.TheVariants as k
 
@@ -45,9 +45,6 @@ first-of true true c d e all = refl
 first-of true false c d e all = absurd (cc)
 first-of false b c d e all = absurd (cc)
 
-not-zero : (c : ℕ) → (c == 0) ≡ false → c ≢ 0
-not-zero c some none = let P : ℕ → Type 0 = λ m. (m == 0) ≡ false in let false_is : (0 == 0) ≡ false = subst P none some in absurd (cc)
-
 pub kind-begins : (flow : Bool) (adjacent : ℕ) (p : Place) → Begins (kind_of flow adjacent p) (slice_index p.left 0)
 kind-begins flow adjacent p =
     let c = slice_index p.left 0 in
@@ -55,4 +52,4 @@ kind-begins flow adjacent p =
     pick (p.col == 0 && c == 37) _ _ c (λ e. eqb-true c 37 (both_second (p.col == 0) (c == 37) e)) (λ _.
     pick (is_document_start p) _ _ c (λ e. eqb-true c 45 (first-of _ (c == 45) _ _ _ e)) (λ _.
     pick (is_document_end p) _ _ c (λ e. eqb-true c 46 (first-of _ (c == 46) _ _ _ e)) (λ _.
-    sign-begins flow adjacent p c (λ none. not-zero c some none)))))
+    sign-begins flow adjacent p c (λ none. eqb-false c 0 some none)))))

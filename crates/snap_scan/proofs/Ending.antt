@@ -1,17 +1,11 @@
 -- When the tokens are at their end.
-use Rattle.snap_scan.proofs.Prelude.{◌≡◌, ◌≤◌, ◌+◌, ◌∷◌, [], ℕ, Bool, true, false, List, Option, Some, None, Ok, length, drop, subst, sym, ap, arith, refl, ◌∙◌, ◌==◌, ◌&&◌, if◌then◌else◌, eqb-true, MatchOption, Token, State, spent, left_of, has_ended, given, IsReady, IsNoneAtEnd, Pays}
+use Rattle.snap_scan.proofs.Prelude.{◌≡◌, ◌≤◌, ◌+◌, ◌∷◌, [], ℕ, Bool, true, false, List, Option, Some, None, Ok, length, drop, ap, arith, refl, ◌∙◌, ◌==◌, ◌&&◌, if◌then◌else◌, MatchOption, Token, State, spent, left_of, has_ended, given, IsReady, IsNoneAtEnd, Pays, ne_eqb, and_nothing}
 
 both : (a : Bool) (n : ℕ) → a ≡ true → n ≡ 0 → (a && n == 0) ≡ true
-both true n is none = let P : ℕ → Type 0 = λ m. (true && m == 0) ≡ true in subst P (sym none) refl
-both false n is none = absurd (cc)
+both a n is none = rw (is, none)
 
 pub not-both : (a : Bool) (n : ℕ) → 1 ≤ n → (a && n == 0) ≡ false
-not-both true n some = positive (n == 0) n refl some
-  where
-    positive : (b : Bool) (n : ℕ) → (n == 0) ≡ b → 1 ≤ n → (n == 0) ≡ false
-    positive true n is some = let none = eqb-true n 0 is in absurd (omega arith)
-    positive false n is some = is
-not-both false n some = refl
+not-both a n some = let more : (n == 0) ≡ false = ne_eqb n 0 (λ none. omega arith) in ap (λ b. a && b) more ∙ and_nothing a
 
 pub ended-empty : (s : State) → s.held ≡ [] → s.ended ≡ true → has_ended s ≡ true
 ended-empty s none is = both s.ended (length s.held) is (ap length none)

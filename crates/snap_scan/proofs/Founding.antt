@@ -1,5 +1,5 @@
 -- Why a fetch refuses, and what one fetch as a whole keeps.
-use Rattle.snap_scan.proofs.Prelude.{◌≡◌, ◌≢◌, ◌≤◌, ◌+◌, ◌∷◌, [], ℕ, Bool, true, false, List, Option, Some, None, length, slice_index, subst, sym, ap, arith, refl, ◌∙◌, ◌&&◌, if◌then◌else◌, All, codes, nat_lt, nat_le, not, ◌||◌, list_any, ltb-false, All-nil, All-head, All-tail, Mark, Place, skipped, forced, mark_of, Plain, plain_from, Quoted, single_from, double_from, needed, is_among, explains, IsExplained, TScalarStyle, ScanInfo, ScanError, Syntax, OutOfMemory, TokenKind, SimpleKey, is_required, is_overdue, any_overdue, is_past, fresh, Begins, kind_of, State, at, in_flow, start_state, stale, is_key_owed, to_next, Outcome, done, refused, read, Leaves, Names, MayFail, closed, stream_started, plain_read, quoted_read, innermost, value_behind, kind_step, at_token, token_step, step, Holds, IsFounded, IsShown, IsNoStart, IsNoEnd, IsPossible, IsSound, IsSoundFrom, untouched, open_still, over, block_signs, both_second, both_first}
+use Rattle.snap_scan.proofs.Prelude.{◌≡◌, ◌≢◌, ◌≤◌, ◌+◌, ◌∷◌, [], ℕ, Bool, true, false, List, Option, Some, None, length, slice_index, subst, ap, arith, refl, ◌∙◌, ◌&&◌, if◌then◌else◌, All, codes, nat_lt, nat_le, not, ◌||◌, list_any, ltb-false, All-nil, All-head, All-tail, Mark, Place, skipped, forced, mark_of, Plain, plain_from, Quoted, single_from, double_from, needed, is_among, explains, IsExplained, TScalarStyle, ScanInfo, ScanError, Syntax, OutOfMemory, TokenKind, SimpleKey, is_required, is_overdue, any_overdue, is_past, fresh, Begins, kind_of, State, at, in_flow, start_state, stale, is_key_owed, to_next, Outcome, done, refused, Leaves, Names, MayFail, closed, stream_started, plain_read, quoted_read, innermost, value_behind, kind_step, at_token, token_step, step, Holds, IsFounded, IsShown, IsNoStart, IsNoEnd, IsPossible, IsSound, IsSoundFrom, untouched, open_still, over, block_signs, both_second, both_first, cond_both}
 use Rattle.snap_token.specs.declared.token.TokenType.TheVariants as t
 use Rattle.snap_token.specs.declared.token.TEncoding.TheVariants.{Utf8}
 use Rattle.snap_token.specs.declared.token.TScalarStyle.TheVariants as style
@@ -9,24 +9,19 @@ use Rattle.snap_scan.proofs.Beginnings.{kind-begins}
 use Rattle.snap_scan.proofs.Growing.{unrefused}
 use Rattle.snap_scan.proofs.Possible.{in-source, in-bracket, in-holds, stands, stands-behind}
 use Rattle.snap_scan.proofs.Soundness.{either, only, sound-forced, sound-unrolled, sound-stale, sound-to-next}
+use Rattle.snap_scan.proofs.Stepping.{step-token, step-over}
 use Rattle.snap_scan.proofs.Sounding.{IsFresh, among, begun, left-done, left-open, sound-closed, sound-kind}
 
 -- a fault that a test found, or that lies further on
 founded-if : (source : List ℕ) (b : Bool) (m n : Mark) (why info : ScanInfo) (o : Outcome) → (b ≡ true → IsFounded source (Syntax m why))
     → (Names o n info → IsFounded source (Syntax n info)) → Names (if b then refused m why else o) n info → IsFounded source (Syntax n info)
-founded-if source true m n why info o here further names =
-    let P : Mark → Type 0 = λ v. IsFounded source (Syntax v info) in
-    let Q : ScanInfo → Type 0 = λ v. IsFounded source (Syntax m v) in
-    subst P (sym names.0) (subst Q (sym names.1) (here refl))
+founded-if source true m n why info o here further names = rw (names.0, names.1) (here refl)
 founded-if source false m n why info o here further names = further names
 
 founded-else : (source : List ℕ) (b : Bool) (m n : Mark) (why info : ScanInfo) (o : Outcome) → (b ≡ false → IsFounded source (Syntax m why))
     → (Names o n info → IsFounded source (Syntax n info)) → Names (if b then o else refused m why) n info → IsFounded source (Syntax n info)
 founded-else source true m n why info o here further names = further names
-founded-else source false m n why info o here further names =
-    let P : Mark → Type 0 = λ v. IsFounded source (Syntax v info) in
-    let Q : ScanInfo → Type 0 = λ v. IsFounded source (Syntax m v) in
-    subst P (sym names.0) (subst Q (sym names.1) (here refl))
+founded-else source false m n why info o here further names = rw (names.0, names.1) (here refl)
 
 -- the signs stand in the source, and the place lies in it
 founded-at : {ahead : Bool} → (o : Bool) (source : List ℕ) (d : ℕ) (s : State) (info : ScanInfo) → IsSoundFrom o ahead source d s → Holds source (needed info)
@@ -84,15 +79,13 @@ founded-levels source s is bracket many =
     let least : 255 ≤ n = ltb-false n 255 many in
     founded-at false source 1 s i.S23 is (omega (arith, least, in-holds source (n + 1) (skipped s.place) (in-bracket source n s.place bracket is.place)))
 
-le-of : (m n : ℕ) → nat_le m n ≡ true → m ≤ n
-le-of m n h = grind arith
-
 -- a character that begins no token explains its refusal
 founded-sign : {ahead : Bool} → (source : List ℕ) (s : State) (info : ScanInfo) → IsSoundFrom false ahead source 1 s → explains (slice_index s.place.left 0) info ≡ true
     → slice_index s.place.left 0 ≢ 0 → IsFounded source (Syntax (mark_of s.place) info)
 founded-sign source s info is explained some =
     let c = slice_index s.place.left 0 in
-    let few = le-of (needed info).count 1 (both_first (nat_le (needed info).count 1) (is_among (needed info).signs c) explained) in
+    let small = both_first (nat_le (needed info).count 1) (is_among (needed info).signs c) explained in
+    let few : (needed info).count ≤ 1 = grind arith in
     let found = both_second (nat_le (needed info).count 1) (is_among (needed info).signs c) explained in
     founded-at false source 1 s info is (omega (arith, few, stands (needed info).signs source (length s.keys.outer) s.place is.place found some))
 
@@ -102,10 +95,6 @@ founded-flow-start : {ahead : Bool} → (source : List ℕ) (s u : State) (m : M
 founded-flow-start source s u m info is bracket names =
     founded-if source (is_key_owed s) (mark_of s.place) m i.S2 info _ (founded-owed source s is) (λ further.
     founded-else source (nat_lt (length s.keys.outer) 255) (mark_of s.place) m i.S23 info (done u) (founded-levels source s is bracket) (λ none. absurd none) further) names
-
-founded-read : {ahead : Bool} → (source : List ℕ) (d : ℕ) (kind : TokenKind) (u : State) (m : Mark) (info : ScanInfo) → IsSoundFrom false ahead source d u → Names (read kind u) m info
-    → IsFounded source (Syntax m info)
-founded-read source d kind u m info is names = founded-behind source d u m info is names
 
 founded-value : {ahead : Bool} → (source : List ℕ) (key : Option SimpleKey) (s : State) (m : Mark) (info : ScanInfo) → IsSoundFrom false ahead source 1 s → slice_index s.place.left 0 ≡ 58
     → Names (value_behind key s) m info → IsFounded source (Syntax m info)
@@ -139,14 +128,9 @@ founded-kind source k.StreamEnd s m info is first names =
     let end = record s { place = forced s.place } in
     founded-removing source end (done _) m info (sound-forced source 1 s is) (λ none. absurd none) names
 founded-kind source k.Directive s m info is first names =
-    founded-removing source s _ m info is (founded-read source 1 k.Directive (closed s) m info (sound-closed source 1 s is)) names
-founded-kind source k.DocumentStart s m info is first names = founded-removing source s (done _) m info is (λ none. absurd none) names
-founded-kind source k.DocumentEnd s m info is first names = founded-removing source s (done _) m info is (λ none. absurd none) names
+    founded-removing source s _ m info is (founded-behind source 1 (closed s) m info (sound-closed source 1 s is)) names
 founded-kind source k.FlowSequenceStart s m info is first names = founded-flow-start source s _ m info is (among (codes "[{") _ 91 first refl) names
 founded-kind source k.FlowMappingStart s m info is first names = founded-flow-start source s _ m info is (among (codes "[{") _ 123 first refl) names
-founded-kind source k.FlowSequenceEnd s m info is first names = founded-removing source s (done _) m info is (λ none. absurd none) names
-founded-kind source k.FlowMappingEnd s m info is first names = founded-removing source s (done _) m info is (λ none. absurd none) names
-founded-kind source k.FlowEntry s m info is first names = founded-removing source s (done _) m info is (λ none. absurd none) names
 founded-kind source k.BlockEntry s m info is first names =
     let entry = begun (codes "-") source 1 s 45 is first refl (omega arith) in
     founded-if source (in_flow s) (mark_of s.place) m i.S25 info _ (λ _. founded-at false source 1 s i.S25 is entry) (λ further.
@@ -156,10 +140,7 @@ founded-kind source k.Key s m info is first names =
     founded-if source (not (in_flow s) && not s.allowed) (mark_of s.place) m i.S35 info _
     (λ _. founded-at false source 1 s i.S35 is (begun (codes "?") source 1 s 63 is first refl (omega arith))) (founded-removing source s (done _) m info is (λ none. absurd none)) names
 founded-kind source k.Value s m info is first names = founded-value source s.keys.key s m info is first names
-founded-kind source (k.Refused why) s m info is first names =
-    let P : Mark → Type 0 = λ v. IsFounded source (Syntax v info) in
-    let Q : ScanInfo → Type 0 = λ v. IsFounded source (Syntax (mark_of s.place) v) in
-    subst P (sym names.0) (subst Q (sym names.1) (founded-sign source s why is first.0 first.1))
+founded-kind source (k.Refused why) s m info is first names = rw (names.0, names.1) (founded-sign source s why is first.0 first.1)
 founded-kind source k.Alias s m info is first names = founded-owing source s _ m info is (founded-behind source 1 s m info is) names
 founded-kind source k.Anchor s m info is first names = founded-owing source s _ m info is (founded-behind source 1 s m info is) names
 founded-kind source k.Tag s m info is first names = founded-owing source s _ m info is (founded-behind source 1 s m info is) names
@@ -169,17 +150,14 @@ founded-kind source k.SingleQuoted s m info is first names = founded-owing sourc
 founded-kind source k.DoubleQuoted s m info is first names = founded-owing source s _ m info is (founded-quoted source style.DoubleQuoted (double_from s.place) s m info is) names
 founded-kind source k.Plain s m info is first names =
     founded-owing source s _ m info is (founded-plain source (plain_from (innermost s.columns) (in_flow s) s.place) s m info is) names
+founded-kind source other s m info is first names = founded-removing source s (done _) m info is (λ none. absurd none) names
 
 begins-at : (s : State) → Begins (kind_of (in_flow (at_token s)) s.adjacent (at_token s).place) (slice_index (at_token s).place.left 0)
 begins-at s = kind-begins (in_flow (at_token s)) s.adjacent (at_token s).place
 
 fresh-is : (mark : Mark) (key : Option SimpleKey) → IsFresh mark (fresh mark key)
 fresh-is mark None = tt
-fresh-is mark (Some key) = by-test (is_past mark key) mark key refl
-  where
-    by-test : (b : Bool) (mark : Mark) (key : SimpleKey) → is_past mark key ≡ b → IsFresh mark (if b then None else Some key)
-    by-test true mark key e = tt
-    by-test false mark key e = e
+fresh-is mark (Some key) = cond_both (is_past mark key) None (Some key) (IsFresh mark) (λ _. tt) (λ e. e)
 
 sound-token : {ahead : Bool} → (source : List ℕ) (s new : State) → IsSoundFrom false ahead source 1 s → Leaves (token_step s) new → IsSound ahead source new
 sound-token source s new is l =
@@ -210,32 +188,21 @@ sound-started source =
       ended = refl;
     }
 
--- what holds of a fetch of a token holds of any fetch behind StreamStart
-step-token : (P : Outcome → Type 0) (a b : Bool) (x y z : Outcome) → a ≡ false → b ≡ true → P (if a then x else (if b then y else z)) → P y
-step-token P true b x y z going begun is = absurd (cc)
-step-token P false true x y z going begun is = is
-step-token P false false x y z going begun is = absurd (cc)
-
-step-over : (P : Outcome → Type 0) (a : Bool) (x y : Outcome) → a ≡ true → P (if a then x else y) → P x
-step-over P true x y ended is = is
-step-over P false x y ended is = absurd (cc)
-
 pub sound-step : {ahead : Bool} → (source : List ℕ) (s new : State) → IsSound ahead source s → Leaves (step s) new → IsSound ahead source new
-sound-step source s new (untouched starts same) l =
-    let P : State → Type 0 = λ v. Leaves (step v) new in
-    let Q : Bool → Type 0 = λ b. IsSound b source new in
-    subst Q (sym starts) (left-open source (stream_started (start_state source)) new (sound-started source) (subst P same l))
+sound-step source s new (untouched starts same) l = rw starts (left-open source (stream_started (start_state source)) new (sound-started source) (rw same at l))
 sound-step source s new (open_still is) l =
+    let P : Outcome → Type 0 = λ o. Leaves o new in
     sound-token source (to_next s.place.left s) new (sound-to-next source 1 s.place.left s is)
-    (step-token (λ o. Leaves o new) s.ended s.started (done s) (token_step (to_next s.place.left s)) (done (stream_started s)) is.ended is.started l)
-sound-step source s new (over is) l = left-done source s new (over is) (step-over (λ o. Leaves o new) s.ended (done s) _ is.ended l)
+    (subst P (step-token s is.ended is.started) l)
+sound-step source s new (over is) l = let P : Outcome → Type 0 = λ o. Leaves o new in left-done source s new (over is) (subst P (step-over s is.ended) l)
 
 founded-step : {ahead : Bool} → (source : List ℕ) (s : State) (m : Mark) (info : ScanInfo) → IsSound ahead source s → Names (step s) m info → IsFounded source (Syntax m info)
-founded-step source s m info (untouched starts same) names = let P : State → Type 0 = λ v. Names (step v) m info in absurd (subst P same names)
+founded-step source s m info (untouched starts same) names = absurd (rw same at names)
 founded-step source s m info (open_still is) names =
+    let P : Outcome → Type 0 = λ o. Names o m info in
     founded-token source (to_next s.place.left s) m info (sound-to-next source 1 s.place.left s is)
-    (step-token (λ o. Names o m info) s.ended s.started (done s) (token_step (to_next s.place.left s)) (done (stream_started s)) is.ended is.started names)
-founded-step source s m info (over is) names = absurd (step-over (λ o. Names o m info) s.ended (done s) _ is.ended names)
+    (subst P (step-token s is.ended is.started) names)
+founded-step source s m info (over is) names = let P : Outcome → Type 0 = λ o. Names o m info in absurd (subst P (step-over s is.ended) names)
 
 -- the error of a fetch is founded
 pub founded-fetch : {ahead : Bool} → (source : List ℕ) (e : ScanError) (s : State) → IsSound ahead source s → MayFail e (step s) → IsFounded source e
@@ -245,14 +212,13 @@ founded-fetch source (Syntax m info) s is fails = founded-step source s m info i
 -- stale keys are given up
 pub sound-fresh : {ahead : Bool} → (source : List ℕ) (s new : State) → IsSound ahead source s → new ≡ stale s → IsSound ahead source new
 sound-fresh source s new (untouched starts same) is_new = untouched starts (is_new ∙ ap (λ (v : State). stale v) same)
-sound-fresh source s new (open_still is) is_new = let P : State → Type 0 = IsSound _ source in subst P (sym is_new) (open_still (sound-stale false source 1 s is))
-sound-fresh source s new (over is) is_new = let P : State → Type 0 = IsSound _ source in subst P (sym is_new) (over (sound-stale true source 1 s is))
+sound-fresh source s new (open_still is) is_new = rw is_new (open_still (sound-stale false source 1 s is))
+sound-fresh source s new (over is) is_new = rw is_new (over (sound-stale true source 1 s is))
 
 -- the refusal of a key that is overdue
 pub founded-stale : {ahead : Bool} → (source : List ℕ) (e : ScanError) (s : State) → IsSound ahead source s → any_overdue (mark_of s.place) s.keys ≡ true
     → e ≡ Syntax (mark_of s.place) i.S1 → IsFounded source e
 founded-stale source e s (untouched starts same) overdue is_e =
-    let P : State → Type 0 = λ v. any_overdue (mark_of v.place) v.keys ≡ true in
-    let none = subst P same overdue in absurd (cc)
-founded-stale source e s (open_still is) overdue is_e = let P : ScanError → Type 0 = IsFounded source in subst P (sym is_e) (founded-overdue false source 1 s is overdue)
-founded-stale source e s (over is) overdue is_e = let P : ScanError → Type 0 = IsFounded source in subst P (sym is_e) (founded-overdue true source 1 s is overdue)
+    let none = rw same at overdue in absurd (cc)
+founded-stale source e s (open_still is) overdue is_e = rw is_e (founded-overdue false source 1 s is overdue)
+founded-stale source e s (over is) overdue is_e = rw is_e (founded-overdue true source 1 s is overdue)

@@ -1,6 +1,7 @@
 -- Fetching does not see the tokens that are held, and gives up keys only once.
-use Rattle.snap_scan.proofs.Prelude.{◌≡◌, ℕ, suc, ◌+◌, ◌-◌, ◌≤◌, List, [], ◌∷◌, ◌++◌, Bool, true, false, refl, ap, ◌∙◌, arith, Some, None, Option, map, nat_lt, length, min, get_or, map-append, length-map, take-map, list_any, ◌&&◌, ◌==◌, not, if◌then◌else◌, Mark, Place, mark_of, skipped, skip_from, forced, Plain, plain_from, Quoted, single_from, double_from, is_break, ScanInfo, Token, TokenType, TScalarStyle, Outcome, done, refused, read, kind_step, token_step, stream_started, closed, document, sign, flow_start, flow_end, value_behind, read_key, plain_read, quoted_read, innermost, Keys, fresh, is_past, is_required, is_overdue, any_overdue, has_levels, deeper, shallower, kind_of, left_by, fetched, State, in_flow, to_next, past_comment, is_space, line_ended, advanced, allowing, unrolled, ends, kept, at, saved, is_innermost, inserted, put, rolled, is_deeper, pushed, keyless, is_key_owed, stale, SimpleKey, TokenKind}
+use Rattle.snap_scan.proofs.Prelude.{◌≡◌, ℕ, suc, ◌+◌, ◌-◌, ◌≤◌, List, [], ◌∷◌, ◌++◌, Bool, true, false, refl, ap, ◌∙◌, arith, Some, None, Option, map, nat_lt, length, min, get_or, map-append, length-map, take-map, list_any, ◌&&◌, ◌==◌, not, if◌then◌else◌, Mark, Place, mark_of, skipped, skip_from, forced, Plain, plain_from, Quoted, single_from, double_from, is_break, ScanInfo, Token, TokenType, TScalarStyle, Outcome, done, refused, kind_step, token_step, document, sign, flow_start, flow_end, value_behind, read_key, plain_read, quoted_read, innermost, Keys, fresh, is_past, is_required, is_overdue, any_overdue, has_levels, deeper, shallower, kind_of, left_by, fetched, State, in_flow, to_next, past_comment, is_space, line_ended, advanced, allowing, unrolled, ends, kept, at, saved, is_innermost, inserted, put, rolled, is_deeper, pushed, keyless, is_key_owed, stale, SimpleKey, TokenKind}
 use Rattle.std.proofs.Math.ListN.{get_or-map}
+use Rattle.snap_scan.proofs.Soundness.{either, to_next-keeps}
 use Rattle.snap_token.specs.declared.info.ScanInfo.TheVariants as i
 use Rattle.snap_token.specs.declared.token.TokenType.TheVariants as t
 use Rattle.snap_token.specs.declared.token.TScalarStyle.TheVariants as style
@@ -14,77 +15,45 @@ has_levels-map : (g : Option SimpleKey → Option SimpleKey) (ks : List (Option 
 has_levels-map g [] = refl
 has_levels-map g (k ∷ ks) = refl
 
-three : (r : State → State) (p p' q h : Bool) (a b c d a' b' c' d' : State) → p' ≡ p → a' ≡ r a → b' ≡ r b → c' ≡ r c → d' ≡ r d
-    → (if p' then a' else (if q then b' else (if h then c' else d'))) ≡ r (if p then a else (if q then b else (if h then c else d)))
-three r true p' q h a b c d a' b' c' d' e i j k l = rw e i
-three r false p' true h a b c d a' b' c' d' e i j k l = rw e j
-three r false p' false true a b c d a' b' c' d' e i j k l = rw e k
-three r false p' false false a b c d a' b' c' d' e i j k l = rw e l
-
-line_ended-rekeyed : (f : List Token → List Token) (g : Option SimpleKey → Option SimpleKey) (s : State) → line_ended (rekeyed f g s) ≡ rekeyed f g (line_ended s)
-line_ended-rekeyed f g s = rw (has_levels-map g s.keys.outer) refl
+-- one of two that are turned
+push-if : {A : Type 0} (r : A → A) (b : Bool) (x y x' y' : A) → x' ≡ r x → y' ≡ r y → (if b then x' else y') ≡ r (if b then x else y)
+push-if r true x y x' y' h k = h
+push-if r false x y x' y' h k = k
 
 mutual
   pub to_next-rekeyed : (f : List Token → List Token) (g : Option SimpleKey → Option SimpleKey) (cs : List ℕ) (s : State)
       → to_next cs (rekeyed f g s) ≡ rekeyed f g (to_next cs s)
   to_next-rekeyed f g [] s = refl
   to_next-rekeyed f g (c ∷ cs) s =
-      let space : is_space c (rekeyed f g s) ≡ is_space c s = rw (has_levels-map g s.keys.outer) refl in
-      let onward : State → State = λ v. to_next cs v in
-      three (rekeyed f g) (is_space c s) (is_space c (rekeyed f g s)) (is_break c) (c == 35)
-      (to_next cs (advanced s)) (to_next cs (line_ended (advanced s))) (past_comment cs (advanced s)) s
-      (to_next cs (advanced (rekeyed f g s))) (to_next cs (line_ended (advanced (rekeyed f g s)))) (past_comment cs (advanced (rekeyed f g s))) (rekeyed f g s)
-      space (to_next-rekeyed f g cs (advanced s))
-      (ap onward (line_ended-rekeyed f g (advanced s)) ∙ to_next-rekeyed f g cs (line_ended (advanced s)))
-      (past_comment-rekeyed f g cs (advanced s)) refl
+      let r : State → State = rekeyed f g in
+      rw (has_levels-map g s.keys.outer) (push-if r (is_space c s) _ _ _ _ (to_next-rekeyed f g cs (advanced s))
+      (push-if r (is_break c) _ _ _ _ (to_next-rekeyed f g cs (line_ended (advanced s)))
+      (push-if r (c == 35) _ _ _ _ (past_comment-rekeyed f g cs (advanced s)) refl)))
 
   past_comment-rekeyed : (f : List Token → List Token) (g : Option SimpleKey → Option SimpleKey) (cs : List ℕ) (s : State)
       → past_comment cs (rekeyed f g s) ≡ rekeyed f g (past_comment cs s)
   past_comment-rekeyed f g [] s = refl
   past_comment-rekeyed f g (c ∷ cs) s =
-      let onward : State → State = λ v. to_next cs v in
-      three (rekeyed f g) (is_break c) (is_break c) (c == 0) false
-      (to_next cs (line_ended (advanced s))) s s (past_comment cs (advanced s))
-      (to_next cs (line_ended (advanced (rekeyed f g s)))) (rekeyed f g s) (rekeyed f g s) (past_comment cs (advanced (rekeyed f g s)))
-      refl (ap onward (line_ended-rekeyed f g (advanced s)) ∙ to_next-rekeyed f g cs (line_ended (advanced s))) refl refl
-      (past_comment-rekeyed f g cs (advanced s))
+      let r : State → State = rekeyed f g in
+      rw (has_levels-map g s.keys.outer) (push-if r (is_break c) _ _ _ _ (to_next-rekeyed f g cs (line_ended (advanced s)))
+      (push-if r (c == 0) _ _ _ _ refl (past_comment-rekeyed f g cs (advanced s))))
 
 -- a place that is not before another one
 pub record IsOnward (p q : Place) : Type 0 where
   pub line : p.line ≤ q.line
   pub index : p.index ≤ q.index
 
-onward-behind : (b : Bool) (cs : List ℕ) (p : Place) (j : ℕ)
-    → IsOnward p (record { left = cs; index = p.index + 1; line = if b then p.line + 1 else p.line; col = j })
-onward-behind true cs p j = record { line = omega arith; index = omega arith }
-onward-behind false cs p j = record { line = omega arith; index = omega arith }
-
 onward-skip : (cs : List ℕ) (p : Place) → IsOnward p (skip_from cs p)
 onward-skip [] p = record { line = omega arith; index = omega arith }
-onward-skip (c ∷ cs) p = onward-behind (c == 10) cs p (if c == 10 then 0 else p.col + 1)
+onward-skip (c ∷ cs) p = record { line = either (λ n. p.line ≤ n) (c == 10) (p.line + 1) p.line (omega arith) (omega arith); index = omega arith }
 
 onward-trans : (p q r : Place) → IsOnward p q → IsOnward q r → IsOnward p r
 onward-trans p q r a b = record { line = omega arith; index = omega arith }
 
-onward-if : (p : Place) (b : Bool) (x y : State) → IsOnward p x.place → IsOnward p y.place → IsOnward p (if b then x else y).place
-onward-if p true x y h k = h
-onward-if p false x y h k = k
-
-mutual
-  pub to_next-onward : (cs : List ℕ) (s : State) → IsOnward s.place (to_next cs s).place
-  to_next-onward [] s = record { line = omega arith; index = omega arith }
-  to_next-onward (c ∷ cs) s =
-      let one = onward-skip s.place.left s.place in
-      onward-if s.place (is_space c s) _ _ (onward-trans s.place (skipped s.place) _ one (to_next-onward cs (advanced s)))
-      (onward-if s.place (is_break c) _ _ (onward-trans s.place (skipped s.place) _ one (to_next-onward cs (line_ended (advanced s))))
-      (onward-if s.place (c == 35) _ _ (onward-trans s.place (skipped s.place) _ one (past_comment-onward cs (advanced s))) (record { line = omega arith; index = omega arith })))
-
-  past_comment-onward : (cs : List ℕ) (s : State) → IsOnward s.place (past_comment cs s).place
-  past_comment-onward [] s = record { line = omega arith; index = omega arith }
-  past_comment-onward (c ∷ cs) s =
-      let one = onward-skip s.place.left s.place in
-      onward-if s.place (is_break c) _ _ (onward-trans s.place (skipped s.place) _ one (to_next-onward cs (line_ended (advanced s))))
-      (onward-if s.place (c == 0) _ _ (record { line = omega arith; index = omega arith }) (onward-trans s.place (skipped s.place) _ one (past_comment-onward cs (advanced s))))
+pub to_next-onward : (cs : List ℕ) (s : State) → IsOnward s.place (to_next cs s).place
+to_next-onward cs s =
+    to_next-keeps (λ v. IsOnward s.place v.place) (λ v is. onward-trans s.place v.place (skipped v.place) is (onward-skip v.place.left v.place)) (λ v is. is) cs s
+    (record { line = omega arith; index = omega arith })
 
 -- a token before all others that are held
 abbrev pub raised : Option SimpleKey → Option SimpleKey
@@ -98,17 +67,9 @@ abbrev pub fronts : Token → Option State → Option State
 fronts x None = None
 fronts x (Some s) = Some (in_front x s)
 
-push-if : (r : State → State) (b : Bool) (x y x' y' : State) → x' ≡ r x → y' ≡ r y → (if b then x' else y') ≡ r (if b then x else y)
-push-if r true x y x' y' h k = h
-push-if r false x y x' y' h k = k
-
-raised-if : (b : Bool) (key : SimpleKey) → (if b then None else raised (Some key)) ≡ raised (if b then None else Some key)
-raised-if true key = refl
-raised-if false key = refl
-
 fresh-raised : (m : Mark) (k : Option SimpleKey) → fresh m (raised k) ≡ raised (fresh m k)
 fresh-raised m None = refl
-fresh-raised m (Some key) = raised-if (is_past m key) key
+fresh-raised m (Some key) = push-if raised (is_past m key) None (Some key) _ _ refl refl
 
 map-fresh-raised : (m : Mark) (ks : List (Option SimpleKey)) → map (fresh m) (map raised ks) ≡ map raised (map (fresh m) ks)
 map-fresh-raised m [] = refl
@@ -125,35 +86,30 @@ overdue-raised : (m : Mark) (k : Option SimpleKey) → is_overdue m (raised k) �
 overdue-raised m None = refl
 overdue-raised m (Some key) = refl
 
-list-overdue-raised : (m : Mark) (ks : List (Option SimpleKey)) → list_any (is_overdue m) (map raised ks) ≡ list_any (is_overdue m) ks
-list-overdue-raised m [] = refl
-list-overdue-raised m (k ∷ ks) = rw (overdue-raised m k, list-overdue-raised m ks) refl
+-- a test that sees no change
+pub any-same : (p : Option SimpleKey → Bool) (f : Option SimpleKey → Option SimpleKey) → ((k : Option SimpleKey) → p (f k) ≡ p k) → (ks : List (Option SimpleKey))
+    → list_any p (map f ks) ≡ list_any p ks
+any-same p f same [] = refl
+any-same p f same (k ∷ ks) = rw (same k, any-same p f same ks) refl
 
 pub any-overdue-front : (x : Token) (m : Mark) (s : State) → any_overdue m (in_front x s).keys ≡ any_overdue m s.keys
-any-overdue-front x m s = rw (overdue-raised m s.keys.key, list-overdue-raised m s.keys.outer) refl
+any-overdue-front x m s = any-same (is_overdue m) raised (overdue-raised m) (s.keys.key ∷ s.keys.outer)
 
 unrolled-front : (x : Token) (c : Option ℕ) (s : State) → unrolled c (in_front x s) ≡ in_front x (unrolled c s)
 unrolled-front x c s =
     rw (has_levels-map raised s.keys.outer) (push-if (in_front x) (in_flow s) s (record s { held = s.held ++ ends (mark_of s.place) c s.columns; columns = kept c s.columns })
     (in_front x s) (record (in_front x s) { held = x ∷ (s.held ++ ends (mark_of s.place) c s.columns); columns = kept c s.columns }) refl refl)
 
-key-if : (b : Bool) (key : SimpleKey) (old : Option SimpleKey) → (if b then raised (Some key) else raised old) ≡ raised (if b then Some key else old)
-key-if true key old = refl
-key-if false key old = refl
-
 saved-front : (x : Token) (s : State) → saved (in_front x s) ≡ in_front x (saved s)
 saved-front x s =
     let key : SimpleKey = record { place = length s.held; required = in_flow s && is_innermost s.place.col s.columns; mark = mark_of s.place } in
-    rw (has_levels-map raised s.keys.outer) (rw (key-if s.allowed key s.keys.key) refl)
+    rw (has_levels-map raised s.keys.outer) (rw (push-if raised s.allowed (Some key) s.keys.key (raised (Some key)) (raised s.keys.key) refl refl) refl)
 
 owed-front : (x : Token) (s : State) → is_key_owed (in_front x s) ≡ is_key_owed s
 owed-front x s = rw (required-raised s.keys.key) refl
 
-min-suc : (a b : ℕ) → min (suc a) (suc b) ≡ suc (min a b)
-min-suc a b = omega arith
-
 inserted-front : (x : Token) (p : ℕ) (token : Token) (s : State) → inserted (suc p) token (in_front x s) ≡ in_front x (inserted p token s)
-inserted-front x p token s = rw (min-suc p (length s.held)) refl
+inserted-front x p token s = let behind : min (suc p) (suc (length s.held)) ≡ suc (min p (length s.held)) = omega arith in rw behind refl
 
 abbrev lifted : Option ℕ → Option ℕ
 lifted None = None
@@ -171,16 +127,11 @@ rolled-front x col p token s =
     rw (has_levels-map raised s.keys.outer) (push-if (in_front x) (in_flow s) s inner (in_front x s) inner' refl
     (push-if (in_front x) (is_deeper col s.columns) (put p token deep) s (put (lifted p) token (in_front x deep)) (in_front x s) (put-front x p token deep) refl))
 
--- a refusal, or what comes else
-fronts-else : (x : Token) (b b' : Bool) (m : Mark) (why : ScanInfo) (o o' : Outcome) → b' ≡ b → left_by o' ≡ fronts x (left_by o)
-    → left_by (if b' then refused m why else o') ≡ fronts x (left_by (if b then refused m why else o))
-fronts-else x true b' m why o o' same h = rw same refl
-fronts-else x false b' m why o o' same h = rw same h
-
-fronts-then : (x : Token) (b b' : Bool) (m : Mark) (why : ScanInfo) (o o' : Outcome) → b' ≡ b → left_by o' ≡ fronts x (left_by o)
-    → left_by (if b' then o' else refused m why) ≡ fronts x (left_by (if b then o else refused m why))
-fronts-then x true b' m why o o' same h = rw same h
-fronts-then x false b' m why o o' same h = rw same refl
+-- one of two outcomes
+fronts-if : (x : Token) (b b' : Bool) (o p o' p' : Outcome) → b' ≡ b → left_by o' ≡ fronts x (left_by o) → left_by p' ≡ fronts x (left_by p)
+    → left_by (if b' then o' else p') ≡ fronts x (left_by (if b then o else p))
+fronts-if x true b' o p o' p' same h k = rw same h
+fronts-if x false b' o p o' p' same h k = rw same k
 
 some-front : (x : Token) (f : State → State) (s s' : State) → s' ≡ in_front x s → f (in_front x s) ≡ in_front x (f s) → Some (f s') ≡ fronts x (Some (f s))
 some-front x f s s' same h = let some : State → Option State = λ v. Some v in let g : State → State = λ v. f v in ap some (ap g same ∙ h)
@@ -191,33 +142,29 @@ flow-start-front x kind s =
     let f : State → State = λ v. sign kind true (record v { keys = deeper v.keys }) in
     let deep : f (in_front x (saved s)) ≡ in_front x (f (saved s)) = rw (map-append raised (saved s).keys.outer ((saved s).keys.key ∷ [])) refl in
     let same : nat_lt (length (map raised s.keys.outer)) 255 ≡ nat_lt (length s.keys.outer) 255 = rw length-map refl in
-    fronts-else x (is_key_owed s) (is_key_owed (in_front x s)) m i.S2 _ _ (owed-front x s)
-    (fronts-then x (nat_lt (length s.keys.outer) 255) (nat_lt (length (map raised s.keys.outer)) 255) m i.S23 (done (f (saved s))) (done (f (saved (in_front x s)))) same
-    (some-front x f (saved s) (saved (in_front x s)) (saved-front x s) deep))
-
-either-raised : (b : Bool) (p q : Option SimpleKey) → (if b then raised p else raised q) ≡ raised (if b then p else q)
-either-raised true p q = refl
-either-raised false p q = refl
+    fronts-if x (is_key_owed s) _ _ _ _ _ (owed-front x s) refl
+    (fronts-if x (nat_lt (length s.keys.outer) 255) _ (done (f (saved s))) _ (done (f (saved (in_front x s)))) _ same
+    (some-front x f (saved s) (saved (in_front x s)) (saved-front x s) deep) refl)
 
 shallower-front : (x : Token) (s : State) → record (in_front x s) { keys = shallower (in_front x s).keys } ≡ in_front x (record s { keys = shallower s.keys })
 shallower-front x s =
     let ks : Keys = s.keys in
     let n : ℕ = length ks.outer - 1 in
+    let last : Option SimpleKey = get_or ks.outer n None in
     rw (has_levels-map raised ks.outer, length-map, get_or-map raised ks.outer n None, take-map raised n ks.outer)
-    (rw (either-raised (has_levels ks.outer) (get_or ks.outer n None) ks.key) refl)
+    (rw (push-if raised (has_levels ks.outer) last ks.key (raised last) (raised ks.key) refl refl) refl)
 
 flow-end-front : (x : Token) (kind : TokenType) (s : State) → left_by (flow_end kind (in_front x s)) ≡ fronts x (left_by (flow_end kind s))
 flow-end-front x kind s =
     let f : State → State = λ v. sign kind false v in
     let inner : State = record (keyless s) { keys = shallower (keyless s).keys } in
     let inner' : State = record (keyless (in_front x s)) { keys = shallower (keyless (in_front x s)).keys } in
-    fronts-else x (is_required s.keys.key) (is_required (raised s.keys.key)) (mark_of s.place) i.S2 (done (f inner)) (done (f inner')) (required-raised s.keys.key)
-    (some-front x f inner inner' (shallower-front x (keyless s)) refl)
+    fronts-if x (is_required s.keys.key) _ _ _ _ _ (required-raised s.keys.key) refl (some-front x f inner inner' (shallower-front x (keyless s)) refl)
 
 -- a mark that needs a place for a key, outside flow
 mark-front : (x : Token) (b b' : Bool) (why : ScanInfo) (f : State → State) (s u u' : State) → b' ≡ b → u' ≡ in_front x u → f (in_front x u) ≡ in_front x (f u)
     → left_by (if b' then refused (mark_of s.place) why else done (f u')) ≡ fronts x (left_by (if b then refused (mark_of s.place) why else done (f u)))
-mark-front x b b' why f s u u' same is h = fronts-else x b b' (mark_of s.place) why (done (f u)) (done (f u')) same (some-front x f u u' is h)
+mark-front x b b' why f s u u' same is h = fronts-if x b _ _ _ _ _ same refl (some-front x f u u' is h)
 
 no-place : (x : Token) (s : State) → (not (in_flow (in_front x s)) && not (in_front x s).allowed) ≡ (not (in_flow s) && not s.allowed)
 no-place x s = rw (has_levels-map raised s.keys.outer) refl
@@ -241,7 +188,7 @@ value-front x None s =
 
 read-front : (x : Token) (kind : TokenKind) (b : Bool) (s : State) → left_by (read_key kind b (in_front x s)) ≡ fronts x (left_by (read_key kind b s))
 read-front x kind b s =
-    fronts-else x (is_key_owed s) (is_key_owed (in_front x s)) (mark_of s.place) i.S2 (read kind (allowing b (saved s))) (read kind (allowing b (saved (in_front x s)))) (owed-front x s) refl
+    fronts-if x (is_key_owed s) _ _ _ _ _ (owed-front x s) refl refl
 
 quoted-read-front : (x : Token) (written : TScalarStyle) (r : Option Quoted) (s : State) → left_by (quoted_read written r (in_front x s)) ≡ fronts x (left_by (quoted_read written r s))
 quoted-read-front x written None s = refl
@@ -253,7 +200,7 @@ quoted-front : (x : Token) (written : TScalarStyle) (r : Option Quoted) (s : Sta
     → left_by (if is_key_owed (in_front x s) then refused (mark_of s.place) i.S2 else quoted_read written r (in_front x s))
     ≡ fronts x (left_by (if is_key_owed s then refused (mark_of s.place) i.S2 else quoted_read written r s))
 quoted-front x written r s =
-    fronts-else x (is_key_owed s) (is_key_owed (in_front x s)) (mark_of s.place) i.S2 _ _ (owed-front x s) (quoted-read-front x written r s)
+    fronts-if x (is_key_owed s) _ _ _ _ _ (owed-front x s) refl (quoted-read-front x written r s)
 
 plain-read-front : (x : Token) (r : Option Plain) (s : State) → left_by (plain_read r (in_front x s)) ≡ fronts x (left_by (plain_read r s))
 plain-read-front x None s = refl
@@ -264,8 +211,7 @@ plain-read-front x (Some r) s =
 plain-front : (x : Token) (s : State) → left_by (kind_step k.Plain (in_front x s)) ≡ fronts x (left_by (kind_step k.Plain s))
 plain-front x s =
     let reads : Bool → Option State = λ b. left_by (plain_read (plain_from (innermost s.columns) b s.place) (in_front x s)) in
-    fronts-else x (is_key_owed s) (is_key_owed (in_front x s)) (mark_of s.place) i.S2 (plain_read (plain_from (innermost s.columns) (in_flow s) s.place) s)
-    (plain_read (plain_from (innermost s.columns) (in_flow (in_front x s)) s.place) (in_front x s)) (owed-front x s)
+    fronts-if x (is_key_owed s) _ _ _ _ _ (owed-front x s) refl
     (ap reads (has_levels-map raised s.keys.outer) ∙ plain-read-front x (plain_from (innermost s.columns) (in_flow s) s.place) s)
 
 document-front : (x : Token) (kind : TokenType) (s : State) → left_by (document kind (in_front x s)) ≡ fronts x (left_by (document kind s))
@@ -279,7 +225,7 @@ kind-front x k.StreamEnd s =
     let f : State → State = λ v. record (pushed (at (mark_of u.place) t.StreamEnd) (allowing false (keyless v))) { ended = true } in
     mark-front x (is_required s.keys.key) (is_required (raised s.keys.key)) i.S2 f u (unrolled None u) (unrolled None (in_front x u)) (required-raised s.keys.key) (unrolled-front x None u) refl
 kind-front x k.Directive s =
-    fronts-else x (is_required s.keys.key) (is_required (raised s.keys.key)) (mark_of s.place) i.S2 (read k.Directive (closed s)) (read k.Directive (closed (in_front x s))) (required-raised s.keys.key) refl
+    fronts-if x (is_required s.keys.key) _ _ _ _ _ (required-raised s.keys.key) refl refl
 kind-front x k.DocumentStart s = document-front x t.DocumentStart s
 kind-front x k.DocumentEnd s = document-front x t.DocumentEnd s
 kind-front x k.FlowSequenceStart s = flow-start-front x t.FlowSequenceStart s
@@ -292,15 +238,15 @@ kind-front x k.FlowEntry s =
 kind-front x k.BlockEntry s =
     let m = at (mark_of s.place) t.BlockSequenceStart in
     let f : State → State = λ v. sign t.BlockEntry true (keyless v) in
-    fronts-else x (in_flow s) (in_flow (in_front x s)) (mark_of s.place) i.S25 _ _ (has_levels-map raised s.keys.outer)
-    (fronts-else x (not s.allowed) (not s.allowed) (mark_of s.place) i.S24 _ _ refl
+    fronts-if x (in_flow s) _ _ _ _ _ (has_levels-map raised s.keys.outer) refl
+    (fronts-if x (not s.allowed) _ _ _ _ _ refl refl
     (mark-front x (is_required s.keys.key) (is_required (raised s.keys.key)) i.S2 f s (rolled s.place.col None m s) (rolled s.place.col None m (in_front x s)) (required-raised s.keys.key)
     (rolled-front x s.place.col None m s) refl))
 kind-front x k.Key s =
     let m = at (mark_of s.place) t.BlockMappingStart in
     let f : State → State = λ v. sign t.Key (not (in_flow s)) (keyless v) in
     let inner : Bool → Option State = λ b. left_by (if is_required (raised s.keys.key) then refused (mark_of s.place) i.S2 else done (sign t.Key (not b) (keyless (rolled s.place.col None m (in_front x s))))) in
-    fronts-else x (not (in_flow s) && not s.allowed) (not (in_flow (in_front x s)) && not s.allowed) (mark_of s.place) i.S35 _ _ (no-place x s)
+    fronts-if x (not (in_flow s) && not s.allowed) _ _ _ _ _ (no-place x s) refl
     (ap inner (has_levels-map raised s.keys.outer)
     ∙ mark-front x (is_required s.keys.key) (is_required (raised s.keys.key)) i.S2 f s (rolled s.place.col None m s) (rolled s.place.col None m (in_front x s)) (required-raised s.keys.key)
     (rolled-front x s.place.col None m s) refl)
@@ -329,20 +275,13 @@ fetch-front x s =
 token-front : (x : Token) (s : State) → left_by (token_step (in_front x s)) ≡ fronts x (left_by (token_step s))
 token-front x s =
     let whole : State → Option State = λ v. fetch_at v in
-    fronts-else x (any_overdue (mark_of s.place) s.keys) (any_overdue (mark_of s.place) (in_front x s).keys) (mark_of s.place) i.S1 _ _ (any-overdue-front x (mark_of s.place) s)
+    fronts-if x (any_overdue (mark_of s.place) s.keys) _ _ _ _ _ (any-overdue-front x (mark_of s.place) s) refl
     (ap whole (stale-front x s) ∙ fetch-front x (stale s))
-
-either-front : (x : Token) (b c : Bool) (o p q o' p' q' : Outcome) → left_by o' ≡ fronts x (left_by o) → left_by p' ≡ fronts x (left_by p) → left_by q' ≡ fronts x (left_by q)
-    → left_by (if b then o' else (if c then p' else q')) ≡ fronts x (left_by (if b then o else (if c then p else q)))
-either-front x true c o p q o' p' q' h k l = h
-either-front x false true o p q o' p' q' h k l = k
-either-front x false false o p q o' p' q' h k l = l
 
 -- fetching does not see a token before the others
 pub step-front : (x : Token) (s : State) → fetched (in_front x s) ≡ fronts x (fetched s)
 step-front x s =
     let f : List Token → List Token = λ h. x ∷ h in
     let tokens : State → Option State = λ v. left_by (token_step v) in
-    either-front x s.ended s.started (done s) (token_step (to_next s.place.left s)) (done (stream_started s))
-    (done (in_front x s)) (token_step (to_next s.place.left (in_front x s))) (done (stream_started (in_front x s))) refl
-    (ap tokens (to_next-rekeyed f raised s.place.left s) ∙ token-front x (to_next s.place.left s)) refl
+    fronts-if x s.ended s.ended _ _ _ _ refl refl (fronts-if x s.started s.started _ _ _ _ refl
+    (ap tokens (to_next-rekeyed f raised s.place.left s) ∙ token-front x (to_next s.place.left s)) refl)

@@ -1,5 +1,5 @@
 -- A fetch puts a token behind the held ones.
-use Rattle.snap_scan.proofs.Prelude.{◌≡◌, ◌≤◌, ◌++◌, ◌∷◌, [], Bool, true, false, List, Option, Some, None, Result, Ok, Err, length, length-append, subst, sym, ap, arith, if◌then◌else◌, OnOk, nat_lt, not, ◌&&◌, ScanError, Mark, mark_of, Plain, plain_from, Quoted, single_from, double_from, Token, TScalarStyle, ScanInfo, SimpleKey, TokenKind, is_required, any_overdue, State, at, in_flow, is_key_owed, to_next, Outcome, done, refused, read, Leaves, Does, plain_read, quoted_read, read_key, value_behind, innermost, kind_step, token_step, at_token, stream_started, step}
+use Rattle.snap_scan.proofs.Prelude.{◌≡◌, ◌≤◌, ◌++◌, ◌∷◌, [], Bool, true, false, List, Option, Some, None, Result, Ok, Err, length, length-append, subst, sym, ap, arith, if◌then◌else◌, OnOk, nat_lt, not, ◌&&◌, ScanError, Mark, mark_of, Plain, plain_from, Quoted, single_from, double_from, Token, TScalarStyle, ScanInfo, SimpleKey, TokenKind, is_required, any_overdue, State, at, in_flow, is_key_owed, to_next, Outcome, done, refused, read, Leaves, Does, plain_read, quoted_read, read_key, value_behind, innermost, kind_step, token_step, at_token, stream_started, step, cond_both, cond-false}
 use Rattle.snap_token.specs.declared.token.TScalarStyle.TheVariants as style
 use Rattle.snap_scan.specs.declared.kind.TokenKind.TheVariants as k
 
@@ -39,15 +39,9 @@ value-holds (Some key) s new l = done-holds _ new l (push-holds _ _)
 value-holds None s new l = done-holds _ new (unrefused (not (in_flow s) && not s.allowed) _ _ _ new l) (push-holds _ _)
 
 pub kind-holds : (kind : TokenKind) (s new : State) → Leaves (kind_step kind s) new → 1 ≤ length new.held
-kind-holds k.StreamEnd s new l = done-holds _ new (unrefused (is_required s.keys.key) _ _ _ new l) (push-holds _ _)
 kind-holds k.Directive s new l = read-left k.Directive _ new (unrefused (is_required s.keys.key) _ _ _ new l)
-kind-holds k.DocumentStart s new l = done-holds _ new (unrefused (is_required s.keys.key) _ _ _ new l) (push-holds _ _)
-kind-holds k.DocumentEnd s new l = done-holds _ new (unrefused (is_required s.keys.key) _ _ _ new l) (push-holds _ _)
 kind-holds k.FlowSequenceStart s new l = done-holds _ new (unrefused-else (nat_lt (length s.keys.outer) 255) _ _ _ new (unrefused (is_key_owed s) _ _ _ new l)) (push-holds _ _)
 kind-holds k.FlowMappingStart s new l = done-holds _ new (unrefused-else (nat_lt (length s.keys.outer) 255) _ _ _ new (unrefused (is_key_owed s) _ _ _ new l)) (push-holds _ _)
-kind-holds k.FlowSequenceEnd s new l = done-holds _ new (unrefused (is_required s.keys.key) _ _ _ new l) (push-holds _ _)
-kind-holds k.FlowMappingEnd s new l = done-holds _ new (unrefused (is_required s.keys.key) _ _ _ new l) (push-holds _ _)
-kind-holds k.FlowEntry s new l = done-holds _ new (unrefused (is_required s.keys.key) _ _ _ new l) (push-holds _ _)
 kind-holds k.BlockEntry s new l = done-holds _ new (unrefused (is_required s.keys.key) _ _ _ new (unrefused (not s.allowed) _ _ _ new (unrefused (in_flow s) _ _ _ new l))) (push-holds _ _)
 kind-holds k.Key s new l = done-holds _ new (unrefused (is_required s.keys.key) _ _ _ new (unrefused (not (in_flow s) && not s.allowed) _ _ _ new l)) (push-holds _ _)
 kind-holds k.Value s new l = value-holds s.keys.key s new l
@@ -60,19 +54,17 @@ kind-holds k.Folded s new l = read-holds k.Folded true s new l
 kind-holds k.SingleQuoted s new l = quoted-holds style.SingleQuoted (single_from s.place) s new (unrefused (is_key_owed s) _ _ _ new l)
 kind-holds k.DoubleQuoted s new l = quoted-holds style.DoubleQuoted (double_from s.place) s new (unrefused (is_key_owed s) _ _ _ new l)
 kind-holds k.Plain s new l = plain-holds (plain_from (innermost s.columns) (in_flow s) s.place) s new (unrefused (is_key_owed s) _ _ _ new l)
+kind-holds other s new l = done-holds _ new (unrefused (is_required s.keys.key) _ _ _ new l) (push-holds _ _)
 
 token-holds : (s new : State) → Leaves (token_step s) new → 1 ≤ length new.held
 token-holds s new l = kind-holds _ (at_token s) new (unrefused (any_overdue (mark_of s.place) s.keys) _ _ _ new l)
 
-first-holds : (ended started : Bool) (s t new : State) → ended ≡ false
-    → Leaves (if ended then done s else (if started then token_step t else done (stream_started s))) new → 1 ≤ length new.held
-first-holds true started s t new going l = absurd (cc)
-first-holds false true s t new going l = token-holds t new l
-first-holds false false s t new going l = done-holds _ new l (push-holds _ _)
-
 -- one fetch, where StreamEnd wasn't made yet
 pub step-holds : (s new : State) → s.ended ≡ false → Leaves (step s) new → 1 ≤ length new.held
-step-holds s new going l = first-holds s.ended s.started s (to_next s.place.left s) new going l
+step-holds s new going l =
+    let P : Outcome → Type 0 = λ o. Leaves o new → 1 ≤ length new.held in
+    let fetch = cond_both s.started (token_step (to_next s.place.left s)) (done (stream_started s)) P (λ _. token-holds (to_next s.place.left s) new) (λ _ m. done-holds (stream_started s) new m (push-holds _ _)) in
+    subst P (sym (cond-false s.ended (done s) _ going)) fetch l
 
 -- a call that does one fetch, where StreamEnd wasn't made yet, leaves a held token
 pub more-held : {T : Type 0} (r : Result T ScanError) (s new : State) → s.ended ≡ false → Does (step s) r new → OnOk r (1 ≤ length new.held)

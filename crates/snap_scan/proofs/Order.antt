@@ -1,12 +1,12 @@
 -- The order of StreamStart and StreamEnd among the tokens that are given.
-use Rattle.snap_scan.proofs.Prelude.{◌≡◌, ◌≤◌, ◌∷◌, [], ℕ, Bool, true, false, List, Option, Some, None, Ok, length, subst, sym, ap, arith, refl, ◌∙◌, ◌==◌, ◌&&◌, if◌then◌else◌, All, MatchOption, not, ◌||◌, All-head, Token, ScanError, State, has_ended, given, Outcome, done, Leaves, step, IsShown, IsNoEnd, IsFounded, IsSound, IsSoundFrom, untouched, open_still, over, EndsStream, begins_stream, is_start, is_end, is_start_ahead, GivesSound, IsWholeWhile, GivesNext}
+use Rattle.snap_scan.proofs.Prelude.{◌≡◌, ◌∷◌, [], ℕ, Bool, true, false, List, Option, Some, None, Ok, length, subst, sym, ap, arith, refl, ◌∙◌, ◌==◌, ◌&&◌, MatchOption, not, ◌||◌, All-head, Token, ScanError, State, has_ended, given, Outcome, Leaves, step, IsShown, IsNoEnd, IsFounded, IsSound, IsSoundFrom, untouched, open_still, over, EndsStream, begins_stream, is_start, is_end, is_start_ahead, GivesSound, IsWholeWhile, GivesNext}
 use Rattle.snap_scan.proofs.Ending.{holding, not-both}
 use Rattle.snap_scan.proofs.Growing.{step-holds}
 use Rattle.snap_scan.proofs.Soundness.{sound-given}
+use Rattle.snap_scan.proofs.Stepping.{step-over}
 
 ahead-of : (started : Bool) (held : List Token) (ahead : Bool) → started ≡ true → begins_stream held ≡ ahead → (not started || begins_stream held) ≡ ahead
-ahead-of true held ahead begun first = first
-ahead-of false held ahead begun first = absurd (cc)
+ahead-of started held ahead begun first = rw begun first
 
 pub ahead-is : {ahead : Bool} → (source : List ℕ) (s : State) → IsSound ahead source s → is_start_ahead s ≡ ahead
 ahead-is source s (untouched starts same) = ap (λ (v : State). is_start_ahead v) same ∙ sym starts
@@ -17,8 +17,7 @@ pub sound-ahead : {ahead : Bool} → (source : List ℕ) (s : State) → IsSound
 sound-ahead source s is = let P : Bool → Type 0 = λ b. IsSound b source s in subst P (sym (ahead-is source s is)) is
 
 going-on : (b : Bool) (n : ℕ) → b ≡ false → (b && n == 0) ≡ false
-going-on true n going = absurd (cc)
-going-on false n going = refl
+going-on b n going = rw going
 
 last-of : (token : Token) (rest : List Token) (ended : Bool) → ended ≡ true → EndsStream (token ∷ rest) → is_end token.1 ≡ (ended && length rest == 0)
 last-of token [] true ended is = is
@@ -28,41 +27,32 @@ last-of token rest false ended is = absurd (cc)
 first-shown : {ahead : Bool} → (source : List ℕ) (o : Bool) (mid new : State) (token : Token) → IsSoundFrom o ahead source 1 mid → mid.held ≡ token ∷ new.held
     → IsShown source token × (is_start token.1 ≡ ahead)
 first-shown source o mid new token is taken =
-    let P : List Token → Type 0 = λ v. All (IsShown source) v in
-    (All-head (IsShown source) token new.held (subst P taken is.tokens), ap (λ (v : List Token). begins_stream v) (sym taken) ∙ is.first)
+    (All-head (IsShown source) token new.held (rw taken at is.tokens), ap (λ (v : List Token). begins_stream v) (sym taken) ∙ is.first)
 
 -- the first held token is given
 pub gives-sound : {ahead : Bool} → (source : List ℕ) (o : Option Token) (mid new : State) → IsSound ahead source mid
     → MatchOption o ((mid.held ≡ []) × (new ≡ mid)) (λ token. (mid.held ≡ token ∷ new.held) × (new ≡ given mid)) → GivesSound ahead source (Ok o) new
-gives-sound source None mid new is taken = let P : State → Type 0 = IsSound _ source in subst P (sym taken.1) is
+gives-sound source None mid new is taken = rw taken.1 is
 gives-sound source (Some token) mid new (untouched starts same) taken =
     let none = ap (λ (v : State). length v.held) same in
     let some = ap (λ (v : List Token). length v) taken.0 in
     absurd (omega (arith, none, some))
 gives-sound source (Some token) mid new (open_still is) taken =
-    let P : State → Type 0 = IsSound false source in
-    let Q : List Token → Type 0 = λ v. All IsNoEnd v in
     let shows = first-shown source false mid new token is taken.0 in
     let going : new.ended ≡ false = ap (λ (v : State). v.ended) taken.1 ∙ is.ended in
-    let last = All-head IsNoEnd token new.held (subst Q taken.0 is.ends) in
-    (shows.0, shows.1, last ∙ sym (going-on new.ended (length new.held) going), subst P (sym taken.1) (open_still (sound-given false source 1 mid is)))
+    let last = All-head IsNoEnd token new.held (rw taken.0 at is.ends) in
+    (shows.0, shows.1, last ∙ sym (going-on new.ended (length new.held) going), rw taken.1 (open_still (sound-given false source 1 mid is)))
 gives-sound source (Some token) mid new (over is) taken =
-    let P : State → Type 0 = IsSound false source in
-    let Q : List Token → Type 0 = λ v. EndsStream v in
     let shows = first-shown source true mid new token is taken.0 in
     let ended : new.ended ≡ true = ap (λ (v : State). v.ended) taken.1 ∙ is.ended in
-    (shows.0, shows.1, last-of token new.held new.ended ended (subst Q taken.0 is.ends), subst P (sym taken.1) (over (sound-given true source 1 mid is)))
+    (shows.0, shows.1, last-of token new.held new.ended ended (rw taken.0 at is.ends), rw taken.1 (over (sound-given true source 1 mid is)))
 
 -- a fetch leaves it as it is whether StreamEnd was given
 pub step-ended : (s new : State) → Leaves (step s) new → has_ended new ≡ has_ended s
 step-ended s new l = by-end s.ended refl
   where
-    over-is : (b : Bool) (x : State) (y : Outcome) → b ≡ true → Leaves (if b then done x else y) new → new ≡ x
-    over-is true x y ended leaves = leaves
-    over-is false x y ended leaves = absurd (cc)
-
     by-end : (b : Bool) → s.ended ≡ b → has_ended new ≡ has_ended s
-    by-end true ended = ap (λ (v : State). has_ended v) (over-is s.ended s _ ended l)
+    by-end true ended = let P : Outcome → Type 0 = λ o. Leaves o new in ap (λ (v : State). has_ended v) (subst P (step-over s ended) l)
     by-end false going = holding new (step-holds s new going l) ∙ sym (going-on s.ended (length s.held) going)
 
 -- so does any call that keeps to it in both cases

@@ -1,8 +1,10 @@
 -- What is owed stays owed from one call to the next.
-use Rattle.snap_scan.proofs.Prelude.{◌≡◌, ℕ, suc, ◌-◌, ◌⊎◌, List, [], ◌∷◌, Bool, true, false, refl, sym, ap, ◌∙◌, arith, Some, None, Option, map, subst, drop, inl, inr, Ok, list_any, ◌||◌, ◌&&◌, ◌==◌, MatchOption, if◌then◌else◌, Mark, Place, mark_of, ScanError, Syntax, OutOfMemory, Token, TokenType, Outcome, done, told, refused, read, unreadable, step, token_step, stream_started, Leaves, MayFail, kind_step, kind_of, Keys, fresh, is_past, is_overdue, any_overdue, still_fresh, names_first, any_names_first, lowered, all_lowered, left_by, fetched, Steps, none_more, one_more, type_of, Owes, IsFirstSure, IsFirst, GivesFirst, Scan, IsSound, untouched, open_still, over, State, to_next, past_comment, advanced, line_ended, is_space, stale, given, in_flow, unrolled, is_break, SimpleKey, or_parts}
+use Rattle.snap_scan.proofs.Prelude.{◌≡◌, ℕ, suc, ◌-◌, ◌⊎◌, List, [], ◌∷◌, Bool, true, false, refl, sym, ap, ◌∙◌, arith, Some, None, Option, map, subst, drop, inl, inr, Ok, list_any, ◌&&◌, MatchOption, if◌then◌else◌, Mark, Place, mark_of, ScanError, Syntax, OutOfMemory, Token, TokenType, Outcome, done, told, refused, read, unreadable, step, token_step, Leaves, MayFail, kind_step, kind_of, Keys, fresh, is_past, is_overdue, any_overdue, still_fresh, names_first, any_names_first, lowered, all_lowered, left_by, fetched, Steps, none_more, one_more, type_of, Owes, IsFirstSure, IsFirst, GivesFirst, Scan, IsSound, untouched, open_still, over, State, to_next, stale, given, in_flow, unrolled, SimpleKey, or_parts}
 use Rattle.std.proofs.lemmas.Bool.Decides.{nat_tests}
 use Rattle.snap_token.specs.declared.info.ScanInfo.TheVariants as info
-use Rattle.snap_scan.proofs.Fronts.{IsOnward, to_next-onward, to_next-rekeyed, raised, in_front, fronts, step-front, any-overdue-front}
+use Rattle.snap_scan.proofs.Soundness.{to_next-keeps}
+use Rattle.snap_scan.proofs.Stepping.{step-token}
+use Rattle.snap_scan.proofs.Fronts.{IsOnward, to_next-onward, to_next-rekeyed, raised, in_front, fronts, step-front, any-same, any-overdue-front}
 
 overdue-by : (required old new : Bool) → (old ≡ true → new ≡ true) → required && new ≡ false → required && old ≡ false
 overdue-by false old new on h = refl
@@ -21,9 +23,7 @@ overdue-list p q (k ∷ ks) on h =
     rw (overdue-onward p q k on two.0, overdue-list p q ks on two.1) refl
 
 any-overdue-onward : (p q : Place) (ks : Keys) → IsOnward p q → any_overdue (mark_of q) ks ≡ false → any_overdue (mark_of p) ks ≡ false
-any-overdue-onward p q ks on h =
-    let two = or_parts (is_overdue (mark_of q) ks.key) (list_any (is_overdue (mark_of q)) ks.outer) h in
-    rw (overdue-onward p q ks.key on two.0, overdue-list p q ks.outer on two.1) refl
+any-overdue-onward p q ks on h = overdue-list p q (ks.key ∷ ks.outer) on h
 
 -- giving up keys at a place where none is overdue makes none overdue later, nor hides one
 fresh-either : (m : Mark) (key : SimpleKey) (b c : Bool) → (b ≡ true → c ≡ true) → fresh m (Some key) ≡ (if c then None else Some key)
@@ -59,36 +59,18 @@ overdue-list-fresh m n (k ∷ ks) h =
     rw (overdue-fresh m n k two.0, overdue-list-fresh m n ks two.1) refl
 
 any-overdue-fresh : (m n : Mark) (ks : Keys) → any_overdue m ks ≡ false → any_overdue n (still_fresh m ks) ≡ any_overdue n ks
-any-overdue-fresh m n ks h =
-    let two = or_parts (is_overdue m ks.key) (list_any (is_overdue m) ks.outer) h in
-    rw (overdue-fresh m n ks.key two.0, overdue-list-fresh m n ks.outer two.1) refl
-
-keys-if : (ks : Keys) (b : Bool) (x y : State) → x.keys ≡ ks → y.keys ≡ ks → (if b then x else y).keys ≡ ks
-keys-if ks true x y h k = h
-keys-if ks false x y h k = k
+any-overdue-fresh m n ks h = overdue-list-fresh m n (ks.key ∷ ks.outer) h
 
 -- skipping changes no key
-mutual
-  to_next-keys : (cs : List ℕ) (s : State) → (to_next cs s).keys ≡ s.keys
-  to_next-keys [] s = refl
-  to_next-keys (c ∷ cs) s =
-      keys-if s.keys (is_space c s) _ _ (to_next-keys cs (advanced s)) (keys-if s.keys (is_break c) _ _ (to_next-keys cs (line_ended (advanced s)))
-      (keys-if s.keys (c == 35) _ _ (past_comment-keys cs (advanced s)) refl))
-
-  past_comment-keys : (cs : List ℕ) (s : State) → (past_comment cs s).keys ≡ s.keys
-  past_comment-keys [] s = refl
-  past_comment-keys (c ∷ cs) s =
-      keys-if s.keys (is_break c) _ _ (to_next-keys cs (line_ended (advanced s))) (keys-if s.keys (c == 0) _ _ refl (past_comment-keys cs (advanced s)))
+to_next-keys : (cs : List ℕ) (s : State) → (to_next cs s).keys ≡ s.keys
+to_next-keys cs s = to_next-keeps (λ v. v.keys ≡ s.keys) (λ v is. is) (λ v is. is) cs s refl
 
 -- the fetch of the token at a state whose keys are fresh
 abbrev pub fetch_at : State → Outcome
 fetch_at s = kind_step (kind_of (in_flow (unrolled (Some s.place.col) s)) s.adjacent (unrolled (Some s.place.col) s).place) (unrolled (Some s.place.col) s)
 
-chosen : (b c : Bool) (x y z : Outcome) → b ≡ false → c ≡ true → (if b then x else (if c then y else z)) ≡ y
-chosen b c x y z p q = rw (p, q) refl
-
 fetched-open : (s : State) → s.started ≡ true → s.ended ≡ false → fetched s ≡ left_by (token_step (to_next s.place.left s))
-fetched-open s started ended = ap left_by (chosen s.ended s.started (done s) (token_step (to_next s.place.left s)) (done (stream_started s)) ended started)
+fetched-open s started ended = ap left_by (step-token s ended started)
 
 token-if : (b b' : Bool) (m : Mark) (o : Outcome) → b' ≡ b → left_by (if b' then refused m info.S1 else o) ≡ left_by (if b then refused m info.S1 else o)
 token-if b b' m o same = rw same refl
@@ -119,8 +101,7 @@ timely-open : (s t : State) → s.started ≡ true → s.ended ≡ false → fet
 timely-open s t started ended found =
     let u : State = to_next s.place.left s in
     let there : any_overdue (mark_of u.place) u.keys ≡ false = not-refused (any_overdue (mark_of u.place) u.keys) (mark_of u.place) (fetch_at (stale u)) t (sym (fetched-open s started ended) ∙ found) in
-    let P : Keys → Type 0 = λ ks. any_overdue (mark_of u.place) ks ≡ false in
-    any-overdue-onward s.place u.place s.keys (to_next-onward s.place.left s) (subst P (to_next-keys s.place.left s) there)
+    any-overdue-onward s.place u.place s.keys (to_next-onward s.place.left s) (rw (to_next-keys s.place.left s) at there)
 
 first-step : (s e : State) → Steps s e → e.ended ≡ true → s.ended ≡ false → (t : State) × (fetched s ≡ Some t) × Steps t e
 first-step _ _ (none_more s) last ended = absurd (cc)
@@ -135,12 +116,11 @@ owes-next s t ts ended is o =
     let f = first-step s o.end o.steps o.ended ended in
     let some : Some t ≡ Some f.0 = sym is ∙ f.1 in
     let same : f.0 ≡ t = cc in
-    let P : State → Type 0 = λ v. Steps v o.end in
-    record { end = o.end; steps = subst P same f.2; ended = o.ended; timely = o.timely; given = o.given }
+    record { end = o.end; steps = rw same at f.2; ended = o.ended; timely = o.timely; given = o.given }
 
 -- no key is overdue where something is owed
 pub owes-timely : {ahead : Bool} → (source : List ℕ) (s : State) (ts : List TokenType) → IsSound ahead source s → Owes s ts → any_overdue (mark_of s.place) s.keys ≡ false
-owes-timely source s ts (untouched first start) o = let P : State → Type 0 = λ v. any_overdue (mark_of v.place) v.keys ≡ false in subst P (sym start) refl
+owes-timely source s ts (untouched first start) o = rw start refl
 owes-timely source s ts (open_still is) o =
     let f = first-step s o.end o.steps o.ended is.ended in
     timely-open s f.0 is.started is.ended f.1
@@ -157,8 +137,7 @@ owes-stale source s ts (open_still is) o =
     record { end = o.end; steps = one_more (stale s) f.0 o.end is.ended (fetched-stale s is.started is.ended timely ∙ f.1) f.2; ended = o.ended; timely = o.timely; given = o.given }
 owes-stale source s ts (over is) o =
     let same = none-left s o.end o.steps is.ended in
-    let P : State → Type 0 = λ v. any_overdue (mark_of v.place) v.keys ≡ false in
-    let timely : any_overdue (mark_of s.place) s.keys ≡ false = subst P same o.timely in
+    let timely = rw same at o.timely in
     let types_of : State → List TokenType = λ v. map type_of v.held in
     record {
       end = stale s;
@@ -188,8 +167,7 @@ pub owed-fetch : (s new : State) (ts : List TokenType) → s.ended ≡ false →
 owed-fetch s new ts ended o leaves =
     let f = first-step s o.end o.steps o.ended ended in
     let is = some-left (step s) f.0 f.1 new leaves in
-    let P : State → Type 0 = λ v. Owes v ts in
-    subst P (sym is) (owes-next s f.0 ts ended f.1 o)
+    rw is (owes-next s f.0 ts ended f.1 o)
 
 -- a fetch fails where something is owed by want of memory alone
 pub owed-fails : (s : State) (ts : List TokenType) (e : ScanError) → s.ended ≡ false → Owes s ts → MayFail e (step s) → e ≡ OutOfMemory
@@ -212,11 +190,9 @@ record StepsBehind (x : Token) (s e : State) : Type 0 where
 steps-behind : (x : Token) (r e : State) → Steps r e → (s : State) → r ≡ in_front x s → StepsBehind x s e
 steps-behind x _ _ (none_more r) s is = record { end = s; steps = none_more s; front = is }
 steps-behind x _ _ (one_more r t e open_ found rest) s is =
-    let fetch : State → Option State = λ v. fetched v in
-    let ended_of : State → Bool = λ v. v.ended in
-    let b = behind-some x (fetched s) t (sym (step-front x s) ∙ sym (ap fetch is) ∙ found) in
+    let b = behind-some x (fetched s) t (sym (step-front x s) ∙ rw is at found) in
     let others = steps-behind x t e rest b.state b.front in
-    record { end = others.end; steps = one_more s b.state others.end (sym (ap ended_of is) ∙ open_) b.is others.steps; front = others.front }
+    record { end = others.end; steps = one_more s b.state others.end (rw is at open_) b.is others.steps; front = others.front }
 
 -- the first token that is owed, and the others
 record OwesFirst (x : Token) (s : State) (ts : List TokenType) : Type 0 where
@@ -227,17 +203,15 @@ record OwesFirst (x : Token) (s : State) (ts : List TokenType) : Type 0 where
 owes-front : (x : Token) (s : State) (ts : List TokenType) → Owes (in_front x s) ts → OwesFirst x s ts
 owes-front x s ts o =
     let b = steps-behind x (in_front x s) o.end o.steps s refl in
-    let ended_of : State → Bool = λ v. v.ended in
     let types_of : State → List TokenType = λ v. map type_of v.held in
-    let late : State → Bool = λ v. any_overdue (mark_of v.place) v.keys in
     record {
       rest = map type_of b.end.held;
       is = sym o.given ∙ ap types_of b.front;
       owes = record {
         end = b.end;
         steps = b.steps;
-        ended = sym (ap ended_of b.front) ∙ o.ended;
-        timely = sym (any-overdue-front x (mark_of b.end.place) b.end) ∙ sym (ap late b.front) ∙ o.timely;
+        ended = rw b.front at o.ended;
+        timely = sym (any-overdue-front x (mark_of b.end.place) b.end) ∙ rw b.front at o.timely;
         given = refl;
       };
     }
@@ -246,12 +220,8 @@ overdue-lowered : (m : Mark) (k : Option SimpleKey) → is_overdue m (lowered k)
 overdue-lowered m None = refl
 overdue-lowered m (Some key) = refl
 
-overdue-list-lowered : (m : Mark) (ks : List (Option SimpleKey)) → list_any (is_overdue m) (map lowered ks) ≡ list_any (is_overdue m) ks
-overdue-list-lowered m [] = refl
-overdue-list-lowered m (k ∷ ks) = rw (overdue-lowered m k, overdue-list-lowered m ks) refl
-
 any-overdue-lowered : (m : Mark) (ks : Keys) → any_overdue m (all_lowered ks) ≡ any_overdue m ks
-any-overdue-lowered m ks = rw (overdue-lowered m ks.key, overdue-list-lowered m ks.outer) refl
+any-overdue-lowered m ks = any-same (is_overdue m) lowered (overdue-lowered m) (ks.key ∷ ks.outer)
 
 raised-lowered : (k : Option SimpleKey) → names_first k ≡ false → raised (lowered k) ≡ k
 raised-lowered None h = refl
@@ -285,27 +255,22 @@ pub gives-first : (r : Option Token) (s t : State) (ts : List TokenType) → IsF
 gives-first None s t ts sure ready (none, same) o = owes-ended s ts o (ready none) ∙ ap (map type_of) none
 gives-first (Some x) s t ts (inl ended) ready (is, same) o =
     let e : ts ≡ type_of x ∷ map type_of t.held = owes-ended s ts o ended ∙ ap (map type_of) is in
-    let ended_of : State → Bool = λ v. v.ended in
-    let late : State → Bool = λ v. any_overdue (mark_of v.place) v.keys in
-    let Q : State → Type 0 = λ v. any_overdue (mark_of v.place) v.keys ≡ false in
-    let timely : any_overdue (mark_of s.place) s.keys ≡ false = subst Q (none-left s o.end o.steps ended) o.timely in
-    let P : List TokenType → Type 0 = λ v. IsFirst x t v in
-    subst P (sym e) (
+    let timely = rw (none-left s o.end o.steps ended) at o.timely in
+    rw e (
       refl,
       record {
         end = t;
         steps = none_more t;
-        ended = ap ended_of same ∙ ended;
-        timely = ap late same ∙ any-overdue-lowered (mark_of s.place) s.keys ∙ timely;
+        ended = rw same ended;
+        timely = rw same (any-overdue-lowered (mark_of s.place) s.keys ∙ timely);
         given = refl;
       },
     )
 gives-first (Some x) s t ts (inr sure) ready (is, same) o =
-    let Q : State → Type 0 = λ v. Owes v ts in
-    let f = owes-front x (given s) ts (subst Q (sym (front-given x t.held s is sure)) o) in
+    let owes : Owes (in_front x (given s)) ts = rw (front-given x t.held s is sure) o in
+    let f = owes-front x (given s) ts owes in
     let R : State → Type 0 = λ v. Owes v f.rest in
-    let P : List TokenType → Type 0 = λ v. IsFirst x t v in
-    subst P (sym f.is) (refl, subst R (sym same) f.owes)
+    rw f.is (refl, subst R (sym same) f.owes)
 
 -- what a call that may fail gives, as a call that may not
 pub next-owed : (r : Option Token) (new : Scan) (ts : List TokenType) → GivesFirst (Ok r) new.state ts

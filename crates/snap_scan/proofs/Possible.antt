@@ -25,11 +25,7 @@ in-later source n _ _ (here p) is = is
 in-later source n _ _ (next p q later) is = in-skipped source n q (in-later source n p q later is)
 
 pub count-one : (signs : List ℕ) (c : ℕ) → is_among signs c ≡ true → count_by (is_among signs) (c ∷ []) ≡ 1
-count-one signs c is = counted (is_among signs c) is
-  where
-    counted : (b : Bool) → b ≡ true → 0 + cond b 1 0 ≡ 1
-    counted true is = refl
-    counted false is = absurd (cc)
+count-one signs c is = rw is
 
 in-bracket-at : (source : List ℕ) (n : ℕ) (cs : List ℕ) (p : Place) → p.left ≡ cs → is_among (codes "[{") (slice_index cs 0) ≡ true → IsIn source n p → IsIn source (n + 1) (skip_from cs p)
 in-bracket-at source n [] p left bracket is = absurd (cc)
@@ -57,9 +53,7 @@ in-forced source n p is = record { before = is.before; text = is.text; index = i
 -- as many brackets stand in the source
 pub in-holds : (source : List ℕ) (n : ℕ) (p : Place) → IsIn source n p → n ≤ count_by (is_among (codes "[{")) source
 in-holds source n p is =
-    let P : List ℕ → Type 0 = λ v. n ≤ count_by (is_among (codes "[{")) v in
-    let b = is.brackets in
-    subst P (sym is.text) (omega (arith, count-append (codes "[{") is.before p.left))
+    let b = is.brackets in rw is.text (omega (arith, count-append (codes "[{") is.before p.left))
 
 some-stands : (signs before cs : List ℕ) → is_among signs (slice_index cs 0) ≡ true → slice_index cs 0 ≢ 0 → 1 ≤ count_by (is_among signs) (before ++ cs)
 some-stands signs before [] first some = absurd (some refl)
@@ -70,13 +64,12 @@ some-stands signs before (c ∷ cs) first some =
 -- a sign that stands here stands in the source
 pub stands : (signs source : List ℕ) (n : ℕ) (p : Place) → IsIn source n p → is_among signs (slice_index p.left 0) ≡ true → slice_index p.left 0 ≢ 0 → 1 ≤ count_by (is_among signs) source
 stands signs source n p is first some =
-    let P : List ℕ → Type 0 = λ v. 1 ≤ count_by (is_among signs) v in subst P (sym is.text) (some-stands signs is.before p.left first some)
+    rw is.text (some-stands signs is.before p.left first some)
 
 -- what stands behind a place stands in the source
 pub stands-behind : (signs source : List ℕ) (n m : ℕ) (p : Place) → IsIn source n p → m ≤ count_by (is_among signs) p.left → m ≤ count_by (is_among signs) source
 stands-behind signs source n m p is enough =
-    let P : List ℕ → Type 0 = λ v. m ≤ count_by (is_among signs) v in
-    subst P (sym is.text) (omega (arith, count-append signs is.before p.left))
+    rw is.text (omega (arith, count-append signs is.before p.left))
 
 line-on : (b : Bool) (n k l : ℕ) → n + k ≤ l → n + (k + (0 + cond b 1 0)) ≤ (if b then l + 1 else l)
 line-on true n k l le = omega arith

@@ -1,5 +1,6 @@
 -- What the reading of a token makes of a state.
-use Rattle.snap_scan.proofs.Prelude.{◌≡◌, ◌≤◌, ◌+◌, ℕ, Bool, true, false, List, [], ◌∷◌, Option, Some, None, Result, Ok, Err, length, subst, sym, ap, arith, refl, ◌∙◌, if◌then◌else◌, MatchOption, Place, Later, here, next, skip_from, mark_of, Mark, Plain, plain_from, ReadsPlain, Quoted, ReadsQuoted, TokenType, TScalarStyle, ScanError, Syntax, OutOfMemory, S2, TokenKind, is_required, State, Gives, at, pushed, allowing, keyless, saved, unrolled, is_key_owed, in_flow, Outcome, refused, read, IsTokenOf, IsRead, Does, closed, directive, read_key, plain, plain_read, quoted_read, innermost}
+use Rattle.snap_scan.proofs.Prelude.{◌≡◌, ◌≤◌, ◌+◌, ℕ, Bool, false, List, [], ◌∷◌, Option, Some, None, Result, Ok, Err, length, sym, ap, arith, refl, ◌∙◌, if◌then◌else◌, MatchOption, Place, Later, here, next, skip_from, mark_of, Mark, Plain, plain_from, ReadsPlain, Quoted, ReadsQuoted, TokenType, TScalarStyle, ScanError, Syntax, OutOfMemory, S2, TokenKind, is_required, State, Gives, at, pushed, allowing, keyless, saved, unrolled, is_key_owed, in_flow, refused, read, IsTokenOf, Does, closed, directive, read_key, plain, plain_read, quoted_read, innermost}
+use Rattle.snap_scan.proofs.Soundness.{either}
 use Rattle.snap_token.specs.declared.plain.PlainScalar.{PlainScalar}
 use Rattle.snap_token.specs.declared.token.TokenType.TheVariants as k
 use Rattle.snap_token.specs.declared.token.TScalarStyle.TheVariants as style
@@ -14,17 +15,12 @@ pub later-index : (p q : Place) → Later p q → p.index ≤ q.index
 later-index _ _ (here p) = omega arith
 later-index _ _ (next p q l) = let before = later-index p q l in let on = skip-index q.left q in omega arith
 
-pub chosen : (b : Bool) (x y : Outcome) → b ≡ false → (if b then x else y) ≡ y
-chosen true x y e = absurd (cc)
-chosen false x y e = refl
-
 -- a token that was read is put behind the held ones
 pub does-read : {T : Type 0} (kind : TokenKind) (s : State) (p : Place) (mark : Mark) (token : TokenType) (r : Result T ScanError) (new : State) → IsTokenOf kind token
     → Later s.place p → length p.left + 1 ≤ length s.place.left → s.place.index ≤ mark.index → mark.index ≤ p.index
     → Gives r new (pushed (at mark token) (record s { place = p })) → Does (read kind s) r new
 does-read kind s p mark token (Ok x) new is later further from until gives =
-    let P : State → Type 0 = λ n. IsRead kind s n in
-    subst P (sym gives) (record { mark = mark; token = token; is = is; later = later; further = further; from = from; until = until; leaves = refl })
+    rw gives (record { mark = mark; token = token; is = is; later = later; further = further; from = from; until = until; leaves = refl })
 does-read kind s p mark token (Err OutOfMemory) new is later further from until gives = tt
 does-read kind s p mark token (Err (Syntax m i)) new is later further from until gives = absurd (cc)
 
@@ -36,9 +32,7 @@ pub does-read-key : {T : Type 0} (kind : TokenKind) (b : Bool) (s t u : State) (
 does-read-key kind b s t u p mark token r new is free saved_is allowed_is later further from until gives =
     let same : u ≡ allowing b (saved s) = allowed_is ∙ ap (λ (v : State). allowing b v) saved_is in
     let reads = does-read kind u p mark token r new is later further from until gives in
-    let Q : State → Type 0 = λ v. Does (read kind v) r new in
-    let P : Outcome → Type 0 = λ o. Does o r new in
-    subst P (sym (chosen (is_key_owed s) (refused (mark_of s.place) S2) (read kind (allowing b (saved s))) free)) (subst Q same reads)
+    rw free (rw same at reads)
 
 -- the same where the token's mark is the place
 pub does-read-here : {T : Type 0} (kind : TokenKind) (b : Bool) (s t u : State) (p : Place) (mark : Mark) (token : TokenType) (r : Result T ScanError) (new : State) → IsTokenOf kind token
@@ -52,10 +46,6 @@ does-read-here kind b s t u p mark token r new is free saved_is allowed_is marks
     let on = later-index u.place p later in
     does-read-key kind b s t u p mark token r new is free saved_is allowed_is later further (omega arith) (omega arith) gives
 
-keys-unrolled : (b : Bool) (s t : State) → t.keys ≡ s.keys → (if b then s else t).keys ≡ s.keys
-keys-unrolled true s t e = refl
-keys-unrolled false s t e = e
-
 -- a directive, behind which all blocks are closed
 pub does-directive : {T : Type 0} (s t u v : State) (p : Place) (mark : Mark) (token : TokenType) (r : Result T ScanError) (new : State) → IsTokenOf Directive token
     → t ≡ unrolled None s → is_required t.keys.key ≡ false → u ≡ keyless t → v ≡ allowing false u → mark ≡ mark_of v.place
@@ -65,12 +55,10 @@ does-directive s t u v p mark token r new is unrolled_is free removed_is allowed
     let same : v ≡ closed s = allowed_is ∙ ap (λ (w : State). allowing false w) (removed_is ∙ ap (λ (w : State). keyless w) unrolled_is) in
     let index : mark.index ≡ v.place.index = ap (λ (m : Mark). m.index) marks in
     let on = later-index v.place p later in
-    let keys : t.keys ≡ s.keys = ap (λ (w : State). w.keys) unrolled_is ∙ keys-unrolled (in_flow s) s _ refl in
+    let keys : t.keys ≡ s.keys = ap (λ (w : State). w.keys) unrolled_is ∙ either (λ v. v.keys ≡ s.keys) (in_flow s) s _ refl refl in
     let unowed : is_required s.keys.key ≡ false = cc in
     let reads = does-read Directive v p mark token r new is later further (omega arith) (omega arith) gives in
-    let Q : State → Type 0 = λ w. Does (read Directive w) r new in
-    let P : Outcome → Type 0 = λ o. Does o r new in
-    subst P (sym (chosen (is_required s.keys.key) (refused (mark_of s.place) S2) (read Directive (closed s)) unowed)) (subst Q same reads)
+    rw unowed (rw same at reads)
 
 -- a plain scalar is put behind the held tokens
 told-plain : {T : Type 0} (s t u : State) (o : Option Plain) (scalar : PlainScalar) (p : Place) (mark : Mark) (r : Result T ScanError) (new : State)
@@ -78,19 +66,13 @@ told-plain : {T : Type 0} (s t u : State) (o : Option Plain) (scalar : PlainScal
     → length p.left + 1 ≤ length t.place.left → Gives r new (pushed (at mark (k.Scalar style.Plain scalar.text)) u) → Does (plain_read o s) r new
 told-plain s t u None scalar p mark r new saved_is allowed_is marks reads later further gives = absurd reads
 told-plain s t u (Some x) scalar p mark (Ok y) new saved_is allowed_is marks reads later further gives =
-    let F : State → Mark → List ℕ → Bool → Place → State = λ v m text b q. pushed (at m (k.Scalar style.Plain text)) (record v { allowed = b; place = q }) in
     let at_saved : t.place ≡ s.place = ap (λ (v : State). v.place) saved_is in
     let at_new : new.place ≡ p = ap (λ (v : State). v.place) gives ∙ ap (λ (v : State). v.place) allowed_is in
-    let P : Place → Type 0 = λ q. Later q p in
-    let Q : Place → Type 0 = λ q. Later s.place q in
     let shorter = ap (λ (q : Place). length q.left) at_saved in
     let same = ap (λ (q : Place). length q.left) at_new in
     record {
-      is = gives ∙ ap (λ (v : State). pushed (at mark (k.Scalar style.Plain scalar.text)) v) allowed_is
-          ∙ ap (λ (v : State). F v mark scalar.text scalar.is_broken p) saved_is ∙ ap (λ (m : Mark). F (saved s) m scalar.text scalar.is_broken p) marks
-          ∙ ap (λ (l : List ℕ). F (saved s) (mark_of s.place) l scalar.is_broken p) reads.0 ∙ ap (λ (b : Bool). F (saved s) (mark_of s.place) x.text b p) reads.1
-          ∙ ap (λ (q : Place). F (saved s) (mark_of s.place) x.text x.is_broken q) reads.2;
-      later = subst Q (sym at_new) (subst P at_saved later);
+      is = rw (gives, allowed_is, saved_is, marks, reads.0, reads.1, reads.2);
+      later = rw at_new (rw at_saved at later);
       further = omega (arith, further, shorter, same);
     }
 told-plain s t u (Some x) scalar p mark (Err OutOfMemory) new saved_is allowed_is marks reads later further gives = tt
@@ -101,14 +83,9 @@ pub does-plain : {T : Type 0} (s t u : State) (indent : Option ℕ) (flow : Bool
     → ReadsPlain (plain_from indent flow t.place) (Ok scalar) p → Later t.place p → length p.left + 1 ≤ length t.place.left
     → Gives r new (pushed (at mark (k.Scalar style.Plain scalar.text)) u) → Does (plain s) r new
 does-plain s t u indent flow scalar p mark r new free saved_is allowed_is marks indent_is flow_is reads later further gives =
-    let same : plain_from indent flow t.place ≡ plain_from (innermost s.columns) (in_flow s) s.place =
-    ap (λ (i : Option ℕ). plain_from i flow t.place) (indent_is ∙ ap (λ (v : State). innermost v.columns) saved_is)
-    ∙ ap (λ (b : Bool). plain_from (innermost s.columns) b t.place) flow_is ∙ ap (λ (v : State). plain_from (innermost s.columns) (in_flow s) v.place) saved_is in
+    let same : plain_from indent flow t.place ≡ plain_from (innermost s.columns) (in_flow s) s.place = rw (indent_is, flow_is, saved_is) in
     let o = plain_from (innermost s.columns) (in_flow s) s.place in
-    let P : Outcome → Type 0 = λ x. Does x r new in
-    let Q : Option Plain → Type 0 = λ x. ReadsPlain x (Ok scalar) p in
-    subst P (sym (chosen (is_key_owed s) (refused (mark_of s.place) S2) (plain_read o s) free))
-    (told-plain s t u o scalar p mark r new saved_is allowed_is marks (subst Q same reads) later further gives)
+    rw free (told-plain s t u o scalar p mark r new saved_is allowed_is marks (rw same at reads) later further gives)
 
 -- a quoted scalar is put behind the held tokens
 told-quoted : {T : Type 0} (written : TScalarStyle) (s t : State) (o : Option Quoted) (text : List ℕ) (p : Place) (n : ℕ) (mark : Mark) (r : Result T ScanError) (new : State)
@@ -116,18 +93,13 @@ told-quoted : {T : Type 0} (written : TScalarStyle) (s t : State) (o : Option Qu
     → Gives r new (pushed (at mark (k.Scalar written text)) (record t { place = p; adjacent = n })) → Does (quoted_read written o s) r new
 told-quoted written s t None text p n mark r new saved_is index_is marks reads later further gives = absurd reads
 told-quoted written s t (Some x) text p n mark (Ok y) new saved_is index_is marks reads later further gives =
-    let F : State → Mark → List ℕ → Place → ℕ → State = λ v m l q i. pushed (at m (k.Scalar written l)) (record v { place = q; adjacent = i }) in
-    let u = allowing false (saved s) in
     let at_saved : t.place ≡ s.place = ap (λ (v : State). v.place) saved_is in
     let at_new : new.place ≡ p = ap (λ (v : State). v.place) gives in
-    let P : Place → Type 0 = λ q. Later q p in
-    let Q : Place → Type 0 = λ q. Later s.place q in
     let shorter = ap (λ (q : Place). length q.left) at_saved in
     let same = ap (λ (q : Place). length q.left) at_new in
     record {
-      is = gives ∙ ap (λ (v : State). F v mark text p n) saved_is ∙ ap (λ (m : Mark). F u m text p n) marks ∙ ap (λ (i : ℕ). F u (mark_of s.place) text p i) index_is
-          ∙ ap (λ (l : List ℕ). F u (mark_of s.place) l p p.index) reads.0 ∙ ap (λ (q : Place). F u (mark_of s.place) x.text q q.index) reads.1;
-      later = subst Q (sym at_new) (subst P at_saved later);
+      is = rw (gives, saved_is, marks, index_is, reads.0, reads.1);
+      later = rw at_new (rw at_saved at later);
       further = omega (arith, further, shorter, same);
     }
 told-quoted written s t (Some x) text p n mark (Err OutOfMemory) new saved_is index_is marks reads later further gives = tt
@@ -139,10 +111,7 @@ pub does-quoted : {T : Type 0} (written : TScalarStyle) (from : Place → Option
     → Does (if is_key_owed s then refused (mark_of s.place) S2 else quoted_read written (from s.place) s) r new
 does-quoted written from s t u text p n mark r new free saved_is allowed_is index_is marks reads later further gives =
     let same : u ≡ allowing false (saved s) = allowed_is ∙ ap (λ (v : State). allowing false v) saved_is in
-    let P : Outcome → Type 0 = λ x. Does x r new in
-    let Q : Place → Type 0 = λ q. ReadsQuoted (from q) (Ok text) p in
-    subst P (sym (chosen (is_key_owed s) (refused (mark_of s.place) S2) (quoted_read written (from s.place) s) free))
-    (told-quoted written s u (from s.place) text p n mark r new same index_is marks (subst Q (ap (λ (v : State). v.place) same) reads) later further gives)
+    rw free (told-quoted written s u (from s.place) text p n mark r new same index_is marks (rw (ap (λ (v : State). v.place) same) at reads) later further gives)
 
 pub innermost-is : (o : Option ℕ) (columns : List ℕ) → MatchOption o (columns ≡ []) (λ column. (outer : List ℕ) × (columns ≡ column ∷ outer)) → o ≡ innermost columns
 innermost-is None columns is = ap (λ (v : List ℕ). innermost v) (sym is)

@@ -1,11 +1,11 @@
 -- Each fetch keeps a scanner sound.
-use Rattle.snap_scan.proofs.Prelude.{◌≡◌, ◌≢◌, ◌≤◌, ◌+◌, ◌-◌, ◌++◌, ◌∷◌, [], ℕ, Bool, true, false, List, Option, Some, None, length, slice_index, slice_index_or, length-append, subst, sym, ap, arith, refl, ◌∙◌, ◌&&◌, inl, inr, if◌then◌else◌, All, count_by, codes, nat_lt, not, ◌||◌, ltb-false, length-take, All-push, All-head, All-tail, All-take, All-get_or, Mark, Place, Later, skipped, forced, mark_of, Plain, Quoted, single_from, double_from, is_among, Token, TokenType, TScalarStyle, TokenKind, SimpleKey, is_required, is_past, has_levels, deeper, shallower, Begins, State, at, in_flow, pushed, inserted, put, advanced, allowing, unrolled, rolled, is_deeper, keyless, saved, is_key_owed, done, IsTokenOf, IsRead, Leaves, closed, sign, document, plain_read, quoted_read, read_key, value_behind, kind_step, Holds, shown, IsShown, IsIn, IsKeyBehind, HasQuestion, HasColon, KindStands, IsPossible, IsSound, IsSoundFrom, open_still, over, IsNoStart, IsNoEnd, EndsStream, is_start, is_end, block_signs}
+use Rattle.snap_scan.proofs.Prelude.{◌≡◌, ◌≢◌, ◌≤◌, ◌+◌, ◌-◌, ◌++◌, ◌∷◌, [], ℕ, Bool, true, false, List, Option, Some, None, length, slice_index, slice_index_or, length-append, subst, sym, ap, arith, refl, ◌∙◌, ◌&&◌, inl, inr, if◌then◌else◌, All, count_by, codes, nat_lt, not, ltb-false, length-take, All-push, All-head, All-tail, All-take, All-get_or, Mark, Place, Later, skipped, forced, mark_of, Plain, Quoted, single_from, double_from, is_among, Token, TokenType, TScalarStyle, TokenKind, SimpleKey, is_required, is_past, has_levels, deeper, shallower, Begins, State, at, in_flow, pushed, inserted, put, advanced, allowing, unrolled, rolled, is_deeper, keyless, saved, is_key_owed, done, IsTokenOf, IsRead, Leaves, closed, sign, document, plain_read, quoted_read, read_key, value_behind, kind_step, Holds, shown, IsShown, IsIn, IsKeyBehind, HasQuestion, HasColon, KindStands, IsPossible, IsSound, IsSoundFrom, open_still, over, IsNoStart, IsNoEnd, EndsStream, is_start, is_end, block_signs, or_left, or_right}
 use Rattle.snap_token.specs.declared.token.TokenType.TheVariants as t
 use Rattle.snap_token.specs.declared.token.TScalarStyle.TheVariants as style
 use Rattle.snap_scan.specs.declared.kind.TokenKind.TheVariants as k
 use Rattle.snap_scan.proofs.Growing.{unrefused, unrefused-else}
 use Rattle.snap_scan.proofs.Possible.{in-source, in-later, in-bracket, in-fewer, stands}
-use Rattle.snap_scan.proofs.Soundness.{only, begins-append, rest-append, sound-pushed, sound-inserted, sound-advanced, sound-passed, sound-further, sound-forced, sound-keyless, sound-rolled, sound-unrolled, sound-saved}
+use Rattle.snap_scan.proofs.Soundness.{either, only, sound-moved, begins-append, rest-append, sound-pushed, sound-inserted, sound-advanced, sound-passed, sound-further, sound-forced, sound-keyless, sound-rolled, sound-unrolled, sound-saved}
 
 -- what is asked of a token that is no Key, StreamStart or StreamEnd, where it is put into the queue
 record IsFit (source : List ℕ) (kind : TokenType) : Type 0 where
@@ -13,6 +13,9 @@ record IsFit (source : List ℕ) (kind : TokenType) : Type 0 where
   no_key : (m : Mark) → KindStands source m kind
   no_start : is_start kind ≡ false
   no_end : is_end kind ≡ false
+
+fit-plain : (source : List ℕ) (kind : TokenType) → Holds source (shown kind) → ((m : Mark) → KindStands source m kind) → is_start kind ≡ false → is_end kind ≡ false → IsFit source kind
+fit-plain source kind signs no_key no_start no_end = record { signs = signs; no_key = no_key; no_start = no_start; no_end = no_end }
 
 shown-at : (source : List ℕ) (n : ℕ) (p : Place) (kind : TokenType) → IsIn source n p → Holds source (shown kind) → KindStands source (mark_of p) kind → IsShown source (at (mark_of p) kind)
 shown-at source n p kind is signs key = record { signs = signs; mark = omega (arith, in-source source n p is); key = key }
@@ -39,7 +42,7 @@ pub some-of : (c n : ℕ) → c ≡ n → n ≢ 0 → c ≢ 0
 some-of c n is some none = some (sym is ∙ none)
 
 pub left-done : {ahead : Bool} → (source : List ℕ) (u new : State) → IsSound ahead source u → Leaves (done u) new → IsSound ahead source new
-left-done source u new is l = let P : State → Type 0 = IsSound _ source in subst P (sym l) is
+left-done source u new is l = rw l is
 
 pub left-open : {ahead : Bool} → (source : List ℕ) (u new : State) → IsSoundFrom false ahead source 1 u → Leaves (done u) new → IsSound ahead source new
 left-open source u new is l = left-done source u new (open_still is) l
@@ -47,18 +50,13 @@ left-open source u new is l = left-done source u new (open_still is) l
 -- what a reader gives fits
 read-fits : {ahead : Bool} → (source : List ℕ) (d : ℕ) (kind : TokenKind) (s : State) (token : TokenType) → IsSoundFrom false ahead source d s → Begins kind (slice_index s.place.left 0) → IsTokenOf kind token
     → IsFit source token
-read-fits source d k.Directive s (t.VersionDirective a b) is first of =
-    record { signs = begun (codes "%") source d s 37 is first refl (omega arith); no_key = λ m. tt; no_start = refl; no_end = refl }
-read-fits source d k.Directive s (t.TagDirective a b) is first of =
-    record { signs = begun (codes "%") source d s 37 is first refl (omega arith); no_key = λ m. tt; no_start = refl; no_end = refl }
-read-fits source d k.Alias s (t.Alias a) is first of =
-    record { signs = begun (codes "*") source d s 42 is first refl (omega arith); no_key = λ m. tt; no_start = refl; no_end = refl }
-read-fits source d k.Anchor s (t.Anchor a) is first of =
-    record { signs = begun (codes "&") source d s 38 is first refl (omega arith); no_key = λ m. tt; no_start = refl; no_end = refl }
-read-fits source d k.Tag s (t.Tag a b) is first of =
-    record { signs = begun (codes "!") source d s 33 is first refl (omega arith); no_key = λ m. tt; no_start = refl; no_end = refl }
-read-fits source d k.Literal s (t.Scalar a b) is first of = record { signs = omega arith; no_key = λ m. tt; no_start = refl; no_end = refl }
-read-fits source d k.Folded s (t.Scalar a b) is first of = record { signs = omega arith; no_key = λ m. tt; no_start = refl; no_end = refl }
+read-fits source d k.Directive s (t.VersionDirective a b) is first of = fit-plain source _ (begun (codes "%") source d s 37 is first refl (omega arith)) (λ m. tt) refl refl
+read-fits source d k.Directive s (t.TagDirective a b) is first of = fit-plain source _ (begun (codes "%") source d s 37 is first refl (omega arith)) (λ m. tt) refl refl
+read-fits source d k.Alias s (t.Alias a) is first of = fit-plain source _ (begun (codes "*") source d s 42 is first refl (omega arith)) (λ m. tt) refl refl
+read-fits source d k.Anchor s (t.Anchor a) is first of = fit-plain source _ (begun (codes "&") source d s 38 is first refl (omega arith)) (λ m. tt) refl refl
+read-fits source d k.Tag s (t.Tag a b) is first of = fit-plain source _ (begun (codes "!") source d s 33 is first refl (omega arith)) (λ m. tt) refl refl
+read-fits source d k.Literal s (t.Scalar a b) is first of = fit-plain source _ (omega arith) (λ m. tt) refl refl
+read-fits source d k.Folded s (t.Scalar a b) is first of = fit-plain source _ (omega arith) (λ m. tt) refl refl
 read-fits source d kind s token is first of = absurd of
 
 sound-read : {ahead : Bool} → (source : List ℕ) (d : ℕ) (kind : TokenKind) (u new : State) → IsSoundFrom false ahead source d u → ((token : TokenType) → IsTokenOf kind token → IsFit source token)
@@ -77,17 +75,9 @@ sound-flow-start source kind s is bracket some fit =
     let m = sound-passed source 0 (allowing true u) some (sound-saved source 1 s is) in
     let levels = in-bracket source (length s.keys.outer) s.place bracket is.place in
     let n = length (s.keys.outer ++ u.keys.key ∷ []) in
-    let base : IsSoundFrom false _ source 1 (advanced (allowing true (record u { keys = deeper u.keys }))) = record {
-      place = in-fewer source n (length s.keys.outer + 1) (skipped s.place) (omega (arith, length-append s.keys.outer (u.keys.key ∷ []))) levels;
-      tokens = m.tokens;
-      first = m.first;
-      starts = m.starts;
-      ends = m.ends;
-      keys = record { key = tt; outer = All-push (IsPossible source 1 (skipped s.place) _) s.keys.outer u.keys.key m.keys.outer m.keys.key };
-      blocks = m.blocks;
-      started = m.started;
-      ended = m.ended;
-    } in
+    let base : IsSoundFrom false _ source 1 (advanced (allowing true (record u { keys = deeper u.keys }))) =
+    sound-moved m (in-fewer source n (length s.keys.outer + 1) (skipped s.place) (omega (arith, length-append s.keys.outer (u.keys.key ∷ []))) levels)
+    (record { key = tt; outer = All-push (IsPossible source 1 (skipped s.place) _) s.keys.outer u.keys.key m.keys.outer m.keys.key }) in
     sound-pushed source 1 (at (mark_of s.place) kind) (advanced (allowing true (record u { keys = deeper u.keys }))) base
     (shown-at source (length s.keys.outer) s.place kind is.place fit.signs (fit.no_key (mark_of s.place))) fit.no_start fit.no_end
 
@@ -101,17 +91,9 @@ sound-flow-end source kind s is some fit =
     let u = keyless s in
     let m = sound-passed source 1 (allowing false u) some (sound-keyless source 1 s is) in
     let P = IsPossible source 1 (skipped s.place) _ in
-    let base : IsSoundFrom false _ source 1 (advanced (allowing false (record u { keys = shallower u.keys }))) = record {
-      place = in-fewer source _ (length s.keys.outer) (skipped s.place) (omega (arith, length-take (length s.keys.outer - 1) s.keys.outer)) m.place;
-      tokens = m.tokens;
-      first = m.first;
-      starts = m.starts;
-      ends = m.ends;
-      keys = record { key = key-left P s.keys.outer tt m.keys.outer; outer = All-take P (length s.keys.outer - 1) s.keys.outer m.keys.outer };
-      blocks = m.blocks;
-      started = m.started;
-      ended = m.ended;
-    } in
+    let base : IsSoundFrom false _ source 1 (advanced (allowing false (record u { keys = shallower u.keys }))) =
+    sound-moved m (in-fewer source _ (length s.keys.outer) (skipped s.place) (omega (arith, length-take (length s.keys.outer - 1) s.keys.outer)) m.place)
+    (record { key = key-left P s.keys.outer tt m.keys.outer; outer = All-take P (length s.keys.outer - 1) s.keys.outer m.keys.outer }) in
     sound-pushed source 1 (at (mark_of s.place) kind) (advanced (allowing false (record u { keys = shallower u.keys }))) base
     (shown-at source (length s.keys.outer) s.place kind is.place fit.signs (fit.no_key (mark_of s.place))) fit.no_start fit.no_end
 
@@ -119,14 +101,11 @@ place-put : (i : Option ℕ) (token : Token) (s : State) → (put i token s).pla
 place-put None token s = refl
 place-put (Some i) token s = refl
 
-place-either : (b : Bool) (p : Place) (x y : State) → x.place ≡ p → y.place ≡ p → (if b then x else y).place ≡ p
-place-either true p x y left right = left
-place-either false p x y left right = right
-
 -- a block that begins leaves the place
 place-rolled : (col : ℕ) (i : Option ℕ) (token : Token) (s : State) → (rolled col i token s).place ≡ s.place
 place-rolled col i token s =
-    place-either (in_flow s) s.place s _ refl (place-either (is_deeper col s.columns) s.place _ s (place-put i token (record s { columns = col ∷ s.columns })) refl)
+    let P : State → Type 0 = λ v. v.place ≡ s.place in
+    either P (in_flow s) s _ refl (either P (is_deeper col s.columns) _ s (place-put i token (record s { columns = col ∷ s.columns })) refl)
 
 -- a block begins here, and then a token of one character
 sound-block : {ahead : Bool} → (source : List ℕ) (start kind : TokenType) (b : Bool) (s : State) → IsSoundFrom false ahead source 1 s → slice_index s.place.left 0 ≢ 0 → IsFit source start
@@ -138,45 +117,31 @@ sound-block source start kind b s is some fit block signs key no_start no_end =
     let u = rolled s.place.col None token s in
     let deep = sound-rolled source 1 s.place.col None token s is tt (shown-at source n s.place start is.place fit.signs (fit.no_key (mark_of s.place))) fit.no_start fit.no_end block in
     let same = sym (place-rolled s.place.col None token s) in
-    let P : Place → Type 0 = λ p. slice_index p.left 0 ≢ 0 in
-    let Q : Place → Type 0 = λ p. KindStands source (mark_of p) kind in
-    sound-sign source 1 kind b (keyless u) (sound-keyless source 1 u deep) (subst P same some) signs (subst Q same key) no_start no_end
+    sound-sign source 1 kind b (keyless u) (sound-keyless source 1 u deep) (rw same at some) signs (rw same at key) no_start no_end
 
 -- a key that is still possible where a `:` stands is one of a `:` on its line
 colon-stands : (source : List ℕ) (n : ℕ) (p : Place) (cs : List ℕ) (key : SimpleKey) → p.left ≡ cs → slice_index cs 0 ≡ 58 → is_past (mark_of p) key ≡ false → IsIn source n p
     → IsKeyBehind source 1 p key → HasColon source key.mark
 colon-stands source n p [] key left first fresh is behind = absurd (cc)
 colon-stands source n p (c ∷ cs) key left first fresh is behind =
-    let line : p.line ≤ key.mark.line = ltb-false key.mark.line p.line (first-false _ _ fresh) in
-    let near : p.index - key.mark.index ≤ 1024 = ltb-false 1024 (p.index - key.mark.index) (second-false _ _ fresh) in
+    let line : p.line ≤ key.mark.line = ltb-false key.mark.line p.line (or_left _ _ fresh) in
+    let near : p.index - key.mark.index ≤ 1024 = ltb-false 1024 (p.index - key.mark.index) (or_right _ _ fresh) in
     let long = ap length behind.text in
-    let P : ℕ → Type 0 = λ x. source ≡ behind.before ++ behind.between ++ x ∷ cs in
     record {
       before = behind.before;
       key = behind.between;
       after = cs;
-      text = subst P first (behind.text ∙ ap (λ (v : List ℕ). behind.before ++ behind.between ++ v) left);
+      text = rw first at (behind.text ∙ ap (λ (v : List ℕ). behind.before ++ behind.between ++ v) left);
       index = behind.index;
       some = behind.some;
       short = omega (arith, near, long, in-source source n p is, length-append (behind.before ++ behind.between) p.left, length-append behind.before behind.between, behind.index);
       one_line = omega (arith, line, behind.lines);
     }
-  where
-    first-false : (a b : Bool) → (a || b) ≡ false → a ≡ false
-    first-false true b e = absurd (cc)
-    first-false false b e = refl
-
-    second-false : (a b : Bool) → (a || b) ≡ false → b ≡ false
-    second-false true b e = absurd (cc)
-    second-false false b e = e
 
 -- a possible key that isn't past
 abbrev pub IsFresh : Mark → Option SimpleKey → Type 0
 IsFresh mark None = Unit {0}
 IsFresh mark (Some key) = is_past mark key ≡ false
-
-fit-plain : (source : List ℕ) (kind : TokenType) → Holds source (shown kind) → ((m : Mark) → KindStands source m kind) → is_start kind ≡ false → is_end kind ≡ false → IsFit source kind
-fit-plain source kind signs no_key no_start no_end = record { signs = signs; no_key = no_key; no_start = no_start; no_end = no_end }
 
 sound-value : {ahead : Bool} → (source : List ℕ) (key : Option SimpleKey) (s new : State) → IsSoundFrom false ahead source 1 s → IsPossible source 1 s.place ahead key → IsFresh (mark_of s.place) key
     → slice_index s.place.left 0 ≡ 58 → Leaves (value_behind key s) new → IsSound ahead source new
@@ -193,8 +158,7 @@ sound-value source (Some key) s new is possible fresh first l =
     let begin = at (mark_of s.place) t.BlockMappingStart in
     let deep = sound-rolled source 1 key.mark.col (Some key.place) begin u keyed possible.place (shown-at source n s.place t.BlockMappingStart is.place start tt) refl refl block in
     let v = rolled key.mark.col (Some key.place) begin u in
-    let P : Place → Type 0 = λ p. slice_index p.left 0 ≢ 0 in
-    let some = subst P (sym (place-rolled key.mark.col (Some key.place) begin u)) (some-of _ 58 first (omega arith)) in
+    let some : slice_index v.place.left 0 ≢ 0 = rw (place-rolled key.mark.col (Some key.place) begin u) (some-of _ 58 first (omega arith)) in
     left-open source _ new (sound-sign source 1 t.Value false (keyless v) (sound-keyless source 1 v deep) some (omega arith) tt refl refl) l
   where
     behind-index : (source : List ℕ) (n : ℕ) (p : Place) (key : SimpleKey) → IsIn source n p → IsKeyBehind source 1 p key → key.mark.index ≤ p.index
@@ -206,8 +170,7 @@ sound-value source None s new is possible fresh first l =
     let start = begun (codes "?:") source 1 s 58 is first refl (omega arith) in
     let token = at (mark_of s.place) t.BlockMappingStart in
     let deep = sound-rolled source 1 s.place.col None token s is tt (shown-at source (length s.keys.outer) s.place t.BlockMappingStart is.place start tt) refl refl block in
-    let P : Place → Type 0 = λ p. slice_index p.left 0 ≢ 0 in
-    let some = subst P (sym (place-rolled s.place.col None token s)) (some-of _ 58 first (omega arith)) in
+    let some : slice_index (rolled s.place.col None token s).place.left 0 ≢ 0 = rw (place-rolled s.place.col None token s) (some-of _ 58 first (omega arith)) in
     left-open source _ new (sound-sign source 1 t.Value (not (in_flow s)) (rolled s.place.col None token s) deep some (omega arith) tt refl refl)
     (unrefused (not (in_flow s) && not s.allowed) _ _ _ new l)
 
@@ -216,13 +179,11 @@ sound-told : {ahead : Bool} → (source : List ℕ) (kind : TokenType) (u new : 
     → new ≡ pushed (at (mark_of u.place) kind) (record u { place = p }) → IsSound ahead source new
 sound-told source kind u new p is fit later further leaves =
     let same : new.place ≡ p = ap (λ (v : State). v.place) leaves in
-    let P : Place → Type 0 = λ q. Later u.place q in
-    let Q : Place → Type 0 = λ q. length q.left + 1 ≤ length u.place.left in
-    left-open source _ new (sound-pushed source 1 (at (mark_of u.place) kind) (record u { place = p }) (sound-further source 0 p u (subst P same later) (subst Q same further) is)
+    left-open source _ new (sound-pushed source 1 (at (mark_of u.place) kind) (record u { place = p }) (sound-further source 0 p u (rw same at later) (rw same at further) is)
     (shown-at source (length u.keys.outer) u.place kind is.place fit.signs (fit.no_key (mark_of u.place))) fit.no_start fit.no_end) leaves
 
 scalar-fits : (source : List ℕ) (written : TScalarStyle) (text : List ℕ) → IsFit source (t.Scalar written text)
-scalar-fits source written text = record { signs = omega arith; no_key = λ m. tt; no_start = refl; no_end = refl }
+scalar-fits source written text = fit-plain source (t.Scalar written text) (omega arith) (λ m. tt) refl refl
 
 sound-plain : {ahead : Bool} → (source : List ℕ) (o : Option Plain) (s new : State) → IsSoundFrom false ahead source 1 s → Leaves (plain_read o s) new → IsSound ahead source new
 sound-plain source None s new is l = absurd l
@@ -310,8 +271,7 @@ sound-kind source k.Key s new is fresh first l =
     question : (source : List ℕ) (n : ℕ) (p : Place) (cs : List ℕ) → p.left ≡ cs → slice_index cs 0 ≡ 63 → IsIn source n p → HasQuestion source (mark_of p)
     question source n p [] left first is = absurd (cc)
     question source n p (c ∷ cs) left first is =
-        let P : ℕ → Type 0 = λ x. source ≡ is.before ++ x ∷ cs in
-        record { before = is.before; after = cs; text = subst P first (is.text ∙ ap (λ (v : List ℕ). is.before ++ v) left); index = is.index }
+        record { before = is.before; after = cs; text = rw first at (is.text ∙ ap (λ (v : List ℕ). is.before ++ v) left); index = is.index }
 sound-kind source k.Value s new is fresh first l = sound-value source s.keys.key s new is is.keys.key fresh first l
 sound-kind source (k.Refused info) s new is fresh first l = absurd l
 sound-kind source k.Alias s new is fresh first l = sound-read-key source k.Alias false s new is first l

@@ -1,11 +1,10 @@
 -- What the parts of a fetch keep.
-use Rattle.snap_scan.proofs.Prelude.{◌≡◌, ◌≢◌, ◌≤◌, ◌<◌, ◌+◌, ◌++◌, ◌∷◌, [], ℕ, zero, suc, Bool, true, false, List, Option, Some, None, length, take, drop, slice_index, min, sym, ap, arith, refl, ◌∙◌, ◌==◌, ◌&&◌, if◌then◌else◌, All, insert, length-map, append-nil, All-append, All-cons, All-nil, All-head, All-take, All-drop, All-map, All-weaker, Mark, Place, Later, here, next, skipped, skip_from, forced, mark_of, is_break, Token, is_past, fresh, lowered, State, at, in_flow, pushed, inserted, put, advanced, line_ended, is_space, to_next, past_comment, ends, kept, is_right_of, unrolled, rolled, is_deeper, keyless, saved, is_innermost, stale, given, Holds, IsShown, IsKeySound, IsPossible, IsSoundFrom, IsNoStart, IsNoEnd, IsEndLast, begins_stream, is_start, block_signs, SimpleKey, both_second}
+use Rattle.snap_scan.proofs.Prelude.{◌≡◌, ◌≢◌, ◌≤◌, ◌<◌, ◌+◌, ◌++◌, ◌∷◌, [], ℕ, zero, suc, Bool, true, false, List, Option, Some, None, length, take, drop, slice_index, min, sym, ap, arith, refl, ◌∙◌, ◌==◌, ◌&&◌, if◌then◌else◌, All, insert, length-map, append-nil, All-append, All-cons, All-nil, All-head, All-take, All-drop, All-map, All-weaker, Mark, Place, Later, here, next, skipped, skip_from, forced, mark_of, is_break, Token, is_past, fresh, lowered, State, at, in_flow, pushed, inserted, put, advanced, line_ended, is_space, to_next, past_comment, ends, kept, is_right_of, unrolled, rolled, is_deeper, keyless, saved, is_innermost, stale, given, Holds, IsShown, IsKeySound, IsPossible, IsSoundFrom, IsNoStart, IsNoEnd, IsEndLast, begins_stream, is_start, block_signs, SimpleKey, both_second, cond_both, IsSoundAt, ArePossible, Keys, IsIn}
 use Rattle.snap_token.specs.declared.token.TokenType.TheVariants as t
 use Rattle.snap_scan.proofs.Possible.{in-source, in-later, in-fewer, in-forced, keys-later, keys-further, keys-nearer, keys-forced}
 
-pub either : (P : State → Type 0) (b : Bool) (x y : State) → P x → P y → P (if b then x else y)
-either P true x y left right = left
-either P false x y left right = right
+pub either : {A : Type 0} (P : A → Type 0) (b : Bool) (x y : A) → P x → P y → P (if b then x else y)
+either P b x y left right = cond_both b x y P (λ _. left) (λ _. right)
 
 -- tokens that are neither StreamStart nor StreamEnd
 begins-none : (ts : List Token) → All IsNoStart ts → begins_stream ts ≡ false
@@ -22,17 +21,10 @@ rest-append (x ∷ xs) ts rest none = All-append IsNoStart xs ts rest none
 
 pub sound-appended : {ahead : Bool} → (source : List ℕ) (d : ℕ) (ts : List Token) (s : State) → IsSoundFrom false ahead source d s → All (IsShown source) ts → All IsNoStart ts → All IsNoEnd ts
     → IsSoundFrom false ahead source d (record s { held = s.held ++ ts })
-sound-appended source d ts s is more no_start no_end = record {
-  place = is.place;
-  tokens = All-append (IsShown source) s.held ts is.tokens more;
-  first = begins-append s.held ts no_start ∙ is.first;
-  starts = rest-append s.held ts is.starts no_start;
-  ends = All-append IsNoEnd s.held ts is.ends no_end;
-  keys = is.keys;
-  blocks = is.blocks;
-  started = is.started;
-  ended = is.ended;
-}
+sound-appended source d ts s is more no_start no_end =
+    let all = All-append (IsShown source) s.held ts is.tokens more in
+    let first = begins-append s.held ts no_start ∙ is.first in
+    search (all, first, rest-append s.held ts is.starts no_start, All-append IsNoEnd s.held ts is.ends no_end)
 
 pub only : (P : Token → Type 0) (token : Token) → P token → All P (token ∷ [])
 only P token is = All-cons P token [] is (All-nil P)
@@ -72,17 +64,9 @@ pub sound-inserted : {ahead : Bool} → (source : List ℕ) (d i : ℕ) (token :
 sound-inserted source d i token s is behind more no_start no_end =
     let n = min i (length s.held) in
     let within : begins_stream s.held ≡ true → 1 ≤ n = λ e. omega (arith, behind (sym is.first ∙ e), some-held s.held e) in
-    record {
-      place = is.place;
-      tokens = All-insert (IsShown source) s.held n token is.tokens more;
-      first = begins-inserted s.held n token within no_start ∙ is.first;
-      starts = rest-inserted s.held n token within is.starts no_start;
-      ends = All-insert IsNoEnd s.held n token is.ends no_end;
-      keys = is.keys;
-      blocks = is.blocks;
-      started = is.started;
-      ended = is.ended;
-    }
+    let first = begins-inserted s.held n token within no_start ∙ is.first in
+    let starts = rest-inserted s.held n token within is.starts no_start in
+    search (All-insert (IsShown source) s.held n token is.tokens more, first, starts, All-insert IsNoEnd s.held n token is.ends no_end)
 
 -- a place in the queue that isn't before StreamStart
 abbrev pub IsBehindStart : Bool → Option ℕ → Type 0
@@ -94,34 +78,21 @@ sound-put : {ahead : Bool} → (source : List ℕ) (d : ℕ) (i : Option ℕ) (t
 sound-put source d None token s is behind more no_start no_end = sound-pushed source d token s is more no_start no_end
 sound-put source d (Some i) token s is behind more no_start no_end = sound-inserted source d i token s is behind more no_start no_end
 
+-- another place, with the keys that are possible there
+pub sound-moved : {over ahead begun stopped : Bool} {source columns : List ℕ} {d e : ℕ} {p q : Place} {held : List Token} {ks js : Keys}
+    → IsSoundAt over ahead source d p held ks columns begun stopped → IsIn source (length js.outer) q → ArePossible source e q ahead js
+    → IsSoundAt over ahead source e q held js columns begun stopped
+sound-moved is place keys = search
+
 -- a later place
 pub sound-at : {ahead : Bool} → (source : List ℕ) (d : ℕ) (p : Place) (s : State) → Later s.place p → IsSoundFrom false ahead source d s → IsSoundFrom false ahead source d (record s { place = p })
-sound-at source d p s later is = record {
-  place = in-later source (length s.keys.outer) s.place p later is.place;
-  tokens = is.tokens;
-  first = is.first;
-  starts = is.starts;
-  ends = is.ends;
-  keys = keys-later source d s.place p _ s.keys later is.keys;
-  blocks = is.blocks;
-  started = is.started;
-  ended = is.ended;
-}
+sound-at source d p s later is = sound-moved is (in-later source (length s.keys.outer) s.place p later is.place) (keys-later source d s.place p _ s.keys later is.keys)
 
 -- a place that is one character later at least: what was a possible key here is one behind it
 pub sound-further : {ahead : Bool} → (source : List ℕ) (d : ℕ) (p : Place) (s : State) → Later s.place p → length p.left + 1 ≤ length s.place.left → IsSoundFrom false ahead source d s
     → IsSoundFrom false ahead source 1 (record s { place = p })
-sound-further source d p s later further is = record {
-  place = in-later source (length s.keys.outer) s.place p later is.place;
-  tokens = is.tokens;
-  first = is.first;
-  starts = is.starts;
-  ends = is.ends;
-  keys = keys-further source d s.place p _ s.keys later further is.keys;
-  blocks = is.blocks;
-  started = is.started;
-  ended = is.ended;
-}
+sound-further source d p s later further is =
+    sound-moved is (in-later source (length s.keys.outer) s.place p later is.place) (keys-further source d s.place p _ s.keys later further is.keys)
 
 pub sound-advanced : {ahead : Bool} → (source : List ℕ) (d : ℕ) (s : State) → IsSoundFrom false ahead source d s → IsSoundFrom false ahead source d (advanced s)
 sound-advanced source d s is = sound-at source d (skipped s.place) s (next s.place s.place (here s.place)) is
@@ -135,69 +106,35 @@ pub sound-passed : {ahead : Bool} → (source : List ℕ) (d : ℕ) (s : State) 
 sound-passed source d s some is = sound-further source d (skipped s.place) s (next s.place s.place (here s.place)) (skip-shorter s.place.left s.place refl some) is
 
 pub sound-forced : {ahead : Bool} → (source : List ℕ) (d : ℕ) (s : State) → IsSoundFrom false ahead source d s → IsSoundFrom false ahead source d (record s { place = forced s.place })
-sound-forced source d s is = record {
-  place = in-forced source (length s.keys.outer) s.place is.place;
-  tokens = is.tokens;
-  first = is.first;
-  starts = is.starts;
-  ends = is.ends;
-  keys = keys-forced source d s.place _ s.keys is.keys;
-  blocks = is.blocks;
-  started = is.started;
-  ended = is.ended;
-}
+sound-forced source d s is = sound-moved is (in-forced source (length s.keys.outer) s.place is.place) (keys-forced source d s.place _ s.keys is.keys)
 
 pub sound-keyless : {ahead : Bool} → (source : List ℕ) (d : ℕ) (s : State) → IsSoundFrom false ahead source d s → IsSoundFrom false ahead source d (keyless s)
-sound-keyless source d s is = record {
-  place = is.place;
-  tokens = is.tokens;
-  first = is.first;
-  starts = is.starts;
-  ends = is.ends;
-  keys = record { key = tt; outer = is.keys.outer };
-  blocks = is.blocks;
-  started = is.started;
-  ended = is.ended;
-}
+sound-keyless source d s is = sound-moved is is.place (record { key = tt; outer = is.keys.outer })
 
-sound-deeper : {ahead : Bool} → (source : List ℕ) (d col : ℕ) (s : State) → IsSoundFrom false ahead source d s → Holds source block_signs → IsSoundFrom false ahead source d (record s { columns = col ∷ s.columns })
-sound-deeper source d col s is block = record {
-  place = is.place;
-  tokens = is.tokens;
-  first = is.first;
-  starts = is.starts;
-  ends = is.ends;
-  keys = is.keys;
-  blocks = λ _. block;
-  started = is.started;
-  ended = is.ended;
-}
+-- other blocks
+sound-blocks : {over ahead begun stopped : Bool} {source columns others : List ℕ} {d : ℕ} {p : Place} {held : List Token} {ks : Keys}
+    → IsSoundAt over ahead source d p held ks columns begun stopped → (0 < length others → Holds source block_signs)
+    → IsSoundAt over ahead source d p held ks others begun stopped
+sound-blocks is blocks = search
 
 pub sound-rolled : {ahead : Bool} → (source : List ℕ) (d col : ℕ) (i : Option ℕ) (token : Token) (s : State) → IsSoundFrom false ahead source d s → IsBehindStart ahead i
     → IsShown source token → IsNoStart token → IsNoEnd token → Holds source block_signs → IsSoundFrom false ahead source d (rolled col i token s)
 sound-rolled source d col i token s is behind more no_start no_end block =
     let deep = record s { columns = col ∷ s.columns } in
     either (IsSoundFrom false _ source d) (in_flow s) s _ is (either (IsSoundFrom false _ source d) (is_deeper col s.columns) _ s
-    (sound-put source d i token deep (sound-deeper source d col s is block) behind more no_start no_end) is)
+    (sound-put source d i token deep (sound-blocks is (λ _. block)) behind more no_start no_end) is)
 
 -- no block is added where some are closed
 kept-shorter : (col : Option ℕ) (os : List ℕ) → length (kept col os) ≤ length os
 kept-shorter col [] = omega arith
-kept-shorter col (o ∷ os) = shorter (is_right_of col o) col o os (kept-shorter col os)
-  where
-    shorter : (b : Bool) (col : Option ℕ) (o : ℕ) (os : List ℕ) → length (kept col os) ≤ length os → length (if b then kept col os else o ∷ os) ≤ length (o ∷ os)
-    shorter true col o os less = omega arith
-    shorter false col o os less = omega arith
+kept-shorter col (o ∷ os) =
+    either (λ v. length v ≤ length (o ∷ os)) (is_right_of col o) (kept col os) (o ∷ os) (omega (arith, kept-shorter col os)) (omega arith)
 
 -- what holds of a BlockEnd at a mark holds of all of them
 ends-all : (P : Token → Type 0) (mark : Mark) (col : Option ℕ) (os : List ℕ) → P (at mark t.BlockEnd) → All P (ends mark col os)
 ends-all P mark col [] is = All-nil P
-ends-all P mark col (o ∷ os) is = more (is_right_of col o) P mark col os is (ends-all P mark col os is)
-  where
-    more : (b : Bool) (P : Token → Type 0) (mark : Mark) (col : Option ℕ) (os : List ℕ) → P (at mark t.BlockEnd) → All P (ends mark col os)
-        → All P (if b then at mark t.BlockEnd ∷ ends mark col os else [])
-    more true P mark col os is rest = All-cons P (at mark t.BlockEnd) (ends mark col os) is rest
-    more false P mark col os is rest = All-nil P
+ends-all P mark col (o ∷ os) is =
+    either (All P) (is_right_of col o) _ _ (All-cons P (at mark t.BlockEnd) (ends mark col os) is (ends-all P mark col os is)) (All-nil P)
 
 pub sound-unrolled : {ahead : Bool} → (source : List ℕ) (d : ℕ) (col : Option ℕ) (s : State) → IsSoundFrom false ahead source d s → IsSoundFrom false ahead source d (unrolled col s)
 sound-unrolled source d col s is =
@@ -205,26 +142,11 @@ sound-unrolled source d col s is =
     let shown_end : IsShown source (at mark t.BlockEnd) = record { signs = omega arith; mark = omega (arith, in-source source (length s.keys.outer) s.place is.place); key = tt } in
     let more = sound-appended source d (ends mark col s.columns) s is
     (ends-all (IsShown source) mark col s.columns shown_end) (ends-all IsNoStart mark col s.columns refl) (ends-all IsNoEnd mark col s.columns refl) in
-    either (IsSoundFrom false _ source d) (in_flow s) s _ is (record {
-      place = more.place;
-      tokens = more.tokens;
-      first = more.first;
-      starts = more.starts;
-      ends = more.ends;
-      keys = more.keys;
-      blocks = λ some. is.blocks (omega (arith, some, kept-shorter col s.columns));
-      started = more.started;
-      ended = more.ended;
-    })
+    either (IsSoundFrom false _ source d) (in_flow s) s _ is (sound-blocks more (λ some. is.blocks (omega (arith, some, kept-shorter col s.columns))))
 
 some-innermost : (col : ℕ) (os : List ℕ) → is_innermost col os ≡ true → 0 < length os
 some-innermost col [] e = absurd (cc)
 some-innermost col (o ∷ os) e = omega arith
-
-key-saved : (b : Bool) (source : List ℕ) (p : Place) (starts : Bool) (new : SimpleKey) (old : Option SimpleKey) → IsKeySound source 0 p starts new → IsPossible source 0 p starts old
-    → IsPossible source 0 p starts (if b then Some new else old)
-key-saved true source p starts new old fits was = fits
-key-saved false source p starts new old fits was = was
 
 -- the next token may be a key, which lies behind once a character of it is passed
 pub sound-saved : {ahead : Bool} → (source : List ℕ) (d : ℕ) (s : State) → IsSoundFrom false ahead source d s → IsSoundFrom false ahead source 0 (saved s)
@@ -236,52 +158,27 @@ sound-saved source d s is =
       block = λ e. is.blocks (some-innermost s.place.col s.columns (both_second (in_flow s) _ e));
       place = λ e. some-held s.held (is.first ∙ e);
     } in
-    record {
-      place = is.place;
-      tokens = is.tokens;
-      first = is.first;
-      starts = is.starts;
-      ends = is.ends;
-      keys = record { key = key-saved s.allowed source s.place _ key s.keys.key fits near.key; outer = near.outer };
-      blocks = is.blocks;
-      started = is.started;
-      ended = is.ended;
-    }
+    sound-moved is is.place (record { key = either (IsPossible source 0 s.place _) s.allowed (Some key) s.keys.key fits near.key; outer = near.outer })
 
 key-fresh : (source : List ℕ) (d : ℕ) (p : Place) (starts : Bool) (mark : Mark) (key : Option SimpleKey) → IsPossible source d p starts key → IsPossible source d p starts (fresh mark key)
 key-fresh source d p starts mark None is = is
-key-fresh source d p starts mark (Some key) is = kept-key (is_past mark key) source d p starts key is
-  where
-    kept-key : (b : Bool) (source : List ℕ) (d : ℕ) (p : Place) (starts : Bool) (key : SimpleKey) → IsPossible source d p starts (Some key)
-        → IsPossible source d p starts (if b then None else Some key)
-    kept-key true source d p starts key is = tt
-    kept-key false source d p starts key is = is
+key-fresh source d p starts mark (Some key) is = either (IsPossible source d p starts) (is_past mark key) None (Some key) tt is
 
 pub sound-stale : {ahead : Bool} → (over : Bool) (source : List ℕ) (d : ℕ) (s : State) → IsSoundFrom over ahead source d s → IsSoundFrom over ahead source d (stale s)
 sound-stale over source d s is =
     let mark = mark_of s.place in
     let P : Option SimpleKey → Type 0 = IsPossible source d s.place _ in
     let keep = key-fresh source d s.place _ mark in
-    record {
-      place = in-fewer source _ (length s.keys.outer) s.place (omega (arith, length-map s.keys.outer (fresh mark))) is.place;
-      tokens = is.tokens;
-      first = is.first;
-      starts = is.starts;
-      ends = is.ends;
-      keys = record { key = keep s.keys.key is.keys.key; outer = All-map P (fresh mark) s.keys.outer (All-weaker P (λ k. P (fresh mark k)) keep s.keys.outer is.keys.outer) };
-      blocks = is.blocks;
-      started = is.started;
-      ended = is.ended;
-    }
+    sound-moved is (in-fewer source _ (length s.keys.outer) s.place (omega (arith, length-map s.keys.outer (fresh mark))) is.place)
+    (record { key = keep s.keys.key is.keys.key; outer = All-map P (fresh mark) s.keys.outer (All-weaker P (λ k. P (fresh mark k)) keep s.keys.outer is.keys.outer) })
 
 key-lowered : (source : List ℕ) (d : ℕ) (p : Place) (a : Bool) (key : Option SimpleKey) → IsPossible source d p a key → IsPossible source d p false (lowered key)
 key-lowered source d p a None is = tt
-key-lowered source d p a (Some key) is =
-    record {
-      behind = record { before = is.behind.before; between = is.behind.between; text = is.behind.text; index = is.behind.index; some = is.behind.some; lines = is.behind.lines };
-      block = is.block;
-      place = λ starts. absurd (cc);
-    }
+key-lowered source d p a (Some key) is = record {
+  behind = record { before = is.behind.before; between = is.behind.between; text = is.behind.text; index = is.behind.index; some = is.behind.some; lines = is.behind.lines };
+  block = is.block;
+  place = λ starts. absurd (cc);
+}
 
 ends-given : (over : Bool) (held : List Token) → IsEndLast over held → IsEndLast over (drop 1 held)
 ends-given false held is = All-drop IsNoEnd 1 held is
@@ -307,20 +204,23 @@ sound-given over source d s is =
       ended = is.ended;
     }
 
-mutual
-  pub sound-to-next : {ahead : Bool} → (source : List ℕ) (d : ℕ) (cs : List ℕ) (s : State) → IsSoundFrom false ahead source d s → IsSoundFrom false ahead source d (to_next cs s)
-  sound-to-next source d [] s is = is
-  sound-to-next source d (c ∷ cs) s is =
-      let on = sound-advanced source d s is in
-      let P = IsSoundFrom false _ source d in
-      either P (is_space c s) _ _ (sound-to-next source d cs (advanced s) on) (
-      either P (is_break c) _ _ (sound-to-next source d cs (line_ended (advanced s)) on) (
-      either P (c == 35) _ s (sound-past-comment source d cs (advanced s) on) is))
+-- what each character that is passed keeps, and each line's end, is kept on the way to the next token
+module _ (P : State → Type 0) (on : (s : State) → P s → P (advanced s)) (broken : (s : State) → P s → P (line_ended s)) where
+  mutual
+    pub to_next-keeps : (cs : List ℕ) (s : State) → P s → P (to_next cs s)
+    to_next-keeps [] s is = is
+    to_next-keeps (c ∷ cs) s is =
+        let further = on s is in
+        either P (is_space c s) _ _ (to_next-keeps cs (advanced s) further)
+        (either P (is_break c) _ _ (to_next-keeps cs (line_ended (advanced s)) (broken (advanced s) further))
+        (either P (c == 35) _ s (past_comment-keeps cs (advanced s) further) is))
 
-  pub sound-past-comment : {ahead : Bool} → (source : List ℕ) (d : ℕ) (cs : List ℕ) (s : State) → IsSoundFrom false ahead source d s → IsSoundFrom false ahead source d (past_comment cs s)
-  sound-past-comment source d [] s is = is
-  sound-past-comment source d (c ∷ cs) s is =
-      let on = sound-advanced source d s is in
-      let P = IsSoundFrom false _ source d in
-      either P (is_break c) _ _ (sound-to-next source d cs (line_ended (advanced s)) on) (
-      either P (c == 0) s _ is (sound-past-comment source d cs (advanced s) on))
+    past_comment-keeps : (cs : List ℕ) (s : State) → P s → P (past_comment cs s)
+    past_comment-keeps [] s is = is
+    past_comment-keeps (c ∷ cs) s is =
+        let further = on s is in
+        either P (is_break c) _ _ (to_next-keeps cs (line_ended (advanced s)) (broken (advanced s) further))
+        (either P (c == 0) s _ is (past_comment-keeps cs (advanced s) further))
+
+pub sound-to-next : {ahead : Bool} → (source : List ℕ) (d : ℕ) (cs : List ℕ) (s : State) → IsSoundFrom false ahead source d s → IsSoundFrom false ahead source d (to_next cs s)
+sound-to-next source d = to_next-keeps (IsSoundFrom false _ source d) (sound-advanced source d) (λ s is. is)

@@ -1,6 +1,6 @@
 -- The words that the proofs of this crate speak in: those of the library, of the crates below, and of its own definitions.
 pub use Rattle.std.proofs.Common.{◌≡◌, List, Result, Ok, Err, IfOk, subst, ℤ, ℕ, ◌∷◌, Some, sym, ap, ◌∙◌, zero, suc, pos, negsuc, neg_ℤ, ◌+◌, ◌*◌, ◌^◌, ◌<◌, ◌≤◌, Bool, true, false, [], ◌++◌, Option, None, cond, refl, arith, ◌-◌, length, take, drop, map, ◌⊎◌, inl, inr, append_assoc, append-nil, length-append, MatchBool, ◌≢◌, MatchOption, lit<, slice_get, nat_lt, Bor, is_some, get_or, set, add-one, drop-cons, option_and_then, filter, rules, of_calls, length-set, ◌↔◌, IfErr}
-pub use Rattle.std.proofs.lemmas.Bool.{lt-leb, leb-false, ltb-true, and_parts, and_left, eqb-true, and_from, ne_eqb, cases_lt, ltb-false, and_right, le-leb, both_ways, eqb-false, lt-ltb}
+pub use Rattle.std.proofs.lemmas.Bool.{lt-leb, leb-false, ltb-true, and_parts, and_left, eqb-true, and_from, ne_eqb, cases_lt, ltb-false, and_right, le-leb, both_ways, eqb-false, lt-ltb, cond_both}
 pub use Rattle.std.proofs.lemmas.Cmp.{lists_total, then_total, on_total, nat_cmp_total, tied_itself}
 pub use Rattle.std.proofs.lemmas.List.{drop-map, length-map, length-drop, take_all, drop-set-lt, take_more_set, drop_all, map-append, take_more, get_or-map}
 pub use Rattle.std.proofs.lemmas.List.Sorted.{ranks_by, sorted_far, answers_always}

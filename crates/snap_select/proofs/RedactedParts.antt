@@ -1,5 +1,5 @@
 -- A tree that is redacted part by part is one that a redaction makes.
-use Rattle.snap_select.proofs.Prelude.{◌≡◌, ℕ, zero, suc, Bool, true, false, MatchBool, List, [], ◌∷◌, ◌++◌, Option, Some, slice_get, option_and_then, refl, sym, ap, ◌∙◌, subst, append-nil, both_ways, same_Some, option_and_then_some, codes, Step, path_match, to_item, into_field, under_key, Parts, Child, wrapped, children, item_children, pair_children, field_children, part_at, path_at, count_of, Allowed, Inside, ItemsRedacted, PairsRedacted, FieldsRedacted, RedactedAt, IsRedacted, IsHit, IsUntouched, node, units, pair_units, field_units, IsKept, RedactsAt, Redacts}
+use Rattle.snap_select.proofs.Prelude.{◌≡◌, ℕ, zero, suc, Bool, true, false, MatchBool, List, [], ◌∷◌, ◌++◌, Some, slice_get, refl, sym, ap, ◌∙◌, subst, append-nil, both_ways, same_Some, option_and_then_some, codes, Step, path_match, to_item, into_field, under_key, Parts, Child, wrapped, children, item_children, pair_children, field_children, part_at, path_at, count_of, Allowed, Inside, ItemsRedacted, PairsRedacted, FieldsRedacted, RedactedAt, IsRedacted, IsHit, IsUntouched, node, units, pair_units, field_units, IsKept, RedactsAt, Redacts}
 use Rattle.snap_content.specs.Tree as t
 
 -- a front of a position, and the position below a child
@@ -23,11 +23,11 @@ hit_below ss path c k ks child h at is = record {
 same_child : (path : List Step) (c : t.Tree) (k j : ℕ) (front : List ℕ) (child : Child) (shorter : List Step) → slice_get (children c) k ≡ Some child → k ≡ j
     → path_at path c (j ∷ front) ≡ Some shorter → path_at (path ++ child.steps) child.part front ≡ Some shorter
 same_child path c k j front child shorter at e h =
-    let P : ℕ → Type 0 = λ x. slice_get (children c) x ≡ Some child in rw (subst P e at) at h
+    rw (rw e at at) at h
 
 above_first : (ss : Parts) (path : List Step) (c : t.Tree) (k : ℕ) (ks : List ℕ) (child : Child) → path_match ss path ≡ false → slice_get (children c) k ≡ Some child
     → (h : IsHit ss (path ++ child.steps) child.part ks) → (front : List ℕ) (j : ℕ) (rest : List ℕ) (shorter : List Step) → k ∷ ks ≡ front ++ j ∷ rest → path_at path c front ≡ Some shorter → path_match ss shorter ≡ false
-above_first ss path c k ks child n at h [] j rest shorter e f = let same : path ≡ shorter = same_Some path shorter f in let P : List Step → Type 0 = λ x. path_match ss x ≡ false in subst P same n
+above_first ss path c k ks child n at h [] j rest shorter e f = rw (same_Some path shorter f) at n
 above_first ss path c k ks child n at h (x ∷ xs) j rest shorter e f =
     let head : k ≡ x = cc in
     let tail : ks ≡ xs ++ j ∷ rest = cc in
@@ -59,8 +59,7 @@ module _ (ss : Parts) (allows : Allowed) where
   replaced_below path c out k ks part all here h =
       option_and_then_some {P = Replaced out (k ∷ ks) part h.steps} (λ child. path_at (path ++ child.steps) child.part ks) (slice_get (children c) k) h.steps h.is
       (λ child at is. let f = all k child at in
-      let P : Option Child → Type 0 = λ o. option_and_then (λ x. part_at x.part ks) o ≡ Some part in
-      let below = f.good.replaced ks part (subst P at here) (hit_below ss path c k ks child h at is) in
+      let below = f.good.replaced ks part (rw at at here) (hit_below ss path c k ks child h at is) in
       (below.0, part_below out k ks f.next below.0 f.at below.1, below.2))
 
   kept_below : (path : List Step) (c out : t.Tree) (k : ℕ) (ks : List ℕ) (part : t.Tree) → path_match ss path ≡ false → AllFollow path (children c) (children out)
@@ -77,8 +76,7 @@ module _ (ss : Parts) (allows : Allowed) where
       → (position : List ℕ) (part : t.Tree) → part_at c position ≡ Some part → (h : IsHit ss path c position) → Replaced out position part h.steps
   replaced_at path c out n all [] part here h =
       let same : path ≡ h.steps = same_Some path h.steps h.is in
-      let P : List Step → Type 0 = λ x. path_match ss x ≡ false in
-      absurd (both_ways (path_match ss h.steps) (subst P same n) h.matched)
+      absurd (both_ways (path_match ss h.steps) (rw same at n) h.matched)
   replaced_at path c out n all (k ∷ ks) part here h = replaced_below path c out k ks part all here h
 
   kept_at : (path : List Step) (c out : t.Tree) → path_match ss path ≡ false → AllFollow path (children c) (children out) → node out ≡ node c
@@ -117,15 +115,13 @@ module _ (ss : Parts) (allows : Allowed) where
   one_follows : (path : List Step) (old next : Child) (olds nexts : List Child) → RedactsAt ss allows (path ++ old.steps) old.part next.part
       → AllFollow path olds nexts → AllFollow path (old ∷ olds) (next ∷ nexts)
   one_follows path old next olds nexts good later zero child h =
-      let P : Child → Type 0 = λ x. RedactsAt ss allows (path ++ x.steps) x.part next.part in
-      record { next = next; at = refl; good = subst P (same_Some old child h) good }
+      record { next = next; at = refl; good = rw (same_Some old child h) at good }
   one_follows path old next olds nexts good later (suc k) child h =
       let f = later k child h in record { next = f.next; at = f.at; good = f.good }
 
   wrapper : (path : List Step) (inner new : t.Tree) → RedactsAt ss allows path inner new → AllFollow path (wrapped inner) (wrapped new)
   wrapper path inner new good =
-      let P : List Step → Type 0 = λ x. RedactsAt ss allows x inner new in
-      one_follows path (record { steps = []; part = inner }) (record { steps = []; part = new }) [] [] (subst P (sym (append-nil path)) good) (no_follow path [])
+      one_follows path (record { steps = []; part = inner }) (record { steps = []; part = new }) [] [] (rw append-nil good) (no_follow path [])
 
   units_same : (path : List Step) (total index : ℕ) (items out : t.Trees) → ItemsRedacted ss allows path total index items out → units out ≡ units items
   units_same path total index t.no_trees out p = ap units p
@@ -139,43 +135,25 @@ module _ (ss : Parts) (allows : Allowed) where
   field_units_same path t.no_fields out p = ap field_units p
   field_units_same path (t.field name value rest) out p = ap field_units p.2 ∙ ap (λ x. t.field name t.unit x) (field_units_same path rest p.1 p.4)
 
-  -- the same of a tree that is one
-  moved : (path : List Step) (c new out : t.Tree) → out ≡ new → Follow path c new → Follow path c out
-  moved path c new out e f = let P : t.Tree → Type 0 = λ x. Follow path c x in subst P (sym e) f
-
   leaf : (path : List Step) (c out : t.Tree) → children c ≡ [] → out ≡ c → Follow path c out
   leaf path c out none e =
       let P : List Child → Type 0 = λ x. AllFollow path x (children out) in (subst P (sym none) (no_follow path (children out)), ap node e)
 
   mutual
     follow : (path : List Step) (c out : t.Tree) → Inside ss allows path c out → Follow path c out
-    follow path (t.some inner) out p =
-        moved path (t.some inner) (t.some p.0) out p.1 (wrapper path inner p.0 (good_at path inner p.0 (follow path inner p.0) p.2), refl)
-    follow path (t.newtype_struct name inner) out p =
-        moved path (t.newtype_struct name inner) (t.newtype_struct name p.0) out p.1 (wrapper path inner p.0 (good_at path inner p.0 (follow path inner p.0) p.2), refl)
-    follow path (t.newtype_variant name index variant inner) out p =
-        moved path (t.newtype_variant name index variant inner) (t.newtype_variant name index variant p.0) out p.1
-        (wrapper path inner p.0 (good_at path inner p.0 (follow path inner p.0) p.2), refl)
-    follow path (t.seq items) out p =
-        moved path (t.seq items) (t.seq p.0) out p.1
-        (items_follow path (count_of items) (count_of p.0) 0 items p.0 p.2, ap t.seq (units_same path (count_of items) 0 items p.0 p.2))
-    follow path (t.tuple items) out p =
-        moved path (t.tuple items) (t.tuple p.0) out p.1
-        (items_follow path (count_of items) (count_of p.0) 0 items p.0 p.2, ap t.tuple (units_same path (count_of items) 0 items p.0 p.2))
+    follow path (t.some inner) out p = rw p.1 (wrapper path inner p.0 (good_at path inner p.0 (follow path inner p.0) p.2), refl)
+    follow path (t.newtype_struct name inner) out p = rw p.1 (wrapper path inner p.0 (good_at path inner p.0 (follow path inner p.0) p.2), refl)
+    follow path (t.newtype_variant name index variant inner) out p = rw p.1 (wrapper path inner p.0 (good_at path inner p.0 (follow path inner p.0) p.2), refl)
+    follow path (t.seq items) out p = rw p.1 (items_follow path (count_of items) (count_of p.0) 0 items p.0 p.2, ap t.seq (units_same path (count_of items) 0 items p.0 p.2))
+    follow path (t.tuple items) out p = rw p.1 (items_follow path (count_of items) (count_of p.0) 0 items p.0 p.2, ap t.tuple (units_same path (count_of items) 0 items p.0 p.2))
     follow path (t.tuple_struct name items) out p =
-        moved path (t.tuple_struct name items) (t.tuple_struct name p.0) out p.1
-        (items_follow path (count_of items) (count_of p.0) 0 items p.0 p.2, ap (λ x. t.tuple_struct name x) (units_same path (count_of items) 0 items p.0 p.2))
+        rw p.1 (items_follow path (count_of items) (count_of p.0) 0 items p.0 p.2, ap (λ x. t.tuple_struct name x) (units_same path (count_of items) 0 items p.0 p.2))
     follow path (t.tuple_variant name index variant items) out p =
-        moved path (t.tuple_variant name index variant items) (t.tuple_variant name index variant p.0) out p.1
-        (items_follow path (count_of items) (count_of p.0) 0 items p.0 p.2, ap (λ x. t.tuple_variant name index variant x) (units_same path (count_of items) 0 items p.0 p.2))
-    follow path (t.map pairs) out p =
-        moved path (t.map pairs) (t.map p.0) out p.1 (pairs_follow path pairs p.0 p.2, ap t.map (pair_units_same path pairs p.0 p.2))
-    follow path (t.struct name fields) out p =
-        moved path (t.struct name fields) (t.struct name p.0) out p.1
-        (fields_follow path fields p.0 p.2, ap (λ x. t.struct name x) (field_units_same path fields p.0 p.2))
+        rw p.1 (items_follow path (count_of items) (count_of p.0) 0 items p.0 p.2, ap (λ x. t.tuple_variant name index variant x) (units_same path (count_of items) 0 items p.0 p.2))
+    follow path (t.map pairs) out p = rw p.1 (pairs_follow path pairs p.0 p.2, ap t.map (pair_units_same path pairs p.0 p.2))
+    follow path (t.struct name fields) out p = rw p.1 (fields_follow path fields p.0 p.2, ap (λ x. t.struct name x) (field_units_same path fields p.0 p.2))
     follow path (t.struct_variant name index variant fields) out p =
-        moved path (t.struct_variant name index variant fields) (t.struct_variant name index variant p.0) out p.1
-        (fields_follow path fields p.0 p.2, ap (λ x. t.struct_variant name index variant x) (field_units_same path fields p.0 p.2))
+        rw p.1 (fields_follow path fields p.0 p.2, ap (λ x. t.struct_variant name index variant x) (field_units_same path fields p.0 p.2))
     follow path other out p = leaf path other out refl p
 
     items_follow : (path : List Step) (total after index : ℕ) (items out : t.Trees) → ItemsRedacted ss allows path total index items out
@@ -183,34 +161,22 @@ module _ (ss : Parts) (allows : Allowed) where
     items_follow path total after index t.no_trees out p = no_follow path (item_children after index out)
     items_follow path total after index (t.tree first rest) out p =
         let here = path ++ to_item index total ∷ [] in
-        let P : t.Trees → Type 0 = λ x. AllFollow path (item_children total index (t.tree first rest)) (item_children after index x) in
-        subst P (sym p.2)
-        (one_follows path (record { steps = to_item index total ∷ []; part = first }) (record { steps = to_item index after ∷ []; part = p.0 })
-        (item_children total (suc index) rest) (item_children after (suc index) p.1) (good_at here first p.0 (follow here first p.0) p.3)
-        (items_follow path total after (suc index) rest p.1 p.4))
+        rw p.2 (one_follows path _ _ _ _ (good_at here first p.0 (follow here first p.0) p.3) (items_follow path total after (suc index) rest p.1 p.4))
 
     pairs_follow : (path : List Step) (pairs out : t.TreePairs) → PairsRedacted ss allows path pairs out → AllFollow path (pair_children pairs) (pair_children out)
     pairs_follow path t.no_pairs out p = no_follow path (pair_children out)
     pairs_follow path (t.pair key value rest) out p =
-        let field = into_field (codes "$key") in
-        let at_key = path ++ field ∷ [] in
+        let at_key = path ++ into_field (codes "$key") ∷ [] in
         let at_value = path ++ under_key key ∷ [] in
-        let P : t.TreePairs → Type 0 = λ x. AllFollow path (pair_children (t.pair key value rest)) (pair_children x) in
-        subst P (sym p.3)
-        (one_follows path (record { steps = field ∷ []; part = key }) (record { steps = field ∷ []; part = p.0 })
-        (record { steps = under_key key ∷ []; part = value } ∷ pair_children rest)
-        (record { steps = under_key p.0 ∷ []; part = p.1 } ∷ pair_children p.2) (good_at at_key key p.0 (follow at_key key p.0) p.4)
-        (one_follows path (record { steps = under_key key ∷ []; part = value }) (record { steps = under_key p.0 ∷ []; part = p.1 })
-        (pair_children rest) (pair_children p.2) (good_at at_value value p.1 (follow at_value value p.1) p.5) (pairs_follow path rest p.2 p.6)))
+        let of_value : Child = record { steps = under_key key ∷ []; part = value } in
+        rw p.3 (one_follows path _ _ (of_value ∷ pair_children rest) _ (good_at at_key key p.0 (follow at_key key p.0) p.4)
+        (one_follows path _ _ _ _ (good_at at_value value p.1 (follow at_value value p.1) p.5) (pairs_follow path rest p.2 p.6)))
 
     fields_follow : (path : List Step) (fields out : t.TreeFields) → FieldsRedacted ss allows path fields out → AllFollow path (field_children fields) (field_children out)
     fields_follow path t.no_fields out p = no_follow path (field_children out)
     fields_follow path (t.field name value rest) out p =
         let here = path ++ into_field name ∷ [] in
-        let P : t.TreeFields → Type 0 = λ x. AllFollow path (field_children (t.field name value rest)) (field_children x) in
-        subst P (sym p.2)
-        (one_follows path (record { steps = into_field name ∷ []; part = value }) (record { steps = into_field name ∷ []; part = p.0 })
-        (field_children rest) (field_children p.1) (good_at here value p.0 (follow here value p.0) p.3) (fields_follow path rest p.1 p.4))
+        rw p.2 (one_follows path _ _ _ _ (good_at here value p.0 (follow here value p.0) p.3) (fields_follow path rest p.1 p.4))
 
   pub redacted_redacts : (c out : t.Tree) → IsRedacted ss allows c out → Redacts ss allows c out
   redacted_redacts c out p = record { at_root = good_at [] c out (follow [] c out) p.parts }

@@ -1,20 +1,12 @@
 -- Paths that are written step by step.
-use Rattle.snap_select.proofs.Prelude.{◌≡◌, ℕ, ◌+◌, ◌<◌, List, [], ◌∷◌, ◌++◌, length, take, get_or, refl, sym, ap, ◌∙◌, append_assoc, append-nil, map-append, take_more, encodes-chars, HasWritten, map, chars, IsUtf8, tree, Step, step_of, key_text, step_text, path_text, PathItem}
+use Rattle.snap_select.proofs.Prelude.{◌≡◌, ℕ, ◌+◌, ◌<◌, List, [], ◌∷◌, ◌++◌, length, take, get_or, refl, sym, ap, ◌∙◌, append_assoc, append-nil, map-append, take_more, encodes-chars, HasWritten, map, chars, IsUtf8, Step, step_of, step_text, path_text, PathItem}
 use Rattle.std.proofs.Output.{has_written_append, has_written_of_eq}
 use Rattle.std.specs.declared.fmt.Formatter.{Formatter}
-use Rattle.snap_content.specs.declared.content.Content.{Content as ContentTree}
-use Rattle.snap_select.specs.declared.path_item.PathItem.TheVariants.{Content, Field}
 use lib.Utf8.{encodes}
 
-pub shown_key : {W : Type 0} (took : W → List ℕ → W → Type 0) (f next : Formatter W) (item : PathItem) (key : ContentTree) (bytes : List ℕ) → item ≡ Content key → chars bytes ≡ key_text (tree key) → IsUtf8 bytes
+pub shown_item : {W : Type 0} (took : W → List ℕ → W → Type 0) (f next : Formatter W) (item : PathItem) (text bytes : List ℕ) → step_text (step_of item) ≡ encodes text → chars bytes ≡ text → IsUtf8 bytes
     → HasWritten took f bytes next → HasWritten took f (step_text (step_of item)) next
-shown_key took f next item key bytes is e utf8 h =
-    has_written_of_eq took f bytes (step_text (step_of item)) next (sym (encodes-chars bytes utf8) ∙ ap encodes e ∙ sym (ap (λ x. step_text (step_of x)) is)) h
-
-pub shown_field : {W : Type 0} (took : W → List ℕ → W → Type 0) (f next : Formatter W) (item : PathItem) (name bytes : List ℕ) → item ≡ Field name → chars bytes ≡ name → IsUtf8 bytes
-    → HasWritten took f bytes next → HasWritten took f (step_text (step_of item)) next
-shown_field took f next item name bytes is e utf8 h =
-    has_written_of_eq took f bytes (step_text (step_of item)) next (sym (encodes-chars bytes utf8) ∙ ap encodes e ∙ sym (ap (λ x. step_text (step_of x)) is)) h
+shown_item took f next item text bytes is e utf8 h = has_written_of_eq took f bytes (step_text (step_of item)) next (sym (encodes-chars bytes utf8) ∙ ap encodes e ∙ sym is) h
 
 -- one step more
 path_append : (a b : List Step) → path_text (a ++ b) ≡ path_text a ++ path_text b

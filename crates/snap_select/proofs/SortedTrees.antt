@@ -1,5 +1,5 @@
 -- What sorting makes of a tree is the sorted tree.
-use Rattle.snap_select.proofs.Prelude.{◌≡◌, List, ◌∷◌, ap, ◌∙◌, subst, IsTotalOrder, on_total, ordered}
+use Rattle.snap_select.proofs.Prelude.{◌≡◌, List, ◌∷◌, ap, ◌∙◌, IsTotalOrder, on_total, ordered}
 use Rattle.snap_content.specs.Tree as t
 use Rattle.snap_content.specs.KeyLaws.{key_total}
 use Rattle.snap_content.specs.Sorted.{Entry, InKeyOrder, ItemsRearranged, PairsRearranged, FieldsRearranged, Sorted}
@@ -22,8 +22,7 @@ mutual
   tree_is (t.tuple_struct name items) out h = h.1 ∙ ap (λ x. t.tuple_struct name x) (items_are items h.0 h.2)
   tree_is (t.tuple_variant name index variant items) out h = h.1 ∙ ap (λ x. t.tuple_variant name index variant x) (items_are items h.0 h.2)
   tree_is (t.map pairs) out h =
-      let P : List Entry → Type 0 = λ x. InKeyOrder x h.1 in
-      h.2 ∙ ap (λ x. t.map (t.pairs_of x)) (entries_are (sorted_pairs pairs) h.1 (subst P (pairs_are pairs h.0 h.3) h.4))
+      h.2 ∙ ap (λ x. t.map (t.pairs_of x)) (entries_are (sorted_pairs pairs) h.1 (rw (pairs_are pairs h.0 h.3) at h.4))
   tree_is (t.struct name fields) out h = h.1 ∙ ap (λ x. t.struct name x) (fields_are fields h.0 h.2)
   tree_is (t.struct_variant name index variant fields) out h = h.1 ∙ ap (λ x. t.struct_variant name index variant x) (fields_are fields h.0 h.2)
   tree_is leaf out h = h

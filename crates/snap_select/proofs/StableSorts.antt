@@ -1,22 +1,14 @@
 -- A stable sort has one outcome: the list in order.
-use Rattle.snap_select.proofs.Prelude.{◌≡◌, zero, suc, ◌+◌, ◌<◌, Bool, true, false, cond, not, ◌&&◌, List, [], ◌∷◌, map, filter, get_or, length, refl, sym, ap, ◌∙◌, subst, arith, add-one, inl, inr, ◌⊎◌, ⊤, both_ways, length-map, get_or-map, ranks_by, sorted_far, tied_itself, IsStrictWeakOrder, IsTotalOrder, All, put_in, ordered}
-use Rattle.std.proofs.lemmas.List.Elements.{All-cons, All-head, All-tail, filter_agree}
+use Rattle.snap_select.proofs.Prelude.{◌≡◌, zero, suc, ◌+◌, ◌<◌, Bool, true, false, cond, not, ◌&&◌, List, [], ◌∷◌, map, filter, length, refl, sym, ap, ◌∙◌, subst, arith, add-one, inl, inr, ◌⊎◌, ⊤, both_ways, length-map, get_or-map, ranks_by, sorted_far, tied_itself, IsStrictWeakOrder, IsTotalOrder, All, put_in, ordered, cond_both}
+use Rattle.std.proofs.lemmas.List.Elements.{All-filter, All-cons, All-head, filter_agree}
 use Rattle.std.specs.List.Sorted.{IsSortedBy, IsStableBy, ties}
 use Rattle.std.specs.declared.cmp.Ordering.{Ordering}
-use Rattle.std.specs.declared.cmp.Ordering.TheVariants.{Less, Equal, Greater}
+use Rattle.std.specs.declared.cmp.Ordering.TheVariants.{Equal}
 use Rattle.std.specs.Ordering.{is_lt, ordering_reverse}
 use Rattle.snap_content.proofs.KeyOrdered.{neither}
 
 abbrev pub is_before : {Y : Type 0} → (Y → Y → Ordering) → Y → Y → Bool
 is_before cmp x y = is_lt (cmp x y)
-
--- two orderings, one of which is the other reversed
-less_is_not_greater : (r s : Ordering) → r ≡ ordering_reverse s → is_lt s ≡ true → is_lt r ≡ false
-less_is_not_greater Less Greater e h = absurd (cc)
-less_is_not_greater Less Less e h = absurd (cc)
-less_is_not_greater Less Equal e h = absurd (cc)
-less_is_not_greater Equal s e h = refl
-less_is_not_greater Greater s e h = refl
 
 module _ {Y : Type 0} (cmp : Y → Y → Ordering) (total : IsTotalOrder cmp) where
   weak : IsStrictWeakOrder (is_before cmp)
@@ -36,20 +28,11 @@ module _ {Y : Type 0} (cmp : Y → Y → Ordering) (total : IsTotalOrder cmp) wh
   after_first x xs up k d small = sorted_far (is_before cmp) weak (x ∷ xs) up 0 (suc k) d (omega arith) (omega arith)
 
   sorted_tail : (x : Y) (xs : List Y) → IsSortedBy (is_before cmp) (x ∷ xs) → IsSortedBy (is_before cmp) xs
-  sorted_tail x xs up k d low high =
-      ap (λ n. is_before cmp (get_or (x ∷ xs) n d) (get_or xs k d)) (sym (add-one (k + 1)))
-      ∙ ap (λ n. is_before cmp (get_or (x ∷ xs) ((k + 1) + 1) d) (get_or (x ∷ xs) n d)) (sym (add-one k))
-      ∙ up (k + 1) d (omega arith) (omega arith)
+  sorted_tail x xs up k d low high = simp add-one (simp add-one at (up (k + 1) d (omega arith) (omega arith)))
 
   -- where x is first among those that pass, and nothing is before y, x is not before y
-  passes_cases : (b : Bool) (y x z : Y) (zs more : List Y) → NotBefore y z → (zs ≡ x ∷ more → NotBefore y x) → cond b (z ∷ zs) zs ≡ x ∷ more → NotBefore y x
-  passes_cases true y x z zs more n later e = let same : z ≡ x = cc in subst (NotBefore y) same n
-  passes_cases false y x z zs more n later e = later e
-
   first_passes : (p : Y → Bool) (y x : Y) (zs more : List Y) → All (NotBefore y) zs → filter p zs ≡ x ∷ more → NotBefore y x
-  first_passes p y x [] more n e = absurd (cc)
-  first_passes p y x (z ∷ zs) more n e =
-      passes_cases (p z) y x z (filter p zs) more (All-head (NotBefore y) z zs n) (first_passes p y x zs more (All-tail (NotBefore y) z zs n)) e
+  first_passes p y x zs more n e = let P : List Y → Type 0 = All (NotBefore y) in All-head (NotBefore y) x more (subst P e (All-filter p (NotBefore y) zs n))
 
   -- those that tie with the first of a list
   with_first : (x : Y) (xs : List Y) → filter (ties (is_before cmp) x) (x ∷ xs) ≡ x ∷ filter (ties (is_before cmp) x) xs
@@ -100,40 +83,26 @@ module _ {Y : Type 0} (cmp : Y → Y → Ordering) (total : IsTotalOrder cmp) wh
   behind : (y : Y) (zs : List Y) → NoneFirst y zs → IsSortedBy (is_before cmp) zs → IsSortedBy (is_before cmp) (y ∷ zs)
   behind y [] n up k d low high = absurd (omega arith)
   behind y (z ∷ zs) n up zero d low high = n
-  behind y (z ∷ zs) n up (suc j) d low high =
-      ap (λ m. is_before cmp (get_or (y ∷ z ∷ zs) m d) (get_or (z ∷ zs) j d)) (add-one (suc j))
-      ∙ ap (λ m. is_before cmp (get_or (z ∷ zs) m d) (get_or (z ∷ zs) j d)) (sym (add-one j)) ∙ up j d (omega arith) (omega arith)
-
-  less_last : (x y : Y) → is_before cmp y x ≡ true → NotBefore y x
-  less_last x y h = less_is_not_greater (cmp x y) (cmp y x) (total.antisymm x y) h
-
-  first_put : (b : Bool) (x y z : Y) (more zs : List Y) → NotBefore y x → NotBefore y z → NoneFirst y (cond b (z ∷ more) (x ∷ z ∷ zs))
-  first_put true x y z more zs n m = m
-  first_put false x y z more zs n m = n
+  behind y (z ∷ zs) n up (suc j) d low high = simp add-one (simp add-one at (up j d (omega arith) (omega arith)))
 
   none_first_put : (x y : Y) (zs : List Y) → NotBefore y x → NoneFirst y zs → NoneFirst y (put_in cmp x zs)
   none_first_put x y [] n m = n
-  none_first_put x y (z ∷ zs) n m = first_put (is_before cmp z x) x y z (put_in cmp x zs) zs n m
+  none_first_put x y (z ∷ zs) n m = cond_both (is_before cmp z x) _ _ (NoneFirst y) (λ _. m) (λ _. n)
 
   none_first : (y : Y) (zs : List Y) → IsSortedBy (is_before cmp) (y ∷ zs) → NoneFirst y zs
   none_first y [] up = tt
   none_first y (z ∷ zs) up = All-head (NotBefore y) z zs (after_first y (z ∷ zs) up)
 
-  put_turn : (b : Bool) (x y : Y) (ys : List Y) → is_before cmp y x ≡ b → IsSortedBy (is_before cmp) (y ∷ ys) → IsSortedBy (is_before cmp) (put_in cmp x ys)
-      → IsSortedBy (is_before cmp) (cond b (y ∷ put_in cmp x ys) (x ∷ y ∷ ys))
-  put_turn true x y ys e up rise = behind y (put_in cmp x ys) (none_first_put x y ys (less_last x y e) (none_first y ys up)) rise
-  put_turn false x y ys e up rise = behind x (y ∷ ys) e up
-
   put_sorted : (x : Y) (ys : List Y) → IsSortedBy (is_before cmp) ys → IsSortedBy (is_before cmp) (put_in cmp x ys)
   put_sorted x [] up = behind x [] tt up
-  put_sorted x (y ∷ ys) up = put_turn (is_before cmp y x) x y ys refl up (put_sorted x ys (sorted_tail y ys up))
-
-  none_sorted : IsSortedBy (is_before cmp) []
-  none_sorted k d low high = absurd (omega arith)
+  put_sorted x (y ∷ ys) up =
+      let later = put_sorted x ys (sorted_tail y ys up) in
+      cond_both (is_before cmp y x) _ _ (IsSortedBy (is_before cmp)) (λ e. behind y (put_in cmp x ys) (none_first_put x y ys (weak.one_way y x e) (none_first y ys up)) later)
+      (λ e. behind x (y ∷ ys) e up)
 
   ordered_sorted : (xs : List Y) → IsSortedBy (is_before cmp) (ordered cmp xs)
-  ordered_sorted [] = none_sorted
-  ordered_sorted (x ∷ xs) = put_sorted x (ordered cmp xs) (ordered_sorted xs)
+  ordered_sorted [] k d low high = absurd (omega arith)
+  ordered_sorted (x ∷ xs) k d low high = put_sorted x (ordered cmp xs) (ordered_sorted xs) k d low high
 
   -- and those that tie stand in it as they stood
   tied_equal : (z x : Y) → ties (is_before cmp) z x ≡ true → cmp z x ≡ Equal
@@ -150,16 +119,12 @@ module _ {Y : Type 0} (cmp : Y → Y → Ordering) (total : IsTotalOrder cmp) wh
   in_turn false true x y more n = refl
   in_turn false false x y more n = refl
 
-  ties_turn : (b : Bool) (x y z : Y) (ys : List Y) → is_before cmp y x ≡ b → filter (ties (is_before cmp) z) (put_in cmp x ys) ≡ filter (ties (is_before cmp) z) (x ∷ ys)
-      → filter (ties (is_before cmp) z) (cond b (y ∷ put_in cmp x ys) (x ∷ y ∷ ys)) ≡ filter (ties (is_before cmp) z) (x ∷ y ∷ ys)
-  ties_turn true x y z ys e h =
-      ap (λ f. cond (ties (is_before cmp) z y) (y ∷ f) f) h
-      ∙ in_turn (ties (is_before cmp) z x) (ties (is_before cmp) z y) x y (filter (ties (is_before cmp) z) ys) (not_both x y z e)
-  ties_turn false x y z ys e h = refl
-
   put_ties : (x : Y) (ys : List Y) → SameTies (put_in cmp x ys) (x ∷ ys)
   put_ties x [] z = refl
-  put_ties x (y ∷ ys) z = ties_turn (is_before cmp y x) x y z ys refl (put_ties x ys z)
+  put_ties x (y ∷ ys) z =
+      let tie : Y → Bool = ties (is_before cmp) z in
+      cond_both (is_before cmp y x) _ _ (λ v. filter tie v ≡ filter tie (x ∷ y ∷ ys)) (λ e. ap (λ f. cond (tie y) (y ∷ f) f) (put_ties x ys z)
+      ∙ in_turn (tie x) (tie y) x y (filter tie ys) (not_both x y z e)) (λ _. refl)
 
   ordered_ties : (xs : List Y) → SameTies (ordered cmp xs) xs
   ordered_ties [] z = refl
@@ -181,8 +146,7 @@ module _ {X Y : Type 0} (cmp : Y → Y → Ordering) (total : IsTotalOrder cmp) 
   sorted_map (x ∷ xs) h k d low high =
       let small : k + 1 < length (x ∷ xs) = subst (λ n. k + 1 < n) (length-map (x ∷ xs) f) high in
       let smaller : k < length (x ∷ xs) = omega arith in
-      ap (λ a. is_before cmp a (get_or (map f (x ∷ xs)) k d)) (get_or-map f (x ∷ xs) (k + 1) x d small)
-      ∙ ap (λ a. is_before cmp (f (get_or (x ∷ xs) (k + 1) x)) a) (get_or-map f (x ∷ xs) k x d smaller) ∙ h k x low small
+      rw (get_or-map f (x ∷ xs) (k + 1) x d small, get_or-map f (x ∷ xs) k x d smaller) (h k x low small)
 
   filter_cases : (b : Bool) (x : X) (xs : List X) (ys : List Y) → ys ≡ map f xs → cond b (f x ∷ ys) ys ≡ map f (cond b (x ∷ xs) xs)
   filter_cases true x xs ys e = ap (λ z. f x ∷ z) e
@@ -202,15 +166,9 @@ module _ {X Y : Type 0} (cmp : Y → Y → Ordering) (total : IsTotalOrder cmp) 
   abbrev Tied : Y → Type 0
   Tied z = (x : X) × (ties (is_before cmp) z (f x) ≡ true)
 
-  first_or_later : (z : Y) (x : X) (ys : List Y) (b : Bool) → ties (is_before cmp) z (f x) ≡ b → Tied z ⊎ (filter (ties (is_before cmp) z) ys ≡ [])
-      → Tied z ⊎ (cond b (f x ∷ filter (ties (is_before cmp) z) ys) (filter (ties (is_before cmp) z) ys) ≡ [])
-  first_or_later z x ys true e later = inl (x, e)
-  first_or_later z x ys false e (inl h) = inl h
-  first_or_later z x ys false e (inr h) = inr h
-
   tied_or_none : (z : Y) (xs : List X) → Tied z ⊎ (filter (ties (is_before cmp) z) (map f xs) ≡ [])
   tied_or_none z [] = inr refl
-  tied_or_none z (x ∷ xs) = first_or_later z x (map f xs) (ties (is_before cmp) z (f x)) refl (tied_or_none z xs)
+  tied_or_none z (x ∷ xs) = cond_both (ties (is_before cmp) z (f x)) _ _ (λ v. Tied z ⊎ (v ≡ [])) (λ e. inl (x, e)) (λ _. tied_or_none z xs)
 
   module _ (old new : List X) (h : IsStableBy (seen_before cmp f) old new) (z : Y) where
     stable_at : Tied z → filter (ties (is_before cmp) z) (map f new) ≡ filter (ties (is_before cmp) z) (map f old)

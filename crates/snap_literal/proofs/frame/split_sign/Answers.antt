@@ -3,12 +3,10 @@ use Rattle.snap_literal.proofs.Frames.{signed, unsigned, space-then}
 use Rattle.snap_literal.proofs.frame.split_sign.Goals as goal
 
 pub returns-in-None : goal.returns-in-None
-returns-in-None c = unsigned (chars c.args.text.now) (chars c.trim_start-body.result.now) c.trim_start-body.ensures c.in-None.ensures
+returns-in-None c = unsigned (chars c.args.text.now) _ c.trim_start-body.ensures c.in-None.ensures
 
 pub returns-in-Some : goal.returns-in-Some
-returns-in-Some c =
-    signed (chars c.args.text.now) (chars c.trim_start-body.result.now) (chars c.before_rest.result.now) (chars c.in-Some.inside.now) c.trim_start-body.ensures c.in-Some.ensures
-    c.before_rest.ensures
+returns-in-Some c = signed _ _ _ _ c.trim_start-body.ensures c.in-Some.ensures c.before_rest.ensures
 
 pub before_rest-requires : goal.before_rest-requires
 before_rest-requires c =

@@ -11,9 +11,7 @@ overflow_add-count c =
 
 pub loop-c-preserved-then-c-eq34 : goal.loop-c-preserved-then-c-eq34
 loop-c-preserved-then-c-eq34 c =
-    let count = c.split_hashes-count.result.0 in
-    let e = required-quote (chars c.loop-c.rest.now) (chars c.in-Some.more.now) (chars c.split_hashes-count.result.1.now) c.in-Some.c count c.loop-c.most
-    (required (chars c.args.text.now)) c.in-Some.ensures c.if-c-eq34.true c.split_hashes-count.ensures.is c.split_hashes-count.ensures.whole c.loop-c.invariant.same in
+    let e = required-quote _ _ _ _ _ c.loop-c.most _ c.in-Some.ensures c.if-c-eq34.true c.split_hashes-count.ensures.is c.split_hashes-count.ensures.whole c.loop-c.invariant.same in
     record {
       utf8 = search rules;
       same = ap (λ m. max m (required (chars c.in-Some.more.now))) c.max-most.ensures ∙ e;

@@ -1,10 +1,10 @@
-use Rattle.snap_literal.proofs.Prelude.{sym, ◌∙◌, arith, chars-nil, chars}
+use Rattle.snap_literal.proofs.Prelude.{sym, ◌∙◌, arith, chars-nil}
 use Rattle.snap_literal.proofs.LineLeads.{from_byte-inside}
 use Rattle.snap_literal.proofs.lines.from_byte.Goals as goal
 
 pub returns-then-left-width : goal.returns-then-left-width
 returns-then-left-width c =
     chars-nil
-    ∙ sym (from_byte-inside c.loop-c.left c.in-Some.c (chars c.loop-c.rest.now) (chars c.in-Some.more.now) c.in-Some.ensures c.if-left-eq0.false
+    ∙ sym (from_byte-inside c.loop-c.left _ _ _ c.in-Some.ensures c.if-left-eq0.false
     (omega (arith, c.len_utf8-width.ensures.value, c.if-left-width.true)))
     ∙ c.loop-c.invariant.same

@@ -4,11 +4,10 @@ use Rattle.snap_literal.proofs.normal.unreturned_text.Goals as goal
 
 pub loop-line-preserved : goal.loop-line-preserved
 loop-line-preserved c =
-    let line = chars c.in-Some.line.now in
-    let more : c.push.new.self ≡ c.loop-line.made ++ without_returns line ++ 10 ∷ [] = cc (c.in_ok-push_str.ensures.ok, c.in_ok-push.ensures.ok, c.trim_returns.ensures) in
+    let more : c.push.new.self ≡ c.loop-line.made ++ without_returns (chars c.in-Some.line.now) ++ 10 ∷ [] = cc (c.in_ok-push_str.ensures.ok, c.in_ok-push.ensures.ok, c.trim_returns.ensures) in
     record {
       utf8 = search rules;
-      so_far = past_line c.push.new.self c.loop-line.made (chars c.loop-line.rest.now) line (chars c.in-Some.more.now) _ c.in-Some.ensures.line more c.loop-line.invariant.so_far;
+      so_far = past_line _ _ _ _ _ _ c.in-Some.ensures.line more c.loop-line.invariant.so_far;
     }
 
 pub returns : goal.returns

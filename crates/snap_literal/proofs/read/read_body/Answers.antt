@@ -1,41 +1,27 @@
-use Rattle.snap_literal.proofs.Prelude.{◌≡◌, ◌∷◌, ◌++◌, [], rules, chars, IsBody}
-use Rattle.snap_literal.proofs.Outcomes.{ok_then, body_done, body_too_long, body_with_return, body_nothing, body_on, body_off}
-use Rattle.snap_literal.proofs.Reading.{reading_step, reading_end, reading_none}
+use Rattle.snap_literal.proofs.Prelude.{◌≡◌, ◌∷◌, ◌++◌, [], rules, IsBody}
+use Rattle.snap_literal.proofs.Outcomes.{ok_then}
+use Rattle.snap_literal.proofs.Reading.{reading_step, reading_end, reading_none, body_on, body_off, body_done, body_too_long, body_nothing, body_with_return}
 use Rattle.snap_literal.proofs.read.read_body.Goals as goal
 
 pub returns-in-None : goal.returns-in-None
-returns-in-None c =
-    let rest = chars c.loop-c.rest.now in
-    reading_end (IsBody c.args.count) (chars c.args.source.now) c.loop-c.made rest c.loop-c.invariant.so_far
-    (body_done c.args.count rest (chars c.in-Some-after_end.behind.now) c.in-Some-after_end.ensures c.in-None.ensures)
+returns-in-None c = reading_end (IsBody c.args.count) _ _ _ c.loop-c.invariant.so_far (body_done c.args.count _ _ c.in-Some-after_end.ensures c.in-None.ensures)
 
 pub returns-in-Some-split_first : goal.returns-in-Some-split_first
 returns-in-Some-split_first c =
-    let rest = chars c.loop-c.rest.now in
-    reading_none (IsBody c.args.count) (chars c.args.source.now) c.loop-c.made rest c.loop-c.invariant.so_far
-    (body_too_long c.args.count rest (chars c.in-Some-after_end.behind.now) c.in-Some-split_first.field-0.0 (chars c.in-Some-split_first.field-0.1.now) c.in-Some-after_end.ensures
-    c.in-Some-split_first.ensures)
+    reading_none (IsBody c.args.count) _ _ _ c.loop-c.invariant.so_far (body_too_long c.args.count _ _ _ _ c.in-Some-after_end.ensures c.in-Some-split_first.ensures)
 
 pub returns-then-c-eq13 : goal.returns-then-c-eq13
-returns-then-c-eq13 c =
-    let rest = chars c.loop-c.rest.now in
-    reading_none (IsBody c.args.count) (chars c.args.source.now) c.loop-c.made rest c.loop-c.invariant.so_far
-    (body_with_return c.args.count rest c.in-Some.c (chars c.in-Some.more.now) c.in-Some.ensures c.if-c-eq13.true)
+returns-then-c-eq13 c = reading_none (IsBody c.args.count) _ _ _ c.loop-c.invariant.so_far (body_with_return c.args.count _ _ _ c.in-Some.ensures c.if-c-eq13.true)
 
 pub loop-c-preserved : goal.loop-c-preserved
 loop-c-preserved c =
-    let rest = chars c.loop-c.rest.now in
-    let more = chars c.in-Some.more.now in
-    let one = c.in-Some.c ∷ [] in
-    let is = ok_then c.push.result (c.push.new.self ≡ c.loop-c.made ++ one) c.if-is_err.ensures.value c.push.ensures.ok in
+    let is = ok_then c.push.result (c.push.new.self ≡ c.loop-c.made ++ c.in-Some.c ∷ []) c.if-is_err.ensures.value c.push.ensures.ok in
     record {
       utf8 = search rules;
-      so_far = reading_step (IsBody c.args.count) (chars c.args.source.now) c.loop-c.made rest c.push.new.self one more c.loop-c.invariant.so_far is
-          (body_on c.args.count rest c.in-Some.c more c.in-Some.ensures c.if-c-eq13.false c.in_default-after_end.ensures)
-          (body_off c.args.count rest c.in-Some.c more c.in-Some.ensures c.in_default-after_end.ensures);
+      so_far = reading_step (IsBody c.args.count) _ _ _ _ (c.in-Some.c ∷ []) _ c.loop-c.invariant.so_far is
+          (body_on c.args.count _ c.in-Some.c _ c.in-Some.ensures c.if-c-eq13.false c.in_default-after_end.ensures)
+          (body_off c.args.count _ _ _ c.in-Some.ensures c.in_default-after_end.ensures);
     }
 
 pub returns : goal.returns
-returns c =
-    let rest = chars c.loop-c.rest.now in
-    reading_none (IsBody c.args.count) (chars c.args.source.now) c.loop-c.made rest c.loop-c.invariant.so_far (body_nothing c.args.count rest c.in_default.ensures)
+returns c = reading_none (IsBody c.args.count) _ _ _ c.loop-c.invariant.so_far (body_nothing c.args.count _ c.in_default.ensures)

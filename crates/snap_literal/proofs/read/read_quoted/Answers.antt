@@ -5,43 +5,30 @@ use Rattle.snap_literal.proofs.read.read_quoted.Goals as goal
 
 pub loop-given-preserved-else-is_err : goal.loop-given-preserved-else-is_err
 loop-given-preserved-else-is_err c =
-    let rest = chars c.loop-given.rest.now in
-    let more = chars c.in-Some.more.now in
     let one = c.in-Some-given.c ∷ [] in
-    let u = c.in-Some.ensures.unit ∙ ap (λ g. Some (option_to_list g, more)) c.in-Some-given.is in
+    let u = c.in-Some.ensures.unit ∙ ap (λ g. Some (option_to_list g, chars c.in-Some.more.now)) c.in-Some-given.is in
     let is = ok_then c.push.result (c.push.new.self ≡ c.loop-given.made ++ one) c.if-is_err.ensures.value c.push.ensures.ok in
     record {
       utf8 = search rules;
-      so_far = reading_step Inside (chars c.args.source.now) c.loop-given.made rest c.push.new.self one more c.loop-given.invariant.so_far is
-          (inside_ahead rest one more u) (inside_behind rest one more u);
+      so_far = reading_step Inside _ _ _ _ one _ c.loop-given.invariant.so_far is (inside_ahead _ one _ u) (inside_behind _ one _ u);
     }
 
 pub loop-given-preserved : goal.loop-given-preserved
 loop-given-preserved c =
-    let rest = chars c.loop-given.rest.now in
-    let more = chars c.in-Some.more.now in
-    let u = c.in-Some.ensures.unit ∙ ap (λ g. Some (option_to_list g, more)) c.in_default-given.is in
+    let u = c.in-Some.ensures.unit ∙ ap (λ g. Some (option_to_list g, chars c.in-Some.more.now)) c.in_default-given.is in
     record {
       utf8 = search rules;
-      so_far = reading_step Inside (chars c.args.source.now) c.loop-given.made rest c.loop-given.made [] more c.loop-given.invariant.so_far
-          (sym (append-nil c.loop-given.made)) (inside_ahead rest [] more u) (inside_behind rest [] more u);
+      so_far = reading_step Inside _ _ _ _ [] _ c.loop-given.invariant.so_far (sym (append-nil c.loop-given.made)) (inside_ahead _ [] _ u) (inside_behind _ [] _ u);
     }
 
 pub returns-in-None-split_first : goal.returns-in-None-split_first
 returns-in-None-split_first c =
-    reading_end Inside (chars c.args.source.now) c.loop-given.made (chars c.loop-given.rest.now) c.loop-given.invariant.so_far
-    (ends (c.in-Some-after_character.ensures ∙ ap (λ t. 34 ∷ t) c.in-None-split_first.ensures) refl)
+    reading_end Inside _ _ _ c.loop-given.invariant.so_far (ends (c.in-Some-after_character.ensures ∙ ap (λ t. 34 ∷ t) c.in-None-split_first.ensures) refl)
 
 pub returns-in-Some-split_first : goal.returns-in-Some-split_first
 returns-in-Some-split_first c =
-    let rest = chars c.loop-given.rest.now in
-    reading_none Inside (chars c.args.source.now) c.loop-given.made rest c.loop-given.invariant.so_far
-    (inside_none rest c.in_default.ensures.unit
-    (not_alone rest (chars c.in-Some-after_character.behind.now) (chars c.in-Some-split_first.field-0.1.now) c.in-Some-split_first.field-0.0 c.in-Some-after_character.ensures
-    c.in-Some-split_first.ensures))
+    reading_none Inside _ _ _ c.loop-given.invariant.so_far
+    (inside_none _ c.in_default.ensures.unit (not_alone _ _ _ _ c.in-Some-after_character.ensures c.in-Some-split_first.ensures))
 
 pub returns-in-None : goal.returns-in-None
-returns-in-None c =
-    let rest = chars c.loop-given.rest.now in
-    reading_none Inside (chars c.args.source.now) c.loop-given.made rest c.loop-given.invariant.so_far
-    (inside_none rest c.in_default.ensures.unit (c.in-None.ensures []))
+returns-in-None c = reading_none Inside _ _ _ c.loop-given.invariant.so_far (inside_none _ c.in_default.ensures.unit (c.in-None.ensures []))

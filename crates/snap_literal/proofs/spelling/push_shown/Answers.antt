@@ -5,8 +5,7 @@ use Rattle.snap_literal.proofs.spelling.push_shown.Goals as goal
 pub loop-line-preserved : goal.loop-line-preserved
 loop-line-preserved c = record {
   utf8 = search rules;
-  same = framed_past (chars c.args.indentation.now) c.push_line.new.made c.loop-line.made (chars c.loop-line.rest.now) (chars c.in-Some.line.now) (chars c.in-Some.more.now)
-      _ c.in-Some.ensures.line c.in_ok-push_line.ensures c.loop-line.invariant.same;
+  same = framed_past _ _ _ _ _ _ _ c.in-Some.ensures.line c.in_ok-push_line.ensures c.loop-line.invariant.same;
 }
 
 pub returns : goal.returns
@@ -15,5 +14,4 @@ returns c =
     let text = chars c.args.text.now in
     let broken : list_any is_line_end text ≡ true = search rules in
     on_ok c.push_str-2.result _ (c.push_str-2.new.self ≡ c.args.made.now ++ shown indentation text)
-    (λ last. framed_end indentation text c.args.made.now c.loop-line.made (chars c.loop-line.rest.now) c.push_line-2.new.made c.push_ascii.new.self c.push_str-2.new.self
-    c.in_default.ensures.line broken c.loop-line.invariant.same c.in_ok-push_line-2.ensures c.in_ok-push_ascii.ensures.ok last) c.push_str-2.ensures.ok
+    (λ last. framed_end indentation text _ _ _ _ _ _ c.in_default.ensures.line broken c.loop-line.invariant.same c.in_ok-push_line-2.ensures c.in_ok-push_ascii.ensures.ok last) c.push_str-2.ensures.ok

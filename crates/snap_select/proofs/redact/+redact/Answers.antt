@@ -1,6 +1,6 @@
 use Rattle.snap_select.proofs.Prelude.{rules, of_calls, ◌≡◌, ◌≤◌, ◌+◌, map, ap, sym, ◌∙◌, refl, arith, length, drop, length-set, count, count_items, count_pairs, count_fields, tree, item_list, item_trees, pair_list, pair_trees, field_list, field_trees, left_turn, count_left, count_pairs_left, count_fields_left, step_of, into_field, path_match, reaches, parts_of}
 use Rattle.snap_select.proofs.Reached.{stays}
-use Rattle.snap_select.proofs.RedactedLists.{items_begin, items_turn, items_end, pairs_begin, pairs_turn, pairs_end, fields_begin, fields_turn, fields_end}
+use Rattle.snap_select.proofs.RedactedLists.{items_turn, items_end, pairs_turn, pairs_end, fields_turn, fields_end}
 use Rattle.snap_select.proofs.redact.+redact.Goals as goal
 
 pub redact_at-returns-then-not-reaches-clause-ok : goal.redact_at-returns-then-not-reaches-clause-ok
@@ -18,7 +18,7 @@ redact_items-loop-index-init g t c = record {
   path = refl;
   left = ap (drop 0) c.into_vec-items.ensures;
   same_length = ap length c.into_vec-items.ensures;
-  so_far = items_begin (parts_of c.args.selector.now) (g.P.Put.puts c.args.put.now) (map step_of c.args.path.now.items) _ _ c.into_vec-items.ensures;
+  so_far = rw c.into_vec-items.ensures (λ rest done. done);
 }
 
 pub redact_items-redact_behind-requires : goal.redact_items-redact_behind-requires
@@ -48,7 +48,7 @@ redact_pairs-loop-index-init g t c = record {
   key_step = ap into_field c.in_ok-key_name.ensures;
   left = ap (drop 0) c.into_vec-pairs.ensures;
   same_length = ap length c.into_vec-pairs.ensures;
-  so_far = pairs_begin (parts_of c.args.selector.now) (g.P.Put.puts c.args.put.now) (map step_of c.args.path.now.items) _ _ c.into_vec-pairs.ensures;
+  so_far = rw c.into_vec-pairs.ensures (λ rest done. done);
 }
 
 pub redact_pairs-redact_pair-requires : goal.redact_pairs-redact_pair-requires
@@ -78,7 +78,7 @@ redact_fields-loop-index-init g t c = record {
   path = refl;
   left = ap (drop 0) c.into_vec-fields.ensures;
   same_length = ap length c.into_vec-fields.ensures;
-  so_far = fields_begin (parts_of c.args.selector.now) (g.P.Put.puts c.args.put.now) (map step_of c.args.path.now.items) _ _ c.into_vec-fields.ensures;
+  so_far = rw c.into_vec-fields.ensures (λ rest done. done);
 }
 
 pub redact_fields-redact_field-requires : goal.redact_fields-redact_field-requires

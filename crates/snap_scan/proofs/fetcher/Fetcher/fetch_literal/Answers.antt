@@ -1,4 +1,4 @@
-use Rattle.snap_scan.proofs.Prelude.{refl, true, here, state_of}
+use Rattle.snap_scan.proofs.Prelude.{refl, true, here}
 use Rattle.snap_token.specs.declared.token.TokenType.TheVariants as t
 use Rattle.snap_token.specs.declared.token.TScalarStyle.TheVariants as style
 use Rattle.snap_scan.specs.declared.kind.TokenKind.TheVariants as k
@@ -7,7 +7,5 @@ use Rattle.snap_scan.proofs.fetcher.Fetcher.fetch_literal.Goals as goal
 
 pub returns-clause-value : goal.returns-clause-value
 returns-clause-value c =
-    does-read-key k.Literal true (state_of c.args.self.now) (state_of c.save_simple_key.new.self) (state_of c.allow_simple_key.new.self) c.scan_block_scalar.new.cursor
-    c.in_ok-scalar.scalar.mark (t.Scalar style.Literal c.in_ok-scalar.scalar.text) c.push_token.result (state_of c.push_token.new.self) refl
-    c.in_ok-save_simple_key.ensures.value.0 c.in_ok-save_simple_key.ensures.value.1 c.allow_simple_key.ensures.value
+    does-read-key k.Literal true _ _ _ _ _ (t.Scalar style.Literal _) _ _ refl c.in_ok-save_simple_key.ensures.value.0 c.in_ok-save_simple_key.ensures.value.1 c.allow_simple_key.ensures.value
     (c.in_ok-scalar.ensures.onward _ (here _)) c.in_ok-scalar.ensures.falls c.in_ok-scalar.ensures.mark.0 c.in_ok-scalar.ensures.mark.1 c.push_token.ensures.value

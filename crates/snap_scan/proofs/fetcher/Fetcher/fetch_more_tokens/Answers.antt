@@ -17,8 +17,7 @@ fetching-preserved c = record {
   fresh = holding (state_of c.fetch_next_token.new.self) (c.in_ok-fetch_next_token.ensures.more (c.in_ok-is_ready.ensures.ahead c.if-branch.false));
   law = omega (arith, c.in_ok-fetch_next_token.ensures.law, c.in_ok-is_ready.ensures.law, c.fetching.invariant.law);
   sound = λ ahead source is.
-      sound-step source (state_of c.is_ready.new.self) (state_of c.fetch_next_token.new.self)
-      (c.in_ok-is_ready.ensures.sound ahead source (c.fetching.invariant.sound ahead source is)) c.in_ok-fetch_next_token.ensures.value;
+      sound-step source _ _ (c.in_ok-is_ready.ensures.sound ahead source (c.fetching.invariant.sound ahead source is)) c.in_ok-fetch_next_token.ensures.value;
   owed = λ ahead source ts is o.
       owed-fetch (state_of c.is_ready.new.self) (state_of c.fetch_next_token.new.self) ts (c.in_ok-is_ready.ensures.ahead c.if-branch.false)
       (c.in_ok-is_ready.ensures.owed ahead source ts (c.fetching.invariant.sound ahead source is) (c.fetching.invariant.owed ahead source ts is o))

@@ -5,34 +5,24 @@ use Rattle.snap_scan.proofs.scanner.Scanner.fetch_next_token.Goals as goal
 
 pub invariant_of-self : goal.invariant_of-self
 invariant_of-self c =
-    let source = before_nul (chars c.self.inside.source.now) in
-    let old = state_of c.self.inside.fetcher in
-    let new = state_of c.fetch_next_token.new.self in
-    let is = whole-sound c.self.inside.error source old c.in_default.is c.self.invariant in
-    whole-open c.self.inside.error source new c.in_default.is (sound-step source old new is c.in-Ok.ensures.value)
+    let is = whole-sound c.self.inside.error _ _ c.in_default.is c.self.invariant in
+    whole-open c.self.inside.error _ _ c.in_default.is (sound-step _ _ _ is c.in-Ok.ensures.value)
 
 pub invariant_of-self-in-Err : goal.invariant_of-self-in-Err
 invariant_of-self-in-Err c =
-    let source = before_nul (chars c.self.inside.source.now) in
-    let old = state_of c.self.inside.fetcher in
-    let new = state_of c.fetch_next_token.new.self in
-    let is = whole-sound c.self.inside.error source old c.in_default.is c.self.invariant in
-    whole-failed c.keep.new.kept source new c.in-Err.error c.keep.ensures.kept (founded-fetch source c.in-Err.error old is c.in-Err.ensures.value)
+    let is = whole-sound c.self.inside.error _ _ c.in_default.is c.self.invariant in
+    whole-failed c.keep.new.kept _ _ c.in-Err.error c.keep.ensures.kept (founded-fetch _ c.in-Err.error _ is c.in-Err.ensures.value)
 
 pub returns-in-Ok-clause-order : goal.returns-in-Ok-clause-order
 returns-in-Ok-clause-order c =
-    let source = before_nul (chars c.self.inside.source.now) in
-    let old = state_of c.self.inside.fetcher in
     let new = state_of c.fetch_next_token.new.self in
-    let is = whole-sound c.self.inside.error source old c.in_default.is c.self.invariant in
+    let is = whole-sound c.self.inside.error _ _ c.in_default.is c.self.invariant in
     let Q : Scan → Type 0 = λ v. (is_start_ahead new ≡ is_start_ahead v.state) × (has_ended new ≡ has_ended v.state) in
-    subst Q c.self.view_is (ahead-is source new (sound-step source old new is c.in-Ok.ensures.value), step-ended old new c.in-Ok.ensures.value)
+    subst Q c.self.view_is (ahead-is _ new (sound-step _ _ new is c.in-Ok.ensures.value), step-ended (state_of c.self.inside.fetcher) new c.in-Ok.ensures.value)
 
 pub returns-in-Err-clause-cause : goal.returns-in-Err-clause-cause
 returns-in-Err-clause-cause c =
-    let source = before_nul (chars c.self.inside.source.now) in
-    let old = state_of c.self.inside.fetcher in
-    let is = whole-sound c.self.inside.error source old c.in_default.is c.self.invariant in
-    let P : ScanError → Type 0 = IsFounded source in
+    let is = whole-sound c.self.inside.error _ _ c.in_default.is c.self.invariant in
+    let P : ScanError → Type 0 = IsFounded (before_nul (chars c.self.inside.source.now)) in
     let Q : Scan → Type 0 = λ v. IsFounded v.source c.keep.result in
-    subst Q c.self.view_is (subst P (sym c.keep.ensures.result) (founded-fetch source c.in-Err.error old is c.in-Err.ensures.value))
+    subst Q c.self.view_is (subst P (sym c.keep.ensures.result) (founded-fetch _ c.in-Err.error _ is c.in-Err.ensures.value))
