@@ -21,13 +21,6 @@ use Rattle.snap_assert.specs.declared.error.AssertError.{AssertError}
 use Rattle.snap_assert.specs.declared.error.AssertError.TheVariants as refusal
 use Rattle.snap_assert.specs.declared.outcome.Verdict.{Verdict}
 
--- a document that comes to no answer stops the run with nothing written
-pub stops_at : (words : RunWords) (error : DocumentError) (document : List ℕ) (f g : Option Files) (w v : Option (List ℕ)) → v ≡ w → AssertionStops words error document f g → StopsAt words error document f g w v
-stops_at words NoRequest document f g w v e s = (s.0, e, s.1)
-stops_at words (FileIo path) document f g w v e s = (e, s)
-stops_at words WriteFault document f g w v e s = absurd s
-stops_at words OutOfMemory document f g w v e s = (e, s)
-
 pub unchanged_before : (words : RunWords) (document : List ℕ) (f g : Option Files) → g ≡ f → MemoryFails words document f g
 unchanged_before words document f g e = inl e
 
@@ -115,29 +108,27 @@ pub unread_stops : (words : RunWords) (document : List ℕ) (f : Option Files) (
 unread_stops words document f request.NoRequest none = (refl, none refl)
 unread_stops words document f request.OutOfMemory none = inl refl
 
--- a document whose assertion is refused: the store failed in the work on a path, or memory was wanting
+-- an assertion is refused because the store failed in the work on a path, or for want of memory
+only_two : (before now : ℕ) (refused : AssertError) (P : AssertError → Type 0) → ErrorCause before now refused → ((path : List ℕ) → Rose before now → P (refusal.FileIo path)) → (now ≡ before → P refusal.OutOfMemory) → P refused
+only_two before now (refusal.FileIo path) P cause file memory = file path cause
+only_two before now refusal.OutOfMemory P cause file memory = memory cause
+only_two before now refusal.NameClash P cause file memory = absurd cause
+only_two before now refusal.DoctestNeedsName P cause file memory = absurd cause
+only_two before now (refusal.DuplicateDiffers key first new) P cause file memory = absurd cause
+only_two before now refusal.NamesExhausted P cause file memory = absurd cause
+only_two before now refusal.InlineDuplicate P cause file memory = absurd cause
+only_two before now refusal.BadExtension P cause file memory = absurd cause
+only_two before now refusal.JsonKey P cause file memory = absurd cause
+
+-- a document whose assertion is refused
 pub refused_stops : (runner : Runner) (document : List ℕ) (r : RequestView) (at : List ℕ) (f g : Option Files) (before now : ℕ) (refused : AssertError)
     → ErrorCause before now refused → FaultIsOwn runner.config.update at refused
     → ReadsAs document r → at ≡ (asked_by runner.workspace r).path → KeptBy runner.config.update at f g → AssertionStops (words_of runner) (unanswered refused) document f g
 unfolding document_in_work
-refused_stops runner document r at f g before now refusal.OutOfMemory cause own reads is kept = inr (document_in_work runner document r at f g reads is kept)
-refused_stops runner document r at f g before now (refusal.FileIo named) cause own reads is kept =
-    record { work = document_in_work runner document r at f g reads is kept; own = subst (λ p. IsOwn runner.config.update p named) is own }
-refused_stops runner document r at f g before now refusal.NameClash cause own reads is kept = absurd cause
-refused_stops runner document r at f g before now refusal.DoctestNeedsName cause own reads is kept = absurd cause
-refused_stops runner document r at f g before now (refusal.DuplicateDiffers key first new) cause own reads is kept = absurd cause
-refused_stops runner document r at f g before now refusal.NamesExhausted cause own reads is kept = absurd cause
-refused_stops runner document r at f g before now refusal.InlineDuplicate cause own reads is kept = absurd cause
-refused_stops runner document r at f g before now refusal.BadExtension cause own reads is kept = absurd cause
-refused_stops runner document r at f g before now refusal.JsonKey cause own reads is kept = absurd cause
+refused_stops runner document r at f g before now refused cause own reads is kept =
+    let work : IsInWork (words_of runner) document f g = document_in_work runner document r at f g reads is kept in
+    only_two before now refused (λ e. FaultIsOwn runner.config.update at e → AssertionStops (words_of runner) (unanswered e) document f g) cause
+    (λ named rose own. record { work = work; own = subst (λ p. IsOwn runner.config.update p named) is own }) (λ same own. inr work) own
 
 pub refused_count : (before now : ℕ) (refused : AssertError) → ErrorCause before now refused → CountedIf (is_store_fault (unanswered refused)) before now
-refused_count before now refusal.OutOfMemory cause = cause
-refused_count before now (refusal.FileIo path) cause = cause
-refused_count before now refusal.NameClash cause = absurd cause
-refused_count before now refusal.DoctestNeedsName cause = absurd cause
-refused_count before now (refusal.DuplicateDiffers key first new) cause = absurd cause
-refused_count before now refusal.NamesExhausted cause = absurd cause
-refused_count before now refusal.InlineDuplicate cause = absurd cause
-refused_count before now refusal.BadExtension cause = absurd cause
-refused_count before now refusal.JsonKey cause = absurd cause
+refused_count before now refused cause = only_two before now refused (λ e. CountedIf (is_store_fault (unanswered e)) before now) cause (λ path rose. rose) (λ same. same)
