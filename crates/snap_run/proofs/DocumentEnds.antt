@@ -1,5 +1,6 @@
 -- What one document leaves.
 use Rattle.snap_run.proofs.Prelude.{◌≡◌, ◌⊎◌, ◌&&◌, not, inl, inr, ℕ, List, [], ◌∷◌, ◌++◌, map, Option, Some, refl, sym, ap, ◌∙◌, subst, Result, Ok, Err, encode_utf8_all, append-nil, empty, get, Rose, Files, HoldsFront, asked_path, verdict_of, is_failure, RequestView, Spells, ReadsAs, RunWords, place_by, settings_by, printed_by, asked_by, assertion_by, line_text, line_of, KeptBy, IsOwn, FaultIsOwn, words_of, Ran, AssertionStops, StopsAt, IsInWork, MemoryFails, LineFails, IsDocumentAnswered, CountedIf, is_store_fault, Update, DocumentError, Outcome, Runner, step_keeps}
+use Rattle.std.specs.Result.{IfErr, IsErrAnd}
 use Rattle.snap_content.specs.Tree.{Tree}
 use Rattle.snap_select.specs.Put.{Objects}
 use Rattle.snap_select.specs.declared.replacement.Replacement.{Replacement}
@@ -21,8 +22,11 @@ use Rattle.snap_assert.specs.declared.error.AssertError.{AssertError}
 use Rattle.snap_assert.specs.declared.error.AssertError.TheVariants as refusal
 use Rattle.snap_assert.specs.declared.outcome.Verdict.{Verdict}
 
-pub unchanged_before : (words : RunWords) (document : List ℕ) (f g : Option Files) → g ≡ f → MemoryFails words document f g
-unchanged_before words document f g e = inl e
+-- memory was wanting before anything was changed
+pub unchanged_before : {T : Type 0} (words : RunWords) (document : List ℕ) (f : Option Files) (result : Result T DocumentError) → IsErrAnd result (λ e. e ≡ OutOfMemory)
+    → IfErr result (λ e. AssertionStops words e document f f)
+unchanged_before words document f (Ok value) is = tt
+unchanged_before words document f (Err error) is = subst (λ e. AssertionStops words e document f f) (sym is) (inl refl)
 
 -- a document was answered, and nothing was said of it
 pub answered_in_work : (words : RunWords) (document : List ℕ) (outcome : Outcome) (f g : Option Files) → IsDocumentAnswered words document outcome f g → MemoryFails words document f g

@@ -15,19 +15,13 @@ pub place_of_request-requires : goal.place_of_request-requires
 place_of_request-requires g c = file_named c.in_ok-request.ensures.ok.tree _ c.in_ok-request.ensures.ok.request_is
 
 pub returns-in_err-place-clause-err : goal.returns-in_err-place-clause-err
-returns-in_err-place-clause-err g c =
-    let told = err_from_is_err_and c.from_residual-in_err-place.result c.from_residual-in_err-place.ensures.1 in
-    rw (told.1, told.2) (unchanged_before (words_of c.args.runner.now) c.args.document.now _ _ refl)
+returns-in_err-place-clause-err g c = unchanged_before (words_of c.args.runner.now) c.args.document.now _ c.from_residual-in_err-place.result c.from_residual-in_err-place.ensures.1
 
 pub returns-in_err-redactions-clause-err : goal.returns-in_err-redactions-clause-err
-returns-in_err-redactions-clause-err g c =
-    let told = err_from_is_err_and c.from_residual-in_err-redactions.result c.from_residual-in_err-redactions.ensures.1 in
-    rw (told.1, told.2) (unchanged_before (words_of c.args.runner.now) c.args.document.now _ _ refl)
+returns-in_err-redactions-clause-err g c = unchanged_before (words_of c.args.runner.now) c.args.document.now _ c.from_residual-in_err-redactions.result c.from_residual-in_err-redactions.ensures.1
 
 pub returns-in_err-settings-clause-err : goal.returns-in_err-settings-clause-err
-returns-in_err-settings-clause-err g c =
-    let told = err_from_is_err_and c.from_residual-in_err-settings.result c.from_residual-in_err-settings.ensures.1 in
-    rw (told.1, told.2) (unchanged_before (words_of c.args.runner.now) c.args.document.now _ _ refl)
+returns-in_err-settings-clause-err g c = unchanged_before (words_of c.args.runner.now) c.args.document.now _ c.from_residual-in_err-settings.result c.from_residual-in_err-settings.ensures.1
 
 pub returns-clause-ok : goal.returns-clause-ok
 returns-clause-ok g c =
