@@ -1,7 +1,6 @@
 use Rattle.snap_assert.proofs.Prelude.{refl}
-use Rattle.std.proofs.lemmas.Result.{err_from_is_err_and}
 use Rattle.snap_assert.proofs.Answering.{answered}
-use Rattle.snap_assert.proofs.Settling.{has_text, kept_unwritten}
+use Rattle.snap_assert.proofs.Settling.{has_text, kept_unwritten, own_refused}
 use Rattle.snap_assert.proofs.engine.assert_printed.Goals as goal
 
 pub assert_prepared-requires : goal.assert_prepared-requires
@@ -14,9 +13,7 @@ pub returns-in_err-judged-clause-kept : goal.returns-in_err-judged-clause-kept
 returns-in_err-judged-clause-kept g c = c.in_err-judged.ensures.kept _ c.in_ok-prepared.ensures
 
 pub returns-in_err-judged-clause-named : goal.returns-in_err-judged-clause-named
-returns-in_err-judged-clause-named g c =
-    let told = err_from_is_err_and c.from_residual-in_err-judged.result c.from_residual-in_err-judged.ensures.1 in
-    rw (told.1, told.2) (c.in_err-judged.ensures.named _ c.in_ok-prepared.ensures)
+returns-in_err-judged-clause-named g c = own_refused c.args.config.now.update _ c.from_residual-in_err-judged.result c.in_err-judged.field-0.0 c.from_residual-in_err-judged.ensures.1 (c.in_err-judged.ensures.named _ c.in_ok-prepared.ensures)
 
 pub returns-clause-kept : goal.returns-clause-kept
 returns-clause-kept g c = c.in_ok-judged.ensures.kept _ c.in_ok-prepared.ensures

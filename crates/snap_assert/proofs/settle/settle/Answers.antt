@@ -1,15 +1,13 @@
 use Rattle.snap_assert.proofs.Prelude.{◌∙◌, ap, sym, true, Some, on_ok_weaker, step}
-use Rattle.std.proofs.lemmas.Result.{err_from_is_err_and}
-use Rattle.snap_assert.proofs.Settling.{cleared_is, passed_is, kept_clearing, kept_approving, kept_at, kept_both, own_strays, own_wait, own_at}
+use Rattle.snap_assert.proofs.Settling.{cleared_is, passed_is, kept_clearing, kept_approving, kept_at, kept_both, own_strays, own_wait, own_at, own_refused}
 use Rattle.snap_assert.proofs.settle.settle.Goals as goal
 
 pub returns-in_err-remove_files-clause-kept : goal.returns-in_err-remove_files-clause-kept
 returns-in_err-remove_files-clause-kept g c = λ asked prepared all. kept_clearing c.args.config.now.update asked c.args.strays.now _ _ all c.in_err-remove_files.ensures.kept
 
 pub returns-in_err-remove_files-clause-named : goal.returns-in_err-remove_files-clause-named
-returns-in_err-remove_files-clause-named g c =
-    let told = err_from_is_err_and c.from_residual.result c.from_residual.ensures.1 in
-    rw (told.1, told.2) (λ asked prepared all. own_strays c.args.config.now.update asked.path c.args.strays.now c.in_err-remove_files.field-0.0 all c.in_err-remove_files.ensures.named)
+returns-in_err-remove_files-clause-named g c = λ asked prepared all. own_refused c.args.config.now.update asked.path c.from_residual.result c.in_err-remove_files.field-0.0 c.from_residual.ensures.1
+    (own_strays c.args.config.now.update asked.path c.args.strays.now c.in_err-remove_files.field-0.0 all c.in_err-remove_files.ensures.named)
 
 pub returns-then-not-passed-clause-ok : goal.returns-then-not-passed-clause-ok
 returns-then-not-passed-clause-ok g c = on_ok_weaker c.write_by.result (λ written asked m prepared told strays.
@@ -32,9 +30,8 @@ returns-in_err-approve-clause-kept g c = λ asked prepared all.
     (kept_approving mode asked c.args.prepared.now _ _ prepared c.in_err-approve.ensures.kept)
 
 pub returns-in_err-approve-clause-named : goal.returns-in_err-approve-clause-named
-returns-in_err-approve-clause-named g c =
-    let told = err_from_is_err_and c.from_residual-in_err-approve.result c.from_residual-in_err-approve.ensures.1 in
-    rw (told.1, told.2) (λ asked prepared all. own_wait c.args.config.now.update asked.path _ c.in_err-approve.field-0.0 prepared.pending c.in_err-approve.ensures.named)
+returns-in_err-approve-clause-named g c = λ asked prepared all. own_refused c.args.config.now.update asked.path c.from_residual-in_err-approve.result c.in_err-approve.field-0.0 c.from_residual-in_err-approve.ensures.1
+    (own_wait c.args.config.now.update asked.path _ c.in_err-approve.field-0.0 prepared.pending c.in_err-approve.ensures.named)
 
 pub returns-then-config-clause-ok : goal.returns-then-config-clause-ok
 returns-then-config-clause-ok g c = on_ok_weaker c.write_by-then-config.result (λ written asked m prepared told strays.
