@@ -1,5 +1,6 @@
 -- What an assertion leaves: each step, and what it keeps.
 use Rattle.snap_assert.proofs.Prelude.{◌≡◌, inl, inr, ℕ, Bool, true, false, ◌||◌, List, [], ◌∷◌, ◌++◌, Option, None, Some, Result, Ok, Err, refl, sym, ap, ◌∙◌, subst, codes, bytes_eq-Decides, encode_utf8_all, IsSome, insert, remove, bytes_eq, Plain, text_of, document_of, normal, Files, SameBut, MayBeGone, text_under, saved_text, file_of, Meta, header_tree, without_line, meta_in, contents_in, text_in, Keeps, KeptBy, IsWrittenAlone, IsTakenAlone, IsOwn, FaultIsOwn, FaultIsAt, NamesOwn, NamesOnly, is_none, is_written, is_waiting, may_change, Asked, written, cleared, passed_files, is_stray, pending_path, AreStrays, AllStray, remove_each, is_among, FaultIsAmong, IsPrepared, Update, InPlace, NewFile, AssertError, Prepared, or_right}
+use Rattle.std.specs.Result.{IsErrAnd}
 use Rattle.snap_assert.specs.declared.error.AssertError.TheVariants as refusal
 use Rattle.snap_assert.proofs.Below.{normal-lines_of}
 use Rattle.snap_assert.proofs.Keeping.{kept_same, kept_then, kept_but, kept_written, kept_gone, kept_in_place, kept_beside, kept_pending, kept_strays}
@@ -114,6 +115,10 @@ own_wait mode path pending error is h = own_only mode path pending error (subst 
 pub names_own : {T : Type 0} → (mode : Update) (path : List ℕ) (result : Result T AssertError) → ((error : AssertError) → result ≡ Err error → FaultIsOwn mode path error) → NamesOwn mode path result
 names_own mode path (Ok value) h = tt
 names_own mode path (Err error) h = h error refl
+
+pub own_refused : {T : Type 0} → (mode : Update) (path : List ℕ) (result : Result T AssertError) (error : AssertError) → IsErrAnd result (λ e. e ≡ error) → FaultIsOwn mode path error → NamesOwn mode path result
+own_refused mode path (Ok value) error is h = tt
+own_refused mode path (Err other) error is h = subst (FaultIsOwn mode path) (sym is) h
 
 pub named_at : {T : Type 0} → (path : List ℕ) (result : Result T AssertError) (error : AssertError) → NamesOnly path result → result ≡ Err error → FaultIsAt path error
 named_at {T = T} path result error h is = let P : Result T AssertError → Type 0 = λ r. NamesOnly {T = T} path r in subst P is h

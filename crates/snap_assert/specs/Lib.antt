@@ -8,3 +8,4 @@ pub mod Outcomes
 pub mod Strays
 pub mod Prepared
 pub mod Removed
+pub mod Unsaved

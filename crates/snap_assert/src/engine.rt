@@ -68,21 +68,16 @@ fn assert_prepared<S: Store>(
         → NamesOwn config.now.update asked.path result }
     ensures cause { AssertCause (S.faults store.old) (S.faults store.new) result }
 {
-    let seen = match look(alloc, store, prepared) {
-        Ok(seen) => seen,
-        Err(error) => return Err(error),
-    };
-    match settle(
+    let seen = look(alloc, store, prepared)?;
+    settle(
         alloc,
         store,
         config,
         prepared,
         seen.judged.passed,
         &seen.strays,
-    ) {
-        Ok(()) => Ok(seen.judged),
-        Err(error) => Err(error),
-    }
+    )?;
+    Ok(seen.judged)
 }
 
 /// Asserts the tree that is printed under this name where nothing is remembered, with all that is written printed
@@ -107,21 +102,15 @@ fn assert_printed<S: Store>(
         (asked_path (settings_of settings.now) (place_of place.now) name.now) result }
     ensures cause { AssertCause (S.faults store.old) (S.faults store.new) result }
 {
-    let Ok(prepared) = prepare(alloc, settings, place, name, printed) else {
-        return Err(AssertError::OutOfMemory);
-    };
-    match assert_prepared(alloc, store, config, &prepared) {
-        Ok(judged) => {
-            let verdict = verdict(config.update, judged.passed);
-            Ok(Outcome {
-                verdict,
-                path: prepared.path,
-                warnings: judged.warnings,
-                fails: fails(verdict, config.force_pass),
-            })
-        }
-        Err(error) => Err(error),
-    }
+    let prepared = prepare(alloc, settings, place, name, printed)?;
+    let judged = assert_prepared(alloc, store, config, &prepared)?;
+    let verdict = verdict(config.update, judged.passed);
+    Ok(Outcome {
+        verdict,
+        path: prepared.path,
+        warnings: judged.warnings,
+        fails: fails(verdict, config.force_pass),
+    })
 }
 
 /// The same of the tree that is given: it is sorted and redacted first.

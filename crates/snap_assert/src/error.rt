@@ -1,5 +1,5 @@
 //! Why an assertion comes to no answer.
-use snap_content::{OutOfMemory, Text};
+use snap_content::{Error as FileError, OutOfMemory, Text};
 use snap_store::SnapshotContents;
 use thiserror::Error;
 
@@ -48,5 +48,20 @@ impl From<OutOfMemory> for AssertError {
 
     fn from(_error: OutOfMemory) -> AssertError {
         AssertError::OutOfMemory
+    }
+}
+
+/// A file is not saved for no other reason than these two.
+impl From<FileError> for AssertError {
+    ghost use Rattle.std.specs.Prelude.{◌≡◌};
+    ghost use Rattle.snap_assert.specs.Unsaved.{unsaved};
+
+    ghost from_gives = { λ error e. e ≡ unsaved error };
+
+    fn from(error: FileError) -> AssertError {
+        match error {
+            FileError::FileIo(path) => AssertError::FileIo(path),
+            _ => AssertError::OutOfMemory,
+        }
     }
 }

@@ -48,13 +48,11 @@ fn no_pass_but(alloc: Global, warning: Warning) -> Result<Judged, AssertError>
     ensures { NoPass (warning ∷ []) result }
 {
     let mut warnings = Warnings::new(alloc);
-    match warnings.push(warning) {
-        Ok(()) => Ok(Judged {
-            passed: false,
-            warnings,
-        }),
-        Err(_) => Err(AssertError::OutOfMemory),
-    }
+    warnings.push(warning)?;
+    Ok(Judged {
+        passed: false,
+        warnings,
+    })
 }
 
 /// What a file that is refused comes to: no pass, and a warning where the file is there.
@@ -159,16 +157,14 @@ fn judge<S: Store>(alloc: Global, store: &mut S, prepared: &Prepared) -> Result<
         Ok(old) => old,
         Err(error) => return refused(alloc, error),
     };
-    match compare(
+    let judged = compare(
         alloc,
         old.was_legacy(),
         old.has_number_text(),
         old.contents(),
         prepared.snapshot.contents(),
-    ) {
-        Ok(judged) => Ok(judged),
-        Err(_) => Err(AssertError::OutOfMemory),
-    }
+    )?;
+    Ok(judged)
 }
 
 /// Reads the file of the snapshot, compares, and lists its folder. Nothing is changed.
@@ -186,13 +182,8 @@ pub fn look<S: Store>(
         → NamesOwn mode asked.path result }
     ensures cause { AssertCause (S.faults store.old) (S.faults store.new) result }
 {
-    let judged = match judge(alloc, store, prepared) {
-        Ok(judged) => judged,
-        Err(error) => return Err(error),
-    };
-    let Ok(folder) = path_parent(alloc, &prepared.path) else {
-        return Err(AssertError::OutOfMemory);
-    };
+    let judged = judge(alloc, store, prepared)?;
+    let folder = path_parent(alloc, &prepared.path)?;
     match stray_paths(alloc, store, &folder, &prepared.path) {
         Ok(strays) => Ok(Seen { judged, strays }),
         Err(StoreError::Failed) => Err(AssertError::FileIo(folder)),

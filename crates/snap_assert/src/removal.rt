@@ -24,9 +24,7 @@ pub fn remove_files<S: Store>(
     ensures cause { AssertCause (S.faults store.old) (S.faults store.new) result }
 {
     for path in paths {
-        let Ok(named) = path.try_clone(alloc) else {
-            return Err(AssertError::OutOfMemory);
-        };
+        let named = path.try_clone(alloc)?;
         match store.remove(path) {
             Ok(_) => {}
             Err(StoreError::Failed) => return Err(AssertError::FileIo(named)),

@@ -1,5 +1,5 @@
 //! What an assertion leaves in the store.
-ghost use Rattle.std.specs.Prelude.{◌≡◌, List, ℕ, Some, IsSome, OnOk};
+ghost use Rattle.std.specs.Prelude.{◌≡◌, Some, IsSome, OnOk};
 ghost use Rattle.std.specs.FinMap.{remove};
 ghost use Rattle.snap_outside.specs.Files.{Files};
 ghost use Rattle.snap_store.specs.Views.{contents_in, text_in};
@@ -13,7 +13,7 @@ ghost use Rattle.snap_settings.specs.declared.config.Update.TheVariants.{InPlace
 use crate::error::AssertError;
 use crate::prepare::Prepared;
 use crate::removal::remove_files;
-use snap_content::{Error, Text};
+use snap_content::Text;
 use snap_outside::{Store, StoreError};
 use snap_settings::config::{Config, Update};
 use std::alloc::Global;
@@ -26,25 +26,11 @@ fn approve<S: Store>(alloc: Global, store: &mut S, prepared: &Prepared) -> Resul
     ensures named { NamesOnly prepared.now.pending result }
     ensures cause { AssertCause (S.faults store.old) (S.faults store.new) result }
 {
-    let Ok(named) = prepared.pending.try_clone(alloc) else {
-        return Err(AssertError::OutOfMemory);
-    };
+    let named = prepared.pending.try_clone(alloc)?;
     match store.remove(&prepared.pending) {
         Ok(_) => Ok(()),
         Err(StoreError::Failed) => Err(AssertError::FileIo(named)),
         Err(StoreError::OutOfMemory) => Err(AssertError::OutOfMemory),
-    }
-}
-
-/// Why an assertion comes to no answer where its file was not saved: the store failed, or memory was wanting.
-fn unsaved(error: Error) -> AssertError
-    ensures file { (path : List ℕ) → error ≡ Error.FileIo path → result ≡ AssertError.FileIo path }
-    ensures other { ((path : List ℕ) → error ≡ Error.FileIo path → ⊥)
-        → result ≡ AssertError.OutOfMemory }
-{
-    match error {
-        Error::FileIo(path) => AssertError::FileIo(path),
-        _ => AssertError::OutOfMemory,
     }
 }
 
@@ -57,10 +43,8 @@ fn update<S: Store>(alloc: Global, store: &mut S, prepared: &Prepared) -> Result
     ensures named { NamesOnly prepared.now.path result }
     ensures cause { AssertCause (S.faults store.old) (S.faults store.new) result }
 {
-    match prepared.snapshot.save(alloc, store, &prepared.path) {
-        Ok(()) => Ok(()),
-        Err(error) => Err(unsaved(error)),
-    }
+    prepared.snapshot.save(alloc, store, &prepared.path)?;
+    Ok(())
 }
 
 /// Writes the tree beside the approved one, where it waits for a review.
@@ -73,10 +57,8 @@ fn postpone<S: Store>(alloc: Global, store: &mut S, prepared: &Prepared) -> Resu
     ensures named { NamesOnly (pending_path prepared.now.path) result }
     ensures cause { AssertCause (S.faults store.old) (S.faults store.new) result }
 {
-    match prepared.snapshot.save_new(alloc, store, &prepared.path) {
-        Ok(_) => Ok(()),
-        Err(error) => Err(unsaved(error)),
-    }
+    prepared.snapshot.save_new(alloc, store, &prepared.path)?;
+    Ok(())
 }
 
 /// Writes the tree where the mode says, and nowhere else.
@@ -121,17 +103,11 @@ pub fn settle<S: Store>(
         → NamesOwn config.now.update asked.path result }
     ensures cause { AssertCause (S.faults store.old) (S.faults store.new) result }
 {
-    match remove_files(alloc, store, strays) {
-        Ok(()) => {}
-        Err(error) => return Err(error),
-    }
+    remove_files(alloc, store, strays)?;
     if !passed {
         return write_by(alloc, store, config.update, prepared);
     }
-    match approve(alloc, store, prepared) {
-        Ok(()) => {}
-        Err(error) => return Err(error),
-    }
+    approve(alloc, store, prepared)?;
     if config.force_update {
         write_by(alloc, store, config.update, prepared)
     } else {

@@ -69,15 +69,8 @@ pub fn stray_paths<S: Store>(
     let Some(file) = path_name(path) else {
         return Ok(Vec::new(alloc));
     };
-    let names = match store.list(alloc, folder) {
-        Ok(names) => names,
-        Err(error) => return Err(error),
-    };
-    let Ok(mut strays) = strays_among(alloc, folder, file, names.as_slice()) else {
-        return Err(StoreError::OutOfMemory);
-    };
-    match strays.sort() {
-        Ok(()) => Ok(strays),
-        Err(_) => Err(StoreError::OutOfMemory),
-    }
+    let names = store.list(alloc, folder)?;
+    let mut strays = strays_among(alloc, folder, file, names.as_slice())?;
+    strays.sort()?;
+    Ok(strays)
 }

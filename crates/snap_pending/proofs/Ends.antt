@@ -1,7 +1,5 @@
 -- The ends of saving, exit by exit.
-use Rattle.snap_pending.proofs.Prelude.{◌≡◌, ℕ, Bool, false, List, Option, Some, Result, Ok, Err, refl, ap, sym, ◌∙◌, subst, OnOk, OnErr, IsErrOf, encodes-chars, encode_utf8_all, IsUtf8, chars, Error, FailedParsingYaml, UnexpectedDataType, MissingField, FileIo, FloatText, JsonKey, NotText, NoFile, OutOfMemory, Files, SameBut, appended, SaveEnd, SavingEnd, SavingRefused, PrintRefused, same_but, nothing_written}
-use Rattle.snap_outside.specs.Causes.{CountedIf}
-use Rattle.snap_store.specs.Causes.{is_file_fault}
+use Rattle.snap_pending.proofs.Prelude.{◌≡◌, ℕ, Bool, false, List, Option, Some, Result, Ok, Err, refl, ap, sym, ◌∙◌, subst, OnOk, OnErr, IsErrOf, encodes-chars, encode_utf8_all, IsUtf8, chars, Error, FailedParsingYaml, UnexpectedDataType, MissingField, FileIo, FloatText, JsonKey, NotText, NoFile, OutOfMemory, Files, SameBut, appended, SaveEnd, SavingEnd}
 
 -- what was printed was written, or failed
 pub saved : {T : Type 0} → (path : List ℕ) (refused : Bool) (result : Result T Error) → refused ≡ false → SaveEnd path result → SavingEnd path refused result
@@ -15,29 +13,6 @@ saved path refused (Err (FloatText named)) accepted end = absurd end
 saved path refused (Err JsonKey) accepted end = absurd end
 saved path refused (Err (NotText named)) accepted end = absurd end
 saved path refused (Err (NoFile named)) accepted end = absurd end
-
--- what was not printed was not written
-pub unprinted : (path : List ℕ) (refused : Bool) (error : Error) → PrintRefused refused error → SavingRefused path refused error
-unprinted path refused JsonKey end = end
-unprinted path refused OutOfMemory end = tt
-unprinted path refused (FileIo named) end = absurd end
-unprinted path refused (FailedParsingYaml named) end = absurd end
-unprinted path refused UnexpectedDataType end = absurd end
-unprinted path refused MissingField end = absurd end
-unprinted path refused (FloatText named) end = absurd end
-unprinted path refused (NotText named) end = absurd end
-unprinted path refused (NoFile named) end = absurd end
-
-pub print_fault : (refused : Bool) (error : Error) (count : ℕ) → PrintRefused refused error → CountedIf (is_file_fault error) count count
-print_fault refused JsonKey count end = refl
-print_fault refused OutOfMemory count end = refl
-print_fault refused (FileIo named) count end = absurd end
-print_fault refused (FailedParsingYaml named) count end = absurd end
-print_fault refused UnexpectedDataType count end = absurd end
-print_fault refused MissingField count end = absurd end
-print_fault refused (FloatText named) count end = absurd end
-print_fault refused (NotText named) count end = absurd end
-print_fault refused (NoFile named) count end = absurd end
 
 -- a failed write is no `JsonKey`
 no_key_here : {T P : Type 0} → (path : List ℕ) (result : Result T Error) → result ≡ Err JsonKey → SaveEnd path result → P

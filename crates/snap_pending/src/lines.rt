@@ -61,14 +61,8 @@ fn record_of_pairs(
     ensures { (entries : Entries) → pair_trees pairs.now ≡ pairs_made entries
         → RecordEnd (dict entries) result }
 {
-    let new = match read_held(alloc, pairs, "new") {
-        Ok(new) => new,
-        Err(error) => return Err(error),
-    };
-    let old = match read_held(alloc, pairs, "old") {
-        Ok(old) => old,
-        Err(error) => return Err(error),
-    };
+    let new = read_held(alloc, pairs, "new")?;
+    let old = read_held(alloc, pairs, "old")?;
     let Some(run_id) = text_named(pairs, "run_id") else {
         return Err(Error::MissingField);
     };
@@ -91,9 +85,6 @@ fn read_held(
 {
     match filled_named(pairs, name) {
         None => Ok(None),
-        Some(value) => match read_snapshot(alloc, value) {
-            Ok(snapshot) => Ok(Some(snapshot)),
-            Err(error) => Err(error),
-        },
+        Some(value) => Ok(Some(read_snapshot(alloc, value)?)),
     }
 }

@@ -52,10 +52,7 @@ fn batch_of_text(alloc: Global, text: &str, path: &Text) -> Result<Batch, Error>
         → LoadEnd path.now file result }
     ensures no_fault { (count : ℕ) → Counted is_file_fault count count result }
 {
-    let mut records = match read_lines(alloc, text, path) {
-        Ok(records) => records,
-        Err(error) => return Err(error),
-    };
+    let mut records = read_lines(alloc, text, path)?;
     records.keep_last_run(alloc)?;
     Ok(records)
 }
@@ -67,10 +64,7 @@ fn read_lines(alloc: Global, text: &str, path: &Text) -> Result<Batch, Error>
     let mut records = Batch::new(alloc);
     let mut rest = text;
     while let Some((line, more)) = next_line(rest) {
-        let record = match read_line(alloc, line, path) {
-            Ok(record) => record,
-            Err(error) => return Err(error),
-        };
+        let record = read_line(alloc, line, path)?;
         records.push(record)?;
         rest = more;
     }

@@ -28,10 +28,7 @@ pub(crate) fn line_text(alloc: Global, pending: &PendingInlineSnapshot) -> Resul
     ensures end { PrintEnd (is_refused (pending_of pending.now)) result }
 {
     let content = record_content(alloc, pending)?;
-    let mut text = match json_line(alloc, &content) {
-        Ok(text) => text,
-        Err(error) => return Err(error),
-    };
+    let mut text = json_line(alloc, &content)?;
     text.push_ascii(alloc, "\n")?;
     Ok(text)
 }

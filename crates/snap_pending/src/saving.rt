@@ -30,10 +30,8 @@ impl PendingInlineSnapshot {
             → SameBut path.now m (S.files store.new)) }
         ensures cause { Counted is_file_fault (S.faults store.old) (S.faults store.new) result }
     {
-        match line_text(alloc, self) {
-            Ok(line) => append_line(alloc, store, path, &line),
-            Err(error) => Err(error),
-        }
+        let line = line_text(alloc, self)?;
+        append_line(alloc, store, path, &line)
     }
 
     /// Makes the file at the path the lines of these records, and takes it away where there are none. `JsonKey`, where a key
@@ -54,10 +52,8 @@ impl PendingInlineSnapshot {
             → SameBut path.now m (S.files store.new)) }
         ensures cause { Counted is_file_fault (S.faults store.old) (S.faults store.new) result }
     {
-        match line_texts(alloc, batch) {
-            Ok(lines) => write_lines(alloc, store, path, lines.as_slice()),
-            Err(error) => Err(error),
-        }
+        let lines = line_texts(alloc, batch)?;
+        write_lines(alloc, store, path, lines.as_slice())
     }
 }
 
@@ -70,10 +66,7 @@ fn line_texts(alloc: Global, batch: &[PendingInlineSnapshot]) -> Result<Vec<Text
 {
     let mut lines = Vec::new(alloc);
     for pending in batch {
-        let line = match line_text(alloc, pending) {
-            Ok(line) => line,
-            Err(error) => return Err(error),
-        };
+        let line = line_text(alloc, pending)?;
         push_line(&mut lines, line)?;
     }
     Ok(lines)

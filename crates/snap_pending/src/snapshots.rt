@@ -28,14 +28,8 @@ fn snapshot_of_pairs(alloc: Global, pairs: &[(Content, Content)]) -> Result<Snap
     ensures { (entries : Entries) → pair_trees pairs.now ≡ pairs_made entries
         → HeldEnd (dict entries) result }
 {
-    let metadata = match read_metadata(alloc, pairs) {
-        Ok(metadata) => metadata,
-        Err(error) => return Err(error),
-    };
-    let contents = match read_contents(alloc, pairs) {
-        Ok(contents) => contents,
-        Err(error) => return Err(error),
-    };
+    let metadata = read_metadata(alloc, pairs)?;
+    let contents = read_contents(alloc, pairs)?;
     let Some(metadata) = metadata else {
         return Err(Error::MissingField);
     };
@@ -73,10 +67,7 @@ fn read_metadata(alloc: Global, pairs: &[(Content, Content)]) -> Result<Option<M
 {
     match value_named(pairs, "metadata") {
         None => Ok(None),
-        Some(value) => match MetaData::from_content(alloc, value) {
-            Ok(metadata) => Ok(Some(metadata)),
-            Err(error) => Err(error),
-        },
+        Some(value) => Ok(Some(MetaData::from_content(alloc, value)?)),
     }
 }
 

@@ -4,6 +4,8 @@ use Rattle.snap_content.specs.Plain as p
 use Rattle.snap_content.specs.Tree as t
 use Rattle.snap_content.specs.declared.error.Error.{Error}
 use Rattle.snap_content.specs.declared.error.Error.TheVariants.{FailedParsingYaml, UnexpectedDataType, MissingField, FileIo, FloatText, JsonKey, NotText, NoFile, OutOfMemory}
+use Rattle.snap_request.specs.Refused.{refusal_of}
+use Rattle.snap_request.specs.declared.request.RequestError.TheVariants.{NoRequest}
 use Rattle.snap_request.proofs.Requesting.{no_request_read}
 
 others_same : (a b c d : t.Tree) (x y : t.TreePairs) → t.pair a b x ≡ t.pair c d y → x ≡ y
@@ -69,14 +71,14 @@ pub none_spelled : (document text : List ℕ) (content : Content) → text ≡ d
 none_spelled document text content same read held = no_request_read document read.plain (read_too document text read.plain same read.printed) (sym held)
 
 -- nor where no tree was read
-pub none_parsed : (document text path : List ℕ) (error : Error) → text ≡ document → RefusalEnd (chars text) path error → (error ≡ OutOfMemory → ⊥)
+pub none_parsed : (document text path : List ℕ) (error : Error) → text ≡ document → RefusalEnd (chars text) path error → refusal_of error ≡ NoRequest
     → (r : RequestView) → Spells document r → ⊥
-none_parsed document text path (FailedParsingYaml named) same end other r s = end.1 s.tree s.within (ap chars same ∙ s.printed)
-none_parsed document text path UnexpectedDataType same end other r s = end
-none_parsed document text path MissingField same end other r s = end
-none_parsed document text path (FileIo named) same end other r s = end
-none_parsed document text path (FloatText named) same end other r s = end.1 s.tree s.within (ap chars same ∙ s.printed)
-none_parsed document text path JsonKey same end other r s = end
-none_parsed document text path (NotText named) same end other r s = end
-none_parsed document text path (NoFile named) same end other r s = end
-none_parsed document text path OutOfMemory same end other r s = other refl
+none_parsed document text path (FailedParsingYaml named) same end refused r s = end.1 s.tree s.within (ap chars same ∙ s.printed)
+none_parsed document text path UnexpectedDataType same end refused r s = end
+none_parsed document text path MissingField same end refused r s = end
+none_parsed document text path (FileIo named) same end refused r s = end
+none_parsed document text path (FloatText named) same end refused r s = end.1 s.tree s.within (ap chars same ∙ s.printed)
+none_parsed document text path JsonKey same end refused r s = end
+none_parsed document text path (NotText named) same end refused r s = end
+none_parsed document text path (NoFile named) same end refused r s = end
+none_parsed document text path OutOfMemory same end refused r s = cc refused

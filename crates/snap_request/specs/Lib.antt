@@ -1,3 +1,4 @@
 pub mod Requests
 pub mod RequestOf
 pub mod Cut
+pub mod Refused

@@ -49,6 +49,21 @@ impl From<OutOfMemory> for RequestError {
     }
 }
 
+/// What the reader's error means for a document. Want of memory is never taken for a text that is no request.
+impl From<Error> for RequestError {
+    ghost use Rattle.std.specs.Prelude.{◌≡◌};
+    ghost use Rattle.snap_request.specs.Refused.{refusal_of};
+
+    ghost from_gives = { λ error e. e ≡ refusal_of error };
+
+    fn from(error: Error) -> RequestError {
+        match error {
+            Error::OutOfMemory => RequestError::OutOfMemory,
+            _ => RequestError::NoRequest,
+        }
+    }
+}
+
 /// The request that a map of these pairs is, if it is one. Its value is taken out of the pairs.
 fn request_of_pairs(
     alloc: Global,
@@ -171,22 +186,9 @@ pub fn read_request(alloc: Global, document: &[u8]) -> Result<Request, RequestEr
     let Ok(text) = str::from_utf8(document) else {
         return Err(RequestError::NoRequest);
     };
-    match yaml::parse_str(alloc, text, &Text::empty()) {
-        Ok(content) => match request_of_content(alloc, content) {
-            Ok(Some(request)) => Ok(request),
-            Ok(None) => Err(RequestError::NoRequest),
-            Err(_) => Err(RequestError::OutOfMemory),
-        },
-        Err(error) => Err(refusal_of(&error)),
-    }
-}
-
-/// What the reader's error means for a document. Want of memory is never taken for a text that is no request.
-fn refusal_of(error: &Error) -> RequestError
-    ensures { result ≡ RequestError.NoRequest → error.now ≡ Error.OutOfMemory → ⊥ }
-{
-    match error {
-        Error::OutOfMemory => RequestError::OutOfMemory,
-        _ => RequestError::NoRequest,
+    let content = yaml::parse_str(alloc, text, &Text::empty())?;
+    match request_of_content(alloc, content)? {
+        Some(request) => Ok(request),
+        None => Err(RequestError::NoRequest),
     }
 }

@@ -1,7 +1,7 @@
 -- A run without faults over spelled requests ends well.
 use Rattle.snap_run.proofs.Prelude.{◌≡◌, ℕ, List, [], ◌∷◌, ◌++◌, Option, inl, inr, subst, arith, Rose, Files, RequestView, Spells, RunWords, StopsAt, status_at, RunsTo, AreSpelled, IsSteady, EndsWell, DocumentError, Status, AllPassed, SomeFailed, BadWords, BadRequest, Refused, ReadFault, OutOfMemory, InputTooLong}
 use Rattle.std.specs.Prelude.{refl}
-use Rattle.snap_run.specs.declared.documents.DocumentError.TheVariants as error
+use Rattle.snap_run.specs.declared.document_error.DocumentError.TheVariants as error
 use Rattle.snap_run.specs.declared.status.Status.TheVariants.{FileIo, WriteFault}
 
 spelled_at : (done : List (List ℕ)) (d : List ℕ) (later : List (List ℕ)) → AreSpelled (done ++ d ∷ later) → (r : RequestView) × Spells d r

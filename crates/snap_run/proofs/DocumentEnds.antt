@@ -1,5 +1,6 @@
 -- What one document leaves.
-use Rattle.snap_run.proofs.Prelude.{◌≡◌, ◌⊎◌, ◌&&◌, not, inl, inr, ℕ, List, [], ◌∷◌, ◌++◌, map, Option, Some, refl, sym, ap, ◌∙◌, subst, Result, Ok, Err, encode_utf8_all, append-nil, empty, get, Rose, Files, HoldsFront, asked_path, verdict_of, is_failure, RequestView, ReadsAs, RunWords, place_by, settings_by, printed_by, asked_by, assertion_by, line_text, line_of, KeptBy, IsOwn, FaultIsOwn, words_of, Ran, AssertionStops, StopsAt, IsInWork, MemoryFails, LineFails, IsDocumentAnswered, CountedIf, is_store_fault, Update, DocumentError, Outcome, Runner, step_keeps}
+use Rattle.snap_run.proofs.Prelude.{◌≡◌, ◌⊎◌, ◌&&◌, not, inl, inr, ℕ, List, [], ◌∷◌, ◌++◌, map, Option, Some, refl, sym, ap, ◌∙◌, subst, Result, Ok, Err, encode_utf8_all, append-nil, empty, get, Rose, Files, HoldsFront, asked_path, verdict_of, is_failure, RequestView, Spells, ReadsAs, RunWords, place_by, settings_by, printed_by, asked_by, assertion_by, line_text, line_of, KeptBy, IsOwn, FaultIsOwn, words_of, Ran, AssertionStops, StopsAt, IsInWork, MemoryFails, LineFails, IsDocumentAnswered, CountedIf, is_store_fault, Update, DocumentError, Outcome, Runner, step_keeps}
+use Rattle.std.specs.Result.{IfErr, IsErrAnd}
 use Rattle.snap_content.specs.Tree.{Tree}
 use Rattle.snap_select.specs.Put.{Objects}
 use Rattle.snap_select.specs.declared.replacement.Replacement.{Replacement}
@@ -13,20 +14,19 @@ use Rattle.snap_assert.specs.Judging.{May}
 use Rattle.snap_assert.specs.Session.{empty_session}
 use Rattle.snap_assert.specs.Assertions.{Assertion, assertion_of, asked_in}
 use Rattle.snap_assert.specs.Outcomes.{IsAnswered, ErrorCause, left_by}
-use Rattle.snap_run.specs.declared.documents.DocumentError.TheVariants.{NoRequest, FileIo, WriteFault, OutOfMemory}
+use Rattle.snap_request.specs.declared.request.RequestError.{RequestError}
+use Rattle.snap_request.specs.declared.request.RequestError.TheVariants as request
+use Rattle.snap_run.specs.Refused.{unread, unanswered}
+use Rattle.snap_run.specs.declared.document_error.DocumentError.TheVariants.{NoRequest, FileIo, WriteFault, OutOfMemory}
 use Rattle.snap_assert.specs.declared.error.AssertError.{AssertError}
 use Rattle.snap_assert.specs.declared.error.AssertError.TheVariants as refusal
 use Rattle.snap_assert.specs.declared.outcome.Verdict.{Verdict}
 
--- a document that comes to no answer stops the run with nothing written
-pub stops_at : (words : RunWords) (error : DocumentError) (document : List ℕ) (f g : Option Files) (w v : Option (List ℕ)) → v ≡ w → AssertionStops words error document f g → StopsAt words error document f g w v
-stops_at words NoRequest document f g w v e s = (s.0, e, s.1)
-stops_at words (FileIo path) document f g w v e s = (e, s)
-stops_at words WriteFault document f g w v e s = absurd s
-stops_at words OutOfMemory document f g w v e s = (e, s)
-
-pub unchanged_before : (words : RunWords) (document : List ℕ) (f g : Option Files) → g ≡ f → MemoryFails words document f g
-unchanged_before words document f g e = inl e
+-- memory was wanting before anything was changed
+pub unchanged_before : {T : Type 0} (words : RunWords) (document : List ℕ) (f : Option Files) (result : Result T DocumentError) → IsErrAnd result (λ e. e ≡ OutOfMemory)
+    → IfErr result (λ e. AssertionStops words e document f f)
+unchanged_before words document f (Ok value) is = tt
+unchanged_before words document f (Err error) is = subst (λ e. AssertionStops words e document f f) (sym is) (inl refl)
 
 -- a document was answered, and nothing was said of it
 pub answered_in_work : (words : RunWords) (document : List ℕ) (outcome : Outcome) (f g : Option Files) → IsDocumentAnswered words document outcome f g → MemoryFails words document f g
@@ -106,50 +106,33 @@ line_fails words document outcome line bytes f g w v d told encoded wrote = reco
   line = λ x e. subst (λ b. HoldsFront b x v) (line_is words document outcome line bytes f g d told encoded) (wrote x e);
 }
 
--- the store failed in the work on a path, or memory was wanting
-record IsFault (before now : ℕ) (mode : Update) (path : List ℕ) (error : DocumentError) : Type 0 where
-  named : List ℕ
-  is : error ≡ FileIo named
-  own : IsOwn mode path named
-  rose : Rose before now
+-- a document that is not read
+pub unread_stops : (words : RunWords) (document : List ℕ) (f : Option Files) (refused : RequestError)
+    → (refused ≡ request.NoRequest → (r : RequestView) → Spells document r → ⊥) → AssertionStops words (unread refused) document f f
+unread_stops words document f request.NoRequest none = (refl, none refl)
+unread_stops words document f request.OutOfMemory none = inl refl
 
-record IsWant (before now : ℕ) (error : DocumentError) : Type 0 where
-  is : error ≡ OutOfMemory
-  same : now ≡ before
-
-refused_by : (before now : ℕ) (mode : Update) (path : List ℕ) (refused : AssertError) (error : DocumentError) → ErrorCause before now refused → FaultIsOwn mode path refused
-    → ((path : List ℕ) → refused ≡ refusal.FileIo path → error ≡ FileIo path) → (refused ≡ refusal.OutOfMemory → error ≡ OutOfMemory) → IsFault before now mode path error ⊎ IsWant before now error
-refused_by before now mode path refusal.OutOfMemory error cause own file memory = inr (record { is = memory refl; same = cause })
-refused_by before now mode path (refusal.FileIo named) error cause own file memory = inl (record { named = named; is = file named refl; own = own; rose = cause })
-refused_by before now mode path refusal.NameClash error cause own file memory = absurd cause
-refused_by before now mode path refusal.DoctestNeedsName error cause own file memory = absurd cause
-refused_by before now mode path (refusal.DuplicateDiffers key kept new) error cause own file memory = absurd cause
-refused_by before now mode path refusal.NamesExhausted error cause own file memory = absurd cause
-refused_by before now mode path refusal.InlineDuplicate error cause own file memory = absurd cause
-refused_by before now mode path refusal.BadExtension error cause own file memory = absurd cause
-refused_by before now mode path refusal.JsonKey error cause own file memory = absurd cause
+-- an assertion is refused because the store failed in the work on a path, or for want of memory
+only_two : (before now : ℕ) (refused : AssertError) (P : AssertError → Type 0) → ErrorCause before now refused → ((path : List ℕ) → Rose before now → P (refusal.FileIo path)) → (now ≡ before → P refusal.OutOfMemory) → P refused
+only_two before now (refusal.FileIo path) P cause file memory = file path cause
+only_two before now refusal.OutOfMemory P cause file memory = memory cause
+only_two before now refusal.NameClash P cause file memory = absurd cause
+only_two before now refusal.DoctestNeedsName P cause file memory = absurd cause
+only_two before now (refusal.DuplicateDiffers key first new) P cause file memory = absurd cause
+only_two before now refusal.NamesExhausted P cause file memory = absurd cause
+only_two before now refusal.InlineDuplicate P cause file memory = absurd cause
+only_two before now refusal.BadExtension P cause file memory = absurd cause
+only_two before now refusal.JsonKey P cause file memory = absurd cause
 
 -- a document whose assertion is refused
-pub refused_stops : (runner : Runner) (document : List ℕ) (r : RequestView) (at : List ℕ) (f g : Option Files) (before now : ℕ) (refused : AssertError) (error : DocumentError)
+pub refused_stops : (runner : Runner) (document : List ℕ) (r : RequestView) (at : List ℕ) (f g : Option Files) (before now : ℕ) (refused : AssertError)
     → ErrorCause before now refused → FaultIsOwn runner.config.update at refused
-    → ((path : List ℕ) → refused ≡ refusal.FileIo path → error ≡ FileIo path) → (refused ≡ refusal.OutOfMemory → error ≡ OutOfMemory)
-    → ReadsAs document r → at ≡ (asked_by runner.workspace r).path → KeptBy runner.config.update at f g → AssertionStops (words_of runner) error document f g
+    → ReadsAs document r → at ≡ (asked_by runner.workspace r).path → KeptBy runner.config.update at f g → AssertionStops (words_of runner) (unanswered refused) document f g
 unfolding document_in_work
-refused_stops runner document r at f g before now refused error cause own file memory reads is kept = ends (refused_by before now runner.config.update at refused error cause own file memory)
-  where
-    work : IsInWork (words_of runner) document f g
-    work = document_in_work runner document r at f g reads is kept
+refused_stops runner document r at f g before now refused cause own reads is kept =
+    let work : IsInWork (words_of runner) document f g = document_in_work runner document r at f g reads is kept in
+    only_two before now refused (λ e. FaultIsOwn runner.config.update at e → AssertionStops (words_of runner) (unanswered e) document f g) cause
+    (λ named rose own. record { work = work; own = subst (λ p. IsOwn runner.config.update p named) is own }) (λ same own. inr work) own
 
-    ends : IsFault before now runner.config.update at error ⊎ IsWant before now error → AssertionStops (words_of runner) error document f g
-    ends (inl h) = subst (λ e. AssertionStops (words_of runner) e document f g) (sym h.is)
-        (record { work = work; own = subst (λ p. IsOwn runner.config.update p h.named) is h.own })
-    ends (inr h) = subst (λ e. AssertionStops (words_of runner) e document f g) (sym h.is) (inr work)
-
-pub refused_count : (before now : ℕ) (mode : Update) (path : List ℕ) (refused : AssertError) (error : DocumentError)
-    → ErrorCause before now refused → FaultIsOwn mode path refused
-    → ((path : List ℕ) → refused ≡ refusal.FileIo path → error ≡ FileIo path) → (refused ≡ refusal.OutOfMemory → error ≡ OutOfMemory) → CountedIf (is_store_fault error) before now
-refused_count before now mode path refused error cause own file memory = ends (refused_by before now mode path refused error cause own file memory)
-  where
-    ends : IsFault before now mode path error ⊎ IsWant before now error → CountedIf (is_store_fault error) before now
-    ends (inl h) = subst (λ e. CountedIf (is_store_fault e) before now) (sym h.is) h.rose
-    ends (inr h) = subst (λ e. CountedIf (is_store_fault e) before now) (sym h.is) h.same
+pub refused_count : (before now : ℕ) (refused : AssertError) → ErrorCause before now refused → CountedIf (is_store_fault (unanswered refused)) before now
+refused_count before now refused cause = only_two before now refused (λ e. CountedIf (is_store_fault (unanswered e)) before now) cause (λ path rose. rose) (λ same. same)

@@ -20,7 +20,7 @@ pub use Rattle.snap_run.specs.Runner.{words_of}
 pub use Rattle.snap_run.specs.Runs.{StopsAt, Ran, AssertionStops, IsInWork, MemoryFails, LineFails, IsDocumentAnswered, is_store_fault, Stops, RanOne}
 pub use Rattle.snap_run.specs.Status.{RunsTo, AreSpelled, IsSteady, EndsWell, RunCause, Ended, RunsBy, RunsFrom, LengthCause, says_read_fault, says_write_fault, says_file_fault}
 pub use Rattle.snap_run.specs.StatusOf.{status_at, status_of}
-pub use Rattle.snap_run.specs.declared.documents.DocumentError.{DocumentError}
+pub use Rattle.snap_run.specs.declared.document_error.DocumentError.{DocumentError}
 pub use Rattle.snap_run.specs.declared.documents.Stop.{Stop}
 pub use Rattle.snap_run.specs.declared.runner.Runner.{Runner}
 pub use Rattle.snap_run.specs.declared.status.Status.{Status}

@@ -1,7 +1,7 @@
 -- What the program's run comes to.
 use Rattle.snap_run.proofs.Prelude.{◌≡◌, ◌≤◌, ◌+◌, ℕ, Bool, true, false, List, Option, None, Some, refl, sym, ap, ◌∙◌, subst, inl, inr, length, arith, Files, RunWords, words_mean, documents, words_of, Stops, RunCause, Ended, RunsTo, RunsBy, RunsFrom, LengthCause, CountedIf, says_read_fault, says_write_fault, says_file_fault, AreSpelled, IsSteady, EndsWell, status_at, status_of, DocumentError, Stop, Runner, Status, AllPassed, SomeFailed, BadWords, ReadFault, OutOfMemory, InputTooLong}
 use Rattle.snap_stream.specs.Streams.{TakesExactly}
-use Rattle.snap_run.specs.declared.documents.DocumentError.TheVariants as error
+use Rattle.snap_run.specs.declared.document_error.DocumentError.TheVariants as error
 use Rattle.snap_run.proofs.Statuses.{before_all}
 use Rattle.snap_run.proofs.Completeness.{ends_well, not_rose}
 use Rattle.snap_stream.proofs.Pieces.{exactly_long}

@@ -4,7 +4,7 @@ use Rattle.std.proofs.lemmas.List.Elements.{All-head, All-tail, All-cons, All-ni
 use Rattle.std.specs.List.{All}
 use Rattle.snap_content.proofs.Booleans.{some_same}
 use Rattle.snap_run.specs.RunKept.{AreRead, IsSpared, KeptByRun}
-use Rattle.snap_run.specs.declared.documents.DocumentError.TheVariants as error
+use Rattle.snap_run.specs.declared.document_error.DocumentError.TheVariants as error
 use Rattle.snap_run.specs.declared.status.Status.TheVariants as status
 
 -- one step, at one path

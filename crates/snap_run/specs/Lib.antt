@@ -1,5 +1,6 @@
 pub mod Answers
 pub mod Runner
+pub mod Refused
 pub mod Runs
 pub mod RunKept
 pub mod StatusOf

@@ -7,8 +7,8 @@ use Rattle.snap_run.specs.Answers.{Answer, RunWords, asked_by, IsAllowed, step_o
 use Rattle.snap_assert.specs.Steps.{verdict_of}
 use Rattle.snap_assert.specs.Kept.{KeptBy, IsOwn}
 use Rattle.snap_assert.specs.declared.outcome.Outcome.{Outcome}
-use Rattle.snap_run.specs.declared.documents.DocumentError.{DocumentError}
-use Rattle.snap_run.specs.declared.documents.DocumentError.TheVariants.{NoRequest, FileIo, WriteFault, OutOfMemory}
+use Rattle.snap_run.specs.declared.document_error.DocumentError.{DocumentError}
+use Rattle.snap_run.specs.declared.document_error.DocumentError.TheVariants.{NoRequest, FileIo, WriteFault, OutOfMemory}
 use Rattle.snap_run.specs.declared.documents.Stop.{Stop}
 
 -- these documents were run with these answers: each was read as its answer's request, and where the store and the

@@ -1,7 +1,7 @@
 -- The status that tells where a run stopped.
 use Rattle.std.specs.Prelude.{ℕ}
-use Rattle.snap_run.specs.declared.documents.DocumentError.{DocumentError}
-use Rattle.snap_run.specs.declared.documents.DocumentError.TheVariants.{NoRequest, FileIo, WriteFault, OutOfMemory}
+use Rattle.snap_run.specs.declared.document_error.DocumentError.{DocumentError}
+use Rattle.snap_run.specs.declared.document_error.DocumentError.TheVariants.{NoRequest, FileIo, WriteFault, OutOfMemory}
 use Rattle.snap_run.specs.declared.documents.Stop.{Stop}
 use Rattle.snap_run.specs.declared.status.Status.{Status}
 use Rattle.snap_run.specs.declared.status.Status.TheVariants as status

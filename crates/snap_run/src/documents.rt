@@ -8,9 +8,9 @@ ghost use Rattle.snap_run.specs.Answers.{line_text, place_at};
 ghost use Rattle.snap_run.specs.Status.{Ended};
 ghost use Rattle.snap_run.specs.Runs.{RanOne, StopsAt, Stops, IsDocumentAnswered, AssertionStops, is_store_fault, is_sink_fault, stops_by_store, stops_by_sink};
 
+use crate::document_error::DocumentError;
 use crate::runner::Runner;
 use snap_assert::engine::assert_content;
-use snap_assert::error::AssertError;
 use snap_assert::outcome::{Outcome, Verdict};
 use snap_assert::session::Session;
 use snap_content::{OutOfMemory, Text};
@@ -18,20 +18,11 @@ use snap_emit::push_spelled_text;
 use snap_outside::{Sink, Store};
 use snap_place::place::Place;
 use snap_request::cut::first_document_end;
-use snap_request::request::{Request, RequestError, read_request};
+use snap_request::request::{Request, read_request};
 use snap_settings::redactions::Redactions;
 use snap_settings::settings::Settings;
 use snap_stream::streams::write_all;
 use std::alloc::Global;
-
-/// Why a document stops a run.
-#[derive(Debug, Drop)]
-pub enum DocumentError {
-    NoRequest,
-    FileIo(Text),
-    WriteFault,
-    OutOfMemory,
-}
 
 /// The document that stops a run, counted from 1.
 #[derive(Debug, Drop)]
@@ -63,31 +54,15 @@ fn place_of_request(
     file: Text,
     line: u32,
     expr: Text,
-) -> Result<Place, DocumentError>
+) -> Result<Place, OutOfMemory>
     requires { names_file file ≡ true }
-    ensures place { IfOk result (λ place. place_of place
+    ensures { IfOk result (λ place. place_of place
         ≡ place_at runner.now.workspace module_name file line expr) }
-    ensures memory { IfErr result (λ error. error ≡ DocumentError.OutOfMemory) }
 {
-    let Ok(workspace) = runner.workspace.try_clone(alloc) else {
-        return Err(DocumentError::OutOfMemory);
-    };
+    let workspace = runner.workspace.try_clone(alloc)?;
     match Place::new(workspace, Text::empty(), module_name, file, line, expr) {
         Ok(place) => Ok(place),
         Err(_) => unreachable!(),
-    }
-}
-
-/// Why a document stops a run where its assertion comes to no answer. While a name is given and no block is open,
-/// there are no refusals but these two.
-fn error_of(error: AssertError) -> DocumentError
-    ensures file { (path : List ℕ) → error ≡ AssertError.FileIo path
-        → result ≡ DocumentError.FileIo path }
-    ensures memory { error ≡ AssertError.OutOfMemory → result ≡ DocumentError.OutOfMemory }
-{
-    match error {
-        AssertError::FileIo(path) => DocumentError::FileIo(path),
-        _ => DocumentError::OutOfMemory,
     }
 }
 
@@ -108,11 +83,7 @@ fn assert_document<F: Store>(
         (F.files store.new)) }
     ensures store_count { Counted is_store_fault (F.faults store.old) (F.faults store.new) result }
 {
-    let request = match read_request(alloc, document) {
-        Ok(request) => request,
-        Err(RequestError::NoRequest) => return Err(DocumentError::NoRequest),
-        Err(RequestError::OutOfMemory) => return Err(DocumentError::OutOfMemory),
-    };
+    let request = read_request(alloc, document)?;
     let Request {
         module_name,
         file,
@@ -123,17 +94,10 @@ fn assert_document<F: Store>(
         redactions,
         sort,
     } = request;
-    let place = match place_of_request(alloc, runner, module_name, file, line, expr) {
-        Ok(place) => place,
-        Err(_) => return Err(DocumentError::OutOfMemory),
-    };
-    let Ok(redactions) = Redactions::from_replacements(alloc, redactions) else {
-        return Err(DocumentError::OutOfMemory);
-    };
-    let Ok(settings) = Settings::of_parts(alloc, sort, redactions) else {
-        return Err(DocumentError::OutOfMemory);
-    };
-    match assert_content(
+    let place = place_of_request(alloc, runner, module_name, file, line, expr)?;
+    let redactions = Redactions::from_replacements(alloc, redactions)?;
+    let settings = Settings::of_parts(alloc, sort, redactions)?;
+    let outcome = assert_content(
         alloc,
         session,
         store,
@@ -142,10 +106,8 @@ fn assert_document<F: Store>(
         &place,
         Some(&name),
         value,
-    ) {
-        Ok(outcome) => Ok(outcome),
-        Err(error) => Err(error_of(error)),
-    }
+    )?;
+    Ok(outcome)
 }
 
 /// Reads one document, makes its assertion and writes its line. Whether the answer fails.
@@ -165,17 +127,10 @@ fn run_document<K: Sink, F: Store>(
     ensures store_count { Counted is_store_fault (F.faults store.old) (F.faults store.new) result }
     ensures sink_count { Counted is_sink_fault (K.faults sink.old) (K.faults sink.new) result }
 {
-    let outcome = match assert_document(alloc, runner, session, document, store) {
-        Ok(outcome) => outcome,
-        Err(error) => return Err(error),
-    };
-    let Ok(line) = line(alloc, outcome.verdict, &outcome.path) else {
-        return Err(DocumentError::OutOfMemory);
-    };
-    match write_all(sink, line.as_str().as_bytes()) {
-        Ok(()) => Ok(outcome.fails),
-        Err(_) => Err(DocumentError::WriteFault),
-    }
+    let outcome = assert_document(alloc, runner, session, document, store)?;
+    let line = line(alloc, outcome.verdict, &outcome.path)?;
+    write_all(sink, line.as_str().as_bytes())?;
+    Ok(outcome.fails)
 }
 
 /// Runs the documents of an input in turn, up to the first that stops the run. Whether some answer fails.

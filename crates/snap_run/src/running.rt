@@ -8,7 +8,8 @@ ghost use Rattle.snap_run.specs.Status.{RunCause, WordsCause, IsTold, RunsFrom, 
 ghost use Rattle.snap_run.specs.StatusOf.{status_of};
 ghost use Rattle.snap_stream.specs.Streams.{TakesAtMost, input_limit};
 
-use crate::documents::{DocumentError, Stop, run_documents};
+use crate::document_error::DocumentError;
+use crate::documents::{Stop, run_documents};
 use crate::runner::Runner;
 use crate::status::Status;
 use crate::usage::{tell, text_in};

@@ -5,7 +5,7 @@ ghost use Rattle.snap_outside.specs.Streams.{HoldsFront};
 ghost use Rattle.snap_stream.specs.Streams.{is_read_fault, TakesPiece, TakesAtMost, TakesExactly, input_limit};
 
 use snap_outside::{Fault, Sink, Source};
-use std::alloc::Global;
+use std::alloc::{AllocError, Global};
 
 /// The most bytes that an input may have.
 const MAX_INPUT: usize = 67_108_864;
@@ -18,6 +18,28 @@ pub enum ReadError {
     Fault,
     TooLong,
     OutOfMemory,
+}
+
+impl From<Fault> for ReadError {
+    ghost use Rattle.std.specs.Prelude.{◌≡◌};
+    ghost use Rattle.snap_stream.specs.declared.streams.ReadError.TheVariants.{Fault};
+
+    ghost from_gives = { λ _ e. e ≡ Fault };
+
+    fn from(_: Fault) -> Self {
+        ReadError::Fault
+    }
+}
+
+impl From<AllocError> for ReadError {
+    ghost use Rattle.std.specs.Prelude.{◌≡◌};
+    ghost use Rattle.snap_stream.specs.declared.streams.ReadError.TheVariants.{OutOfMemory};
+
+    ghost from_gives = { λ _ e. e ≡ OutOfMemory };
+
+    fn from(_: AllocError) -> Self {
+        ReadError::OutOfMemory
+    }
 }
 
 /// Reads once, and adds what was given to the bytes.
@@ -36,16 +58,10 @@ fn read_piece<S: Source>(
     ensures not_long { IsErrOf result ReadError.TooLong → ⊥ }
     ensures cause { Counted is_read_fault (S.faults source.old) (S.faults source.new) result }
 {
-    match source.read(buffer) {
-        Ok(count) => {
-            let (piece, _) = buffer.split_at(count);
-            match bytes.extend_from_slice(piece) {
-                Ok(()) => Ok(count),
-                Err(_) => Err(ReadError::OutOfMemory),
-            }
-        }
-        Err(_) => Err(ReadError::Fault),
-    }
+    let count = source.read(buffer)?;
+    let (piece, _) = buffer.split_at(count);
+    bytes.extend_from_slice(piece)?;
+    Ok(count)
 }
 
 /// Reads the source to its end, within the limit. At most one byte more than the limit is ever taken, and where it is,
@@ -67,13 +83,9 @@ pub fn read_all<S: Source>(alloc: Global, source: &mut S) -> Result<Vec<u8>, Rea
     let mut buffer = [0u8; PIECE];
     while bytes.len() <= MAX_INPUT {
         let room = PIECE.min(MAX_INPUT + 1 - bytes.len());
-        match read_piece(source, &mut buffer[..room], &mut bytes) {
-            Ok(count) => {
-                if count == 0 {
-                    return Ok(bytes);
-                }
-            }
-            Err(error) => return Err(error),
+        let count = read_piece(source, &mut buffer[..room], &mut bytes)?;
+        if count == 0 {
+            return Ok(bytes);
         }
     }
     Err(ReadError::TooLong)
@@ -90,10 +102,8 @@ pub fn write_all<K: Sink>(sink: &mut K, bytes: &[u8]) -> Result<(), Fault>
     let mut done = 0;
     while done < bytes.len() {
         let (_, rest) = bytes.split_at(done);
-        match sink.write(rest) {
-            Ok(count) => done += count,
-            Err(fault) => return Err(fault),
-        }
+        let count = sink.write(rest)?;
+        done += count;
     }
     Ok(())
 }

@@ -1,23 +1,23 @@
 use Rattle.snap_assert.proofs.Prelude.{refl}
 use Rattle.snap_assert.proofs.Answering.{answered}
-use Rattle.snap_assert.proofs.Settling.{has_text, kept_unwritten}
+use Rattle.snap_assert.proofs.Settling.{has_text, kept_unwritten, own_refused}
 use Rattle.snap_assert.proofs.engine.assert_printed.Goals as goal
 
 pub assert_prepared-requires : goal.assert_prepared-requires
-assert_prepared-requires g c = has_text _ c.in-Ok.prepared c.in-Ok.ensures
+assert_prepared-requires g c = has_text _ c.in_ok-prepared.prepared c.in_ok-prepared.ensures
 
-pub returns-in_default-clause-kept : goal.returns-in_default-clause-kept
-returns-in_default-clause-kept g c = kept_unwritten _ _ _ _ refl
+pub returns-in_err-prepared-clause-kept : goal.returns-in_err-prepared-clause-kept
+returns-in_err-prepared-clause-kept g c = kept_unwritten _ _ _ _ refl
 
-pub returns-in-Err-clause-kept : goal.returns-in-Err-clause-kept
-returns-in-Err-clause-kept g c = c.in-Err.ensures.kept _ c.in-Ok.ensures
+pub returns-in_err-judged-clause-kept : goal.returns-in_err-judged-clause-kept
+returns-in_err-judged-clause-kept g c = c.in_err-judged.ensures.kept _ c.in_ok-prepared.ensures
 
-pub returns-in-Err-clause-named : goal.returns-in-Err-clause-named
-returns-in-Err-clause-named g c = c.in-Err.ensures.named _ c.in-Ok.ensures
+pub returns-in_err-judged-clause-named : goal.returns-in_err-judged-clause-named
+returns-in_err-judged-clause-named g c = own_refused c.args.config.now.update _ c.from_residual-in_err-judged.result c.in_err-judged.field-0.0 c.from_residual-in_err-judged.ensures.1 (c.in_err-judged.ensures.named _ c.in_ok-prepared.ensures)
 
-pub returns-in-Ok-assert_prepared-clause-kept : goal.returns-in-Ok-assert_prepared-clause-kept
-returns-in-Ok-assert_prepared-clause-kept g c = c.in-Ok-assert_prepared.ensures.kept _ c.in-Ok.ensures
+pub returns-clause-kept : goal.returns-clause-kept
+returns-clause-kept g c = c.in_ok-judged.ensures.kept _ c.in_ok-prepared.ensures
 
-pub returns-in-Ok-assert_prepared-clause-answered : goal.returns-in-Ok-assert_prepared-clause-answered
-returns-in-Ok-assert_prepared-clause-answered g c =
-    answered c.args.config.now _ c.in-Ok.prepared c.in-Ok-assert_prepared.judged _ _ _ _ c.in-Ok.ensures c.verdict-verdict.ensures c.fails.ensures c.in-Ok-assert_prepared.ensures.settled
+pub returns-clause-answered : goal.returns-clause-answered
+returns-clause-answered g c =
+    answered c.args.config.now _ c.in_ok-prepared.prepared c.in_ok-judged.judged _ _ _ _ c.in_ok-prepared.ensures c.verdict-verdict.ensures c.fails.ensures c.in_ok-judged.ensures.settled

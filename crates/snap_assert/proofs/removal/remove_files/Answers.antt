@@ -5,13 +5,13 @@ use Rattle.snap_assert.proofs.removal.remove_files.Goals as goal
 
 pub loop-path-preserved : goal.loop-path-preserved
 loop-path-preserved g c = record {
-  gone = λ m e. c.in-Ok-remove.ensures.removed _ (c.loop-path.invariant.gone m e)
+  gone = λ m e. c.in-Ok.ensures.removed _ (c.loop-path.invariant.gone m e)
       ∙ ap Some (sym (one_more c.args.paths.now c.loop-path.path-index c.path-item.result m c.loop-path-test.true c.path-item.is));
-  count = c.in-Ok-remove.ensures.cause ∙ c.loop-path.invariant.count;
+  count = c.in-Ok.ensures.cause ∙ c.loop-path.invariant.count;
 }
 
-pub returns-in_default-clause-kept : goal.returns-in_default-clause-kept
-returns-in_default-clause-kept g c = λ m e. kept_removed_each c.args.paths.now c.loop-path.path-index m _ (c.loop-path.invariant.gone m e)
+pub returns-in_err-named-clause-kept : goal.returns-in_err-named-clause-kept
+returns-in_err-named-clause-kept g c = λ m e. kept_removed_each c.args.paths.now c.loop-path.path-index m _ (c.loop-path.invariant.gone m e)
 
 pub returns-in-Err-Failed-clause-kept : goal.returns-in-Err-Failed-clause-kept
 returns-in-Err-Failed-clause-kept g c = λ m e.
@@ -19,7 +19,7 @@ returns-in-Err-Failed-clause-kept g c = λ m e.
 
 pub returns-in-Err-Failed-clause-named : goal.returns-in-Err-Failed-clause-named
 returns-in-Err-Failed-clause-named g c =
-    ap (λ q. is_among c.args.paths.now q) c.in-Ok.ensures ∙ among_at c.args.paths.now c.loop-path.path-index c.path-item.result c.loop-path-test.true c.path-item.is
+    ap (λ q. is_among c.args.paths.now q) c.in_ok-named.ensures ∙ among_at c.args.paths.now c.loop-path.path-index c.path-item.result c.loop-path-test.true c.path-item.is
 
 pub returns-in-Err-OutOfMemory-clause-kept : goal.returns-in-Err-OutOfMemory-clause-kept
 returns-in-Err-OutOfMemory-clause-kept g c = λ m e.

@@ -2,14 +2,14 @@ use Rattle.snap_assert.proofs.Prelude.{◌∙◌, ap, sym, map, filter, chars, j
 use Rattle.snap_assert.proofs.StrayPaths.{in_any_order, all_stray}
 use Rattle.snap_assert.proofs.strays.stray_paths.Goals as goal
 
-pub returns-in-Ok-sort-clause-strays : goal.returns-in-Ok-sort-clause-strays
-returns-in-Ok-sort-clause-strays g c = λ m file folder told.
+pub returns-clause-strays : goal.returns-clause-strays
+returns-clause-strays g c = λ m file folder told.
     let last = chars c.in-Some.file.now in
-    in_any_order c.args.path.now c.args.folder.now last m _ _ _ file folder (sym c.in-Some.ensures) (c.in-Ok.ensures.names m told)
-    (c.in-Ok-strays_among.ensures ∙ ap (λ names. map (joined c.args.folder.now) (filter (is_stray last) names)) c.as_slice.ensures) c.sort.ensures.permutation
+    in_any_order c.args.path.now c.args.folder.now last m _ _ _ file folder (sym c.in-Some.ensures) (c.in_ok-names.ensures.names m told)
+    (c.in_ok-strays.ensures ∙ ap (λ names. map (joined c.args.folder.now) (filter (is_stray last) names)) c.as_slice.ensures) c.sort.ensures.permutation
 
-pub returns-in-Ok-sort-clause-all : goal.returns-in-Ok-sort-clause-all
-returns-in-Ok-sort-clause-all g c = λ file folder.
+pub returns-clause-all : goal.returns-clause-all
+returns-clause-all g c = λ file folder.
     let last = chars c.in-Some.file.now in
     all_stray c.args.path.now c.args.folder.now last _ _ _ file folder (sym c.in-Some.ensures)
-    (c.in-Ok-strays_among.ensures ∙ ap (λ names. map (joined c.args.folder.now) (filter (is_stray last) names)) c.as_slice.ensures) c.sort.ensures.permutation
+    (c.in_ok-strays.ensures ∙ ap (λ names. map (joined c.args.folder.now) (filter (is_stray last) names)) c.as_slice.ensures) c.sort.ensures.permutation

@@ -1,24 +1,27 @@
 use Rattle.snap_request.proofs.Prelude.{◌≡◌, ap, sym, ◌∙◌, option_map, IsErrOf, Err, request_of}
 use Rattle.snap_request.specs.declared.request.Request.{Request}
 use Rattle.snap_request.specs.declared.request.RequestError.{RequestError}
+use Rattle.std.proofs.lemmas.Result.{err_from_is_err_and}
 use Rattle.snap_request.proofs.RequestMade.{spelled, none_spelled, none_parsed}
 use Rattle.snap_request.proofs.request.read_request.Goals as goal
 
 error_is : (error wanted : RequestError) → IsErrOf {T = Request} (Err error) wanted → error ≡ wanted
 error_is error wanted is = cc is
 
-pub returns-in-Ok-Some-clause-ok : goal.returns-in-Ok-Some-clause-ok
-returns-in-Ok-Some-clause-ok c =
-    let read = c.in-Ok-parse_str.ensures.end in
-    spelled _ _ _ (request_of c.in-Ok-Some.request) c.in-Ok.ensures.cases.0 c.in-Ok.ensures.cases.1 read
-    (ap (option_map request_of) (sym c.in-Ok-Some.field-0-is) ∙ c.in-Ok-Some.ensures read.plain read.tree_is)
+pub returns-in-Some-clause-ok : goal.returns-in-Some-clause-ok
+returns-in-Some-clause-ok c =
+    let read = c.in_ok-content.ensures.end in
+    spelled _ _ _ (request_of c.in-Some.request) c.in-Ok.ensures.cases.0 c.in-Ok.ensures.cases.1 read
+    (ap (option_map request_of) (sym c.in-Some.is) ∙ c.in_ok-request.ensures read.plain read.tree_is)
 
-pub returns-in-Ok-None-clause-refused : goal.returns-in-Ok-None-clause-refused
-returns-in-Ok-None-clause-refused c = λ _.
-    let read = c.in-Ok-parse_str.ensures.end in
+pub returns-in-None-clause-refused : goal.returns-in-None-clause-refused
+returns-in-None-clause-refused c = λ _.
+    let read = c.in_ok-content.ensures.end in
     none_spelled _ _ _ c.in-Ok.ensures.cases.0 read
-    (ap (option_map request_of) (sym c.in-Ok-None.field-0-is) ∙ c.in-Ok-None.ensures read.plain read.tree_is)
+    (ap (option_map request_of) (sym c.in-None.is) ∙ c.in_ok-request.ensures read.plain read.tree_is)
 
-pub returns-clause-refused : goal.returns-clause-refused
-returns-clause-refused c = λ is.
-    none_parsed _ _ _ c.in-Err.error c.in-Ok.ensures.cases.0 c.in-Err.ensures.end (c.refusal_of.ensures (error_is c.refusal_of.result _ is))
+pub returns-in_err-content-clause-refused : goal.returns-in_err-content-clause-refused
+returns-in_err-content-clause-refused c =
+    let told = err_from_is_err_and c.from_residual.result c.from_residual.ensures.1 in
+    rw (told.1, told.2) (λ is.
+    none_parsed _ _ _ c.in_err-content.field-0.0 c.in-Ok.ensures.cases.0 c.in_err-content.ensures.end (error_is _ _ is))

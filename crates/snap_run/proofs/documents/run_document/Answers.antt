@@ -1,18 +1,23 @@
 use Rattle.snap_run.proofs.Prelude.{refl, sym, ◌∙◌, ap, encode_utf8_all, encodes-chars, words_of}
+use Rattle.std.proofs.lemmas.Result.{err_from_is_err_and}
 use Rattle.snap_run.proofs.DocumentEnds.{answered_in_work, document_ran, line_fails}
 use Rattle.snap_run.proofs.documents.run_document.Goals as goal
 
-pub returns-in_default-clause-err : goal.returns-in_default-clause-err
-returns-in_default-clause-err g c = (refl, answered_in_work (words_of c.args.runner.now) c.args.document.now _ _ _ c.in-Ok.ensures.ok)
+pub returns-in_err-line-clause-err : goal.returns-in_err-line-clause-err
+returns-in_err-line-clause-err g c =
+    let told = err_from_is_err_and c.from_residual-in_err-line.result c.from_residual-in_err-line.ensures.1 in
+    rw (told.1, told.2) (refl, answered_in_work (words_of c.args.runner.now) c.args.document.now _ _ _ c.in_ok-outcome.ensures.ok)
 
-pub returns-in-Ok-write_all-clause-ok : goal.returns-in-Ok-write_all-clause-ok
-returns-in-Ok-write_all-clause-ok g c =
+pub returns-clause-ok : goal.returns-clause-ok
+returns-clause-ok g c =
     record {
-      answer = c.in-Ok.ensures.ok.answer;
-      failing = sym c.in-Ok.ensures.ok.fails;
-      ran = document_ran (words_of c.args.runner.now) c.args.document.now c.in-Ok.outcome c.in-Ok-line.line c.as_bytes.result.now _ _ _ _ c.in-Ok.ensures.ok c.in-Ok-line.ensures (c.as_bytes.ensures.value ∙ sym (encodes-chars c.as_str.result.now c.as_str.utf8) ∙ ap encode_utf8_all c.as_str.ensures) c.in-Ok-write_all.ensures.all;
+      answer = c.in_ok-outcome.ensures.ok.answer;
+      failing = sym c.in_ok-outcome.ensures.ok.fails;
+      ran = document_ran (words_of c.args.runner.now) c.args.document.now c.in_ok-outcome.outcome c.in_ok-line.line c.as_bytes.result.now _ _ _ _ c.in_ok-outcome.ensures.ok c.in_ok-line.ensures (c.as_bytes.ensures.value ∙ sym (encodes-chars c.as_str.result.now c.as_str.utf8) ∙ ap encode_utf8_all c.as_str.ensures) c.in_ok-write_all.ensures.all;
     }
 
-pub returns-clause-err : goal.returns-clause-err
-returns-clause-err g c =
-    line_fails (words_of c.args.runner.now) c.args.document.now c.in-Ok.outcome c.in-Ok-line.line c.as_bytes.result.now _ _ _ _ c.in-Ok.ensures.ok c.in-Ok-line.ensures (c.as_bytes.ensures.value ∙ sym (encodes-chars c.as_str.result.now c.as_str.utf8) ∙ ap encode_utf8_all c.as_str.ensures) c.in-Err-write_all.ensures.part
+pub returns-in_err-write_all-clause-err : goal.returns-in_err-write_all-clause-err
+returns-in_err-write_all-clause-err g c =
+    let told = err_from_is_err_and c.from_residual-in_err-write_all.result c.from_residual-in_err-write_all.ensures.1 in
+    rw (told.1, told.2)
+    (line_fails (words_of c.args.runner.now) c.args.document.now c.in_ok-outcome.outcome c.in_ok-line.line c.as_bytes.result.now _ _ _ _ c.in_ok-outcome.ensures.ok c.in_ok-line.ensures (c.as_bytes.ensures.value ∙ sym (encodes-chars c.as_str.result.now c.as_str.utf8) ∙ ap encode_utf8_all c.as_str.ensures) c.in_err-write_all.ensures.part)

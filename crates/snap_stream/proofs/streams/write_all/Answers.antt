@@ -6,9 +6,9 @@ loop-done-preserved g c =
     let done = c.loop-done.done in
     let bytes = c.args.bytes.now in
     record {
-      within = omega (arith, c.in-Ok.ensures.bound, c.split_at.ensures.back_len);
-      front = λ w e. c.in-Ok.ensures.bytes (w ++ take done bytes) (c.loop-done.invariant.front w e)
-          ∙ ap (λ r. Some ((w ++ take done bytes) ++ take c.in-Ok.count r)) c.split_at.ensures.back
-          ∙ ap Some (append_assoc w (take done bytes) (take c.in-Ok.count (drop done bytes)) ∙ ap (λ t. w ++ t) (sym (take-add done c.in-Ok.count bytes)));
-      count = c.in-Ok.ensures.cause ∙ c.loop-done.invariant.count;
+      within = omega (arith, c.in_ok-count.ensures.bound, c.split_at.ensures.back_len);
+      front = λ w e. c.in_ok-count.ensures.bytes (w ++ take done bytes) (c.loop-done.invariant.front w e)
+          ∙ ap (λ r. Some ((w ++ take done bytes) ++ take c.in_ok-count.count r)) c.split_at.ensures.back
+          ∙ ap Some (append_assoc w (take done bytes) (take c.in_ok-count.count (drop done bytes)) ∙ ap (λ t. w ++ t) (sym (take-add done c.in_ok-count.count bytes)));
+      count = c.in_ok-count.ensures.cause ∙ c.loop-done.invariant.count;
     }

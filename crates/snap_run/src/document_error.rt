@@ -1,0 +1,66 @@
+//! Why a document stops a run.
+use snap_assert::error::AssertError;
+use snap_content::{OutOfMemory, Text};
+use snap_outside::Fault;
+use snap_request::request::RequestError;
+
+/// Why a document stops a run.
+#[derive(Debug, Drop)]
+pub enum DocumentError {
+    NoRequest,
+    /// The store failed in the work on this path.
+    FileIo(Text),
+    WriteFault,
+    OutOfMemory,
+}
+
+impl From<OutOfMemory> for DocumentError {
+    ghost use Rattle.std.specs.Prelude.{◌≡◌};
+    ghost use Rattle.snap_run.specs.declared.document_error.DocumentError.TheVariants.{OutOfMemory};
+
+    ghost from_gives = { λ _ e. e ≡ OutOfMemory };
+
+    fn from(_: OutOfMemory) -> Self {
+        DocumentError::OutOfMemory
+    }
+}
+
+impl From<Fault> for DocumentError {
+    ghost use Rattle.std.specs.Prelude.{◌≡◌};
+    ghost use Rattle.snap_run.specs.declared.document_error.DocumentError.TheVariants.{WriteFault};
+
+    ghost from_gives = { λ _ e. e ≡ WriteFault };
+
+    fn from(_: Fault) -> Self {
+        DocumentError::WriteFault
+    }
+}
+
+impl From<RequestError> for DocumentError {
+    ghost use Rattle.std.specs.Prelude.{◌≡◌};
+    ghost use Rattle.snap_run.specs.Refused.{unread};
+
+    ghost from_gives = { λ refused e. e ≡ unread refused };
+
+    fn from(refused: RequestError) -> Self {
+        match refused {
+            RequestError::NoRequest => DocumentError::NoRequest,
+            RequestError::OutOfMemory => DocumentError::OutOfMemory,
+        }
+    }
+}
+
+/// While a name is given and no block is open, an assertion is refused for no other reason than these two.
+impl From<AssertError> for DocumentError {
+    ghost use Rattle.std.specs.Prelude.{◌≡◌};
+    ghost use Rattle.snap_run.specs.Refused.{unanswered};
+
+    ghost from_gives = { λ refused e. e ≡ unanswered refused };
+
+    fn from(refused: AssertError) -> Self {
+        match refused {
+            AssertError::FileIo(path) => DocumentError::FileIo(path),
+            _ => DocumentError::OutOfMemory,
+        }
+    }
+}
