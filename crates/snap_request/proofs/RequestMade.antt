@@ -1,10 +1,11 @@
 -- The request that the pairs of a map are.
-use Rattle.snap_request.proofs.Prelude.{◌≡◌, ℕ, Bool, true, cond, List, [], ◌∷◌, length, Option, None, Some, option_map, refl, ap, sym, ◌∙◌, codes, arith, Plain, Entries, dict, pair_trees, Content, last_value, text_value, line_value, names_file, IsUtf8, chars, IsReadFrom, MayBeReadAs, RefusalEnd, ReplacementView, RequestView, Spells, ReadsAs, needed, pair_count, request_keys, redactions_from, sort_from, request_from, request_in, is_keyed}
+use Rattle.snap_request.proofs.Prelude.{IsErrOf, Err, ◌≡◌, ℕ, Bool, true, cond, List, [], ◌∷◌, length, Option, None, Some, option_map, refl, ap, sym, ◌∙◌, codes, arith, Plain, Entries, dict, pair_trees, Content, last_value, text_value, line_value, names_file, IsUtf8, chars, IsReadFrom, MayBeReadAs, RefusalEnd, ReplacementView, RequestView, Spells, ReadsAs, needed, pair_count, request_keys, redactions_from, sort_from, request_from, request_in, is_keyed}
 use Rattle.snap_content.specs.Plain as p
 use Rattle.snap_content.specs.Tree as t
 use Rattle.snap_content.specs.declared.error.Error.{Error}
 use Rattle.snap_content.specs.declared.error.Error.TheVariants.{FailedParsingYaml, UnexpectedDataType, MissingField, FileIo, FloatText, JsonKey, NotText, NoFile, OutOfMemory}
 use Rattle.snap_request.specs.Refused.{refusal_of}
+use Rattle.snap_request.specs.declared.request.Request.{Request}
 use Rattle.snap_request.specs.declared.request.RequestError.TheVariants.{NoRequest}
 use Rattle.snap_request.proofs.Requesting.{no_request_read}
 
@@ -71,7 +72,7 @@ pub none_spelled : (document text : List ℕ) (content : Content) → text ≡ d
 none_spelled document text content same read held = no_request_read document read.plain (read_too document text read.plain same read.printed) (sym held)
 
 -- nor where no tree was read
-pub none_parsed : (document text path : List ℕ) (error : Error) → text ≡ document → RefusalEnd (chars text) path error → refusal_of error ≡ NoRequest
+pub none_parsed : (document text path : List ℕ) (error : Error) → text ≡ document → RefusalEnd (chars text) path error → IsErrOf {T = Request} (Err (refusal_of error)) NoRequest
     → (r : RequestView) → Spells document r → ⊥
 none_parsed document text path (FailedParsingYaml named) same end refused r s = end.1 s.tree s.within (ap chars same ∙ s.printed)
 none_parsed document text path UnexpectedDataType same end refused r s = end

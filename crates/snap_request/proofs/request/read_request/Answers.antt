@@ -1,12 +1,7 @@
-use Rattle.snap_request.proofs.Prelude.{◌≡◌, ap, sym, ◌∙◌, option_map, IsErrOf, Err, request_of}
-use Rattle.snap_request.specs.declared.request.Request.{Request}
-use Rattle.snap_request.specs.declared.request.RequestError.{RequestError}
+use Rattle.snap_request.proofs.Prelude.{ap, sym, ◌∙◌, option_map, request_of}
 use Rattle.std.proofs.lemmas.Result.{err_from_is_err_and}
 use Rattle.snap_request.proofs.RequestMade.{spelled, none_spelled, none_parsed}
 use Rattle.snap_request.proofs.request.read_request.Goals as goal
-
-error_is : (error wanted : RequestError) → IsErrOf {T = Request} (Err error) wanted → error ≡ wanted
-error_is error wanted is = cc is
 
 pub returns-in-Some-clause-ok : goal.returns-in-Some-clause-ok
 returns-in-Some-clause-ok c =
@@ -23,5 +18,4 @@ returns-in-None-clause-refused c = λ _.
 pub returns-in_err-content-clause-refused : goal.returns-in_err-content-clause-refused
 returns-in_err-content-clause-refused c =
     let told = err_from_is_err_and c.from_residual.result c.from_residual.ensures.1 in
-    rw (told.1, told.2) (λ is.
-    none_parsed _ _ _ c.in_err-content.field-0.0 c.in-Ok.ensures.cases.0 c.in_err-content.ensures.end (error_is _ _ is))
+    rw (told.1, told.2) (none_parsed _ _ _ c.in_err-content.field-0.0 c.in-Ok.ensures.cases.0 c.in_err-content.ensures.end)
