@@ -3,7 +3,7 @@ ghost use Rattle.std.specs.Prelude.{◌≡◌, ◌<◌, IfOk, true};
 ghost use Rattle.snap_event.specs.Meaning.{is_stream_end};
 ghost use Rattle.snap_parser.specs.Parsing.{events_left};
 
-use row_lines::add_escaped;
+use row_lines::add_text_column;
 use snap_content::{OutOfMemory, Text};
 use snap_event::{Event, Tag};
 use snap_parser::Parser;
@@ -92,8 +92,8 @@ fn add_fields(alloc: Global, lines: &mut Text, event: &Event) -> Result<(), OutO
             add_number(alloc, lines, *id)
         }
         Event::Scalar(text, style, id, tag) => {
-            add_field(alloc, lines, text.as_str())?;
-            add_field(alloc, lines, style_name(style))?;
+            add_text_column(alloc, lines, text.as_str())?;
+            add_style(alloc, lines, *style)?;
             add_number(alloc, lines, *id)?;
             add_tag(alloc, lines, tag)
         }
@@ -105,8 +105,8 @@ fn add_tag(alloc: Global, lines: &mut Text, tag: &Option<Tag>) -> Result<(), Out
     match tag {
         None => Ok(()),
         Some(tag) => {
-            add_field(alloc, lines, tag.handle.as_str())?;
-            add_field(alloc, lines, tag.suffix.as_str())
+            add_text_column(alloc, lines, tag.handle.as_str())?;
+            add_text_column(alloc, lines, tag.suffix.as_str())
         }
     }
 }
@@ -116,18 +116,7 @@ fn add_number(alloc: Global, lines: &mut Text, number: usize) -> Result<(), OutO
     lines.push_str(alloc, digits.as_str())
 }
 
-fn style_name(style: &TScalarStyle) -> &'static str {
-    match style {
-        TScalarStyle::Plain => "Plain",
-        TScalarStyle::SingleQuoted => "SingleQuoted",
-        TScalarStyle::DoubleQuoted => "DoubleQuoted",
-        TScalarStyle::Literal => "Literal",
-        TScalarStyle::Foled => "Foled",
-    }
-}
-
-/// Adds a field, in which a backslash stands before the letter of a line end, a tab or NUL, and before a backslash.
-fn add_field(alloc: Global, lines: &mut Text, field: &str) -> Result<(), OutOfMemory> {
-    lines.push_str(alloc, "\t")?;
-    add_escaped(alloc, lines, field)
+fn add_style(alloc: Global, lines: &mut Text, style: TScalarStyle) -> Result<(), OutOfMemory> {
+    let name = format!(in alloc; "{style:?}")?;
+    add_text_column(alloc, lines, name.as_str())
 }

@@ -24,7 +24,7 @@ mod paths;
 use crate::contents::{copy_line, form_line, match_line};
 use crate::literals::literal_line;
 use crate::paths::path_line;
-use row_lines::{answer_rows, first_column, refusal_line};
+use row_lines::{answer_rows, first_column};
 use snap_content::Text;
 use std::alloc::Global;
 
@@ -43,10 +43,7 @@ fn answered(alloc: Global, name: &str, columns: &str) -> Result<Text, anyhow::Er
 /// The line that answers a line.
 fn answer(alloc: Global, line: &str) -> Result<Text, anyhow::Error> {
     let (name, columns) = first_column(line);
-    match answered(alloc, name, columns) {
-        Ok(told) => Ok(told),
-        Err(error) => refusal_line(alloc, &error),
-    }
+    answered(alloc, name, columns)
 }
 
 fn main(rt: HostRuntime) -> Result<(), anyhow::Error> {

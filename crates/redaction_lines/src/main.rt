@@ -12,7 +12,7 @@ mod redactions;
 mod replacements;
 
 use crate::redactions::redacted;
-use row_lines::{add_escaped, answer_rows, first_column, refusal_line};
+use row_lines::{add_escaped, answer_rows, first_column};
 use snap_content::{Content, Text};
 use snap_json::to_string;
 use std::alloc::Global;
@@ -34,21 +34,13 @@ fn add_laid_out(
     }
 }
 
-/// The answer to a case.
-fn case_line(alloc: Global, case: &str) -> Result<Text, anyhow::Error> {
-    let (layout, columns) = first_column(case);
-    let tree = redacted(alloc, columns)?;
-    let mut line = Text::empty();
-    add_laid_out(alloc, &mut line, layout, &tree)?;
-    Ok(line)
-}
-
 /// The line that answers a line.
 fn answer(alloc: Global, line: &str) -> Result<Text, anyhow::Error> {
-    match case_line(alloc, line) {
-        Ok(told) => Ok(told),
-        Err(error) => refusal_line(alloc, &error),
-    }
+    let (layout, columns) = first_column(line);
+    let tree = redacted(alloc, columns)?;
+    let mut told = Text::empty();
+    add_laid_out(alloc, &mut told, layout, &tree)?;
+    Ok(told)
 }
 
 fn main(rt: HostRuntime) -> Result<(), anyhow::Error> {

@@ -14,7 +14,8 @@ pub fn answer_lines<
     answer_each(alloc, input, output, false, answer)
 }
 
-/// The same of rows: a line that begins with `# ` is a heading, and is answered by itself.
+/// The same of rows: a line that begins with `# ` is a heading, and is answered by itself; a row that has no answer is answered by
+/// `! ` and why.
 pub fn answer_rows<
     R: Read + Drop,
     W: Write + Drop,
@@ -29,7 +30,7 @@ fn answer_each<R: Read + Drop, W: Write + Drop, A: Fn(Global, &str) -> Result<Te
     alloc: Global,
     input: R,
     output: W,
-    has_headings: bool,
+    are_rows: bool,
     answer: A,
 ) -> Result<(), anyhow::Error>
     requires { A.IsAlwaysCallable answer }
@@ -38,19 +39,20 @@ fn answer_each<R: Read + Drop, W: Write + Drop, A: Fn(Global, &str) -> Result<Te
     let input = BufReader::new(alloc, input)?;
     for line in input.lines(alloc) {
         let line = line?;
-        if has_headings && line.as_str().starts_with("# ") {
+        if are_rows && line.as_str().starts_with("# ") {
             writeln!(out, "{}", line.as_str())?;
-        } else {
-            let told = answer(alloc, line.as_str())?;
-            writeln!(out, "{}", told.as_str())?;
+            continue;
+        }
+        match answer(alloc, line.as_str()) {
+            Ok(told) => writeln!(out, "{}", told.as_str())?,
+            Err(error) => {
+                if !are_rows {
+                    return Err(error);
+                }
+                writeln!(out, "! {error}")?;
+            }
         }
     }
     out.flush()?;
     Ok(())
-}
-
-/// The line that says why a case has no answer.
-pub fn refusal_line(alloc: Global, error: &anyhow::Error) -> Result<Text, anyhow::Error> {
-    let line = format!(in alloc; "! {error}")?;
-    Ok(Text::from_str(alloc, line.as_str())?)
 }

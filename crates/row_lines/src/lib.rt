@@ -7,6 +7,6 @@ pub mod columns;
 pub mod laws;
 pub mod lines;
 
-pub use answers::{answer_lines, answer_rows, refusal_line};
+pub use answers::{answer_lines, answer_rows};
 pub use columns::{add_file, add_number_column, add_text_column, first_column};
 pub use lines::{add_escaped, text_of};

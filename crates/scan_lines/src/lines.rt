@@ -1,5 +1,5 @@
 //! What the scanner makes of a text, as lines.
-use row_lines::add_escaped;
+use row_lines::add_text_column;
 use snap_content::{OutOfMemory, Text};
 use snap_scan::{Marker, ScanError, Scanner, TScalarStyle, Token, TokenType};
 use std::alloc::Global;
@@ -90,30 +90,23 @@ fn add_fields(alloc: Global, lines: &mut Text, kind: &TokenType) -> Result<(), O
             lines.push_str(alloc, numbers.as_str())
         }
         TokenType::TagDirective(first, second) | TokenType::Tag(first, second) => {
-            add_field(alloc, lines, first.as_str())?;
-            add_field(alloc, lines, second.as_str())
+            add_text_column(alloc, lines, first.as_str())?;
+            add_text_column(alloc, lines, second.as_str())
         }
-        TokenType::Alias(name) | TokenType::Anchor(name) => add_field(alloc, lines, name.as_str()),
+        TokenType::Alias(name) | TokenType::Anchor(name) => add_text_column(
+            alloc,
+            lines,
+            name.as_str(),
+        ),
         TokenType::Scalar(style, scalar) => {
-            add_field(alloc, lines, style_name(style))?;
-            add_field(alloc, lines, scalar.as_str())
+            add_style(alloc, lines, *style)?;
+            add_text_column(alloc, lines, scalar.as_str())
         }
         _ => Ok(()),
     }
 }
 
-fn style_name(style: &TScalarStyle) -> &'static str {
-    match style {
-        TScalarStyle::Plain => "Plain",
-        TScalarStyle::SingleQuoted => "SingleQuoted",
-        TScalarStyle::DoubleQuoted => "DoubleQuoted",
-        TScalarStyle::Literal => "Literal",
-        TScalarStyle::Foled => "Foled",
-    }
-}
-
-/// Adds a field, in which a backslash stands before the letter of a line end, a tab or NUL, and before a backslash.
-fn add_field(alloc: Global, lines: &mut Text, field: &str) -> Result<(), OutOfMemory> {
-    lines.push_str(alloc, "\t")?;
-    add_escaped(alloc, lines, field)
+fn add_style(alloc: Global, lines: &mut Text, style: TScalarStyle) -> Result<(), OutOfMemory> {
+    let name = format!(in alloc; "{style:?}")?;
+    add_text_column(alloc, lines, name.as_str())
 }

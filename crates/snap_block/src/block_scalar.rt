@@ -39,24 +39,14 @@ pub fn scan_block_scalar<'a>(
     ensures cause { IfErr result (λ e. IsExplained cursor.old e) }
 {
     let start = cursor.mark();
-    let header = match scan_header(cursor, start) {
-        Err(error) => return Err(error),
-        Ok(header) => header,
-    };
+    let header = scan_header(cursor, start)?;
     let mut lines = Lines::new();
-    let indentation = match scan_opening(alloc, cursor, header, indent, &mut lines.breaks) {
-        Err(error) => return Err(error),
-        Ok(indentation) => indentation,
-    };
+    let indentation = scan_opening(alloc, cursor, header, indent, &mut lines.breaks)?;
     let mark = cursor.mark();
-    match lines.scan(alloc, cursor, indentation, literal) {
-        Err(error) => Err(error),
-        Ok(()) => {
-            let text = lines.finish(alloc, header.chomping)?;
-            Ok(BlockScalar {
-                mark,
-                text: Lent::owned(text),
-            })
-        }
-    }
+    lines.scan(alloc, cursor, indentation, literal)?;
+    let text = lines.finish(alloc, header.chomping)?;
+    Ok(BlockScalar {
+        mark,
+        text: Lent::owned(text),
+    })
 }

@@ -95,13 +95,12 @@ fn scan_digit_first(cursor: &mut Cursor, mark: Marker) -> Result<Header, ScanErr
     ensures lighter { length cursor.new.left ≤ length cursor.old.left }
     ensures cause { IfErr result (λ e. IsRefusedBy (codes "|>") mark e) }
 {
-    match scan_digit(cursor, mark) {
-        Err(error) => Err(error),
-        Ok(None) => Ok(Header {
+    match scan_digit(cursor, mark)? {
+        None => Ok(Header {
             chomping: Chomping::Clip,
             indentation: None,
         }),
-        Ok(Some(digit)) => {
+        Some(digit) => {
             let chomping = scan_late_chomping(cursor);
             Ok(Header {
                 chomping,
@@ -122,13 +121,13 @@ fn scan_signs(cursor: &mut Cursor, mark: Marker) -> Result<Header, ScanError>
 {
     match scan_chomping(cursor) {
         None => scan_digit_first(cursor, mark),
-        Some(chomping) => match scan_digit(cursor, mark) {
-            Err(error) => Err(error),
-            Ok(indentation) => Ok(Header {
+        Some(chomping) => {
+            let indentation = scan_digit(cursor, mark)?;
+            Ok(Header {
                 chomping,
                 indentation,
-            }),
-        },
+            })
+        }
     }
 }
 
@@ -165,11 +164,7 @@ pub(crate) fn scan_header(cursor: &mut Cursor, mark: Marker) -> Result<Header, S
     ensures cause { IfErr result (λ e. IsRefusedBy (codes "|>") mark e) }
 {
     cursor.skip();
-    match scan_signs(cursor, mark) {
-        Err(error) => Err(error),
-        Ok(header) => match scan_rest_of_header(cursor, mark) {
-            Err(error) => Err(error),
-            Ok(()) => Ok(header),
-        },
-    }
+    let header = scan_signs(cursor, mark)?;
+    scan_rest_of_header(cursor, mark)?;
+    Ok(header)
 }

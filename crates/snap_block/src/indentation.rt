@@ -147,14 +147,12 @@ pub(crate) fn scan_opening(
     match header.indentation {
         Some(digit) => {
             let indentation = given_indentation(indent, digit);
-            match scan_empty_lines(alloc, cursor, indentation, breaks) {
-                Err(error) => Err(error),
-                Ok(()) => Ok(indentation),
-            }
+            scan_empty_lines(alloc, cursor, indentation, breaks)?;
+            Ok(indentation)
         }
-        None => match scan_leading_lines(alloc, cursor, breaks) {
-            Err(error) => Err(error),
-            Ok(reached) => Ok(found_indentation(indent, reached)),
-        },
+        None => {
+            let reached = scan_leading_lines(alloc, cursor, breaks)?;
+            Ok(found_indentation(indent, reached))
+        }
     }
 }

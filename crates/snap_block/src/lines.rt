@@ -117,10 +117,7 @@ impl Lines {
             }
             cursor.skip_break();
             self.is_ended = true;
-            match scan_empty_lines(alloc, cursor, indentation, &mut self.breaks) {
-                Err(error) => return Err(error),
-                Ok(()) => {}
-            }
+            scan_empty_lines(alloc, cursor, indentation, &mut self.breaks)?;
         }
         Ok(())
     }

@@ -93,18 +93,13 @@ fn scan_version_directive_value(cursor: &mut Cursor, mark: Marker) -> Result<Dir
     ensures cause { IfErr result (λ e. IsRefusedBy (codes "%") mark e) }
 {
     cursor.skip_while(Kind::Blank);
-    let major = match scan_version_directive_number(cursor, mark) {
-        Err(error) => return Err(error),
-        Ok(major) => major,
-    };
+    let major = scan_version_directive_number(cursor, mark)?;
     if cursor.ch() != '.' {
         return Err(ScanError::Syntax(mark, ScanInfo::S7));
     }
     cursor.skip();
-    match scan_version_directive_number(cursor, mark) {
-        Err(error) => Err(error),
-        Ok(minor) => Ok(Directive::Version(major, minor)),
-    }
+    let minor = scan_version_directive_number(cursor, mark)?;
+    Ok(Directive::Version(major, minor))
 }
 
 /// Reads the handle of `%TAG`.
@@ -147,20 +142,13 @@ fn scan_tag_directive_value(
     ensures cause { IfErr result (λ e. IsRefusedBy (codes "%") mark e) }
 {
     cursor.skip_while(Kind::Blank);
-    let handle = match scan_handle(alloc, cursor, mark) {
-        Err(error) => return Err(error),
-        Ok(handle) => handle,
-    };
+    let handle = scan_handle(alloc, cursor, mark)?;
     cursor.skip_while(Kind::Blank);
-    match scan_some_uri(alloc, cursor, mark) {
-        Err(error) => Err(error),
-        Ok(prefix) => {
-            if !is_blank_or_end(cursor.ch()) {
-                return Err(ScanError::Syntax(mark, ScanInfo::S12));
-            }
-            Ok(Directive::Tag(handle, prefix))
-        }
+    let prefix = scan_some_uri(alloc, cursor, mark)?;
+    if !is_blank_or_end(cursor.ch()) {
+        return Err(ScanError::Syntax(mark, ScanInfo::S12));
     }
+    Ok(Directive::Tag(handle, prefix))
 }
 
 /// Reads what stands behind the name of a directive, up to the blanks and the comment at the end of its line.
@@ -219,12 +207,7 @@ pub fn scan_directive(alloc: Global, cursor: &mut Cursor) -> Result<Directive, S
 {
     let mark = cursor.mark();
     cursor.skip();
-    let name = match scan_directive_name(cursor) {
-        Err(error) => return Err(error),
-        Ok(name) => name,
-    };
-    match scan_directive_value(alloc, cursor, mark, name) {
-        Err(error) => Err(error),
-        Ok(directive) => close(cursor, mark, directive),
-    }
+    let name = scan_directive_name(cursor)?;
+    let directive = scan_directive_value(alloc, cursor, mark, name)?;
+    close(cursor, mark, directive)
 }

@@ -79,15 +79,11 @@ pub(crate) fn scan_some_uri(
     ensures lighter { length cursor.new.left ≤ length cursor.old.left }
     ensures cause { IfErr result (λ e. IsRefusedBy (codes "!%") mark e) }
 {
-    match scan_tag_uri(alloc, cursor, mark, "") {
-        Err(error) => Err(error),
-        Ok(text) => {
-            if is_nil(text.as_str()) {
-                return Err(ScanError::Syntax(mark, ScanInfo::S17));
-            }
-            Ok(text)
-        }
+    let text = scan_tag_uri(alloc, cursor, mark, "")?;
+    if is_nil(text.as_str()) {
+        return Err(ScanError::Syntax(mark, ScanInfo::S17));
     }
+    Ok(text)
 }
 
 /// Reads `!<suffix>`.
@@ -103,19 +99,15 @@ fn scan_verbatim(alloc: Global, cursor: &mut Cursor, mark: Marker) -> Result<Tag
 {
     cursor.skip();
     cursor.skip();
-    match scan_some_uri(alloc, cursor, mark) {
-        Err(error) => Err(error),
-        Ok(suffix) => {
-            if cursor.ch() != '>' {
-                return Err(ScanError::Syntax(mark, ScanInfo::S13));
-            }
-            cursor.skip();
-            Ok(Tag {
-                handle: Text::empty(),
-                suffix,
-            })
-        }
+    let suffix = scan_some_uri(alloc, cursor, mark)?;
+    if cursor.ch() != '>' {
+        return Err(ScanError::Syntax(mark, ScanInfo::S13));
     }
+    cursor.skip();
+    Ok(Tag {
+        handle: Text::empty(),
+        suffix,
+    })
 }
 
 /// Reads the `!` behind the name of a handle, and the suffix.
@@ -135,10 +127,8 @@ fn scan_with_handle(
 {
     cursor.skip();
     let handle = handle_of(alloc, name)?;
-    match scan_some_uri(alloc, cursor, mark) {
-        Err(error) => Err(error),
-        Ok(suffix) => Ok(Tag { handle, suffix }),
-    }
+    let suffix = scan_some_uri(alloc, cursor, mark)?;
+    Ok(Tag { handle, suffix })
 }
 
 /// The tag of a suffix whose handle is `!`. That of none has the suffix `!`.
@@ -174,10 +164,8 @@ fn scan_local(
     ensures cause { IfErr result (λ e. IsRefusedBy (codes "!") mark e) }
 {
     let sign = Text::from_ascii(alloc, "!")?;
-    match scan_tag_uri(alloc, cursor, mark, head) {
-        Err(error) => Err(error),
-        Ok(suffix) => Ok(local_tag(suffix, sign)),
-    }
+    let suffix = scan_tag_uri(alloc, cursor, mark, head)?;
+    Ok(local_tag(suffix, sign))
 }
 
 /// Reads `suffix` or `handle!suffix`, behind a `!`.
@@ -226,13 +214,9 @@ pub fn scan_tag(alloc: Global, cursor: &mut Cursor) -> Result<Tag, ScanError>
     ensures cause { IfErr result (λ e. IsExplained cursor.old e) }
 {
     let mark = cursor.mark();
-    match scan_any_tag(alloc, cursor, mark) {
-        Err(error) => Err(error),
-        Ok(tag) => {
-            if !is_blank_or_end(cursor.ch()) {
-                return Err(ScanError::Syntax(mark, ScanInfo::S14));
-            }
-            Ok(tag)
-        }
+    let tag = scan_any_tag(alloc, cursor, mark)?;
+    if !is_blank_or_end(cursor.ch()) {
+        return Err(ScanError::Syntax(mark, ScanInfo::S14));
     }
+    Ok(tag)
 }

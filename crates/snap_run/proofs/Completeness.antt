@@ -1,5 +1,5 @@
 -- A run without faults over spelled requests ends well.
-use Rattle.snap_run.proofs.Prelude.{◌≡◌, ℕ, List, [], ◌∷◌, ◌++◌, Option, inl, inr, subst, arith, Rose, Files, RequestView, Spells, RunWords, StopsAt, status_at, RunsTo, AreSpelled, IsSteady, EndsWell, DocumentError, Status, AllPassed, SomeFailed, BadWords, BadRequest, Refused, ReadFault, OutOfMemory, InputTooLong}
+use Rattle.snap_run.proofs.Prelude.{◌≡◌, ℕ, List, [], ◌∷◌, ◌++◌, length, ◌+◌, Option, inl, inr, subst, arith, Rose, Files, RequestView, Spells, RunWords, StopsAt, status_at, RunsTo, AreSpelled, IsSteady, EndsWell, DocumentError, Status, AllPassed, SomeFailed, BadWords, BadRequest, Refused, ReadFault, OutOfMemory, InputTooLong}
 use Rattle.std.specs.Prelude.{refl}
 use Rattle.snap_run.specs.declared.document_error.DocumentError.TheVariants as error
 use Rattle.snap_run.specs.declared.status.Status.TheVariants.{FileIo, WriteFault}
@@ -30,6 +30,5 @@ ends_well WriteFault said docs f g w v spelled run a b c d e = absurd (d refl)
 ends_well InputTooLong said docs f g w v spelled run a b c d e = absurd (e refl)
 ends_well (Refused n kind) said docs f g w v spelled run a b c d e = absurd run
 ends_well (BadRequest n) said docs f g w v spelled run a b c d e =
-    let s = run.stops in
-    let at = spelled_at s.done s.document s.later (subst AreSpelled s.cut spelled) in
-    absurd (no_request said run.stop.error run.stop.document n s.document s.between g s.sent v run.status_is s.stops at.0 at.1)
+    let at = spelled_at run.done run.document run.later (subst AreSpelled run.cut spelled) in
+    absurd (no_request said run.error (length run.done + 1) n run.document run.between g run.sent v run.status_is run.stops at.0 at.1)

@@ -16,12 +16,11 @@ pub use Rattle.snap_settings.specs.declared.config.Update.{Update}
 pub use Rattle.snap_run.specs.Answers.{RunWords, place_by, settings_by, printed_by, asked_by, assertion_by, line_text, line_of, words_mean, Answer, requests_of, step_of, files_after, some_fails, AreAllowed, lines_of, answer_fails}
 pub use Rattle.snap_run.specs.Arguments.{arguments_in, words_given, arguments_of}
 pub use Rattle.snap_run.specs.Program.{message, IsSaid, IsRunOf}
+pub use Rattle.snap_run.specs.Refused.{status_at}
 pub use Rattle.snap_run.specs.Runner.{words_of}
-pub use Rattle.snap_run.specs.Runs.{StopsAt, Ran, AssertionStops, IsInWork, MemoryFails, LineFails, IsDocumentAnswered, is_store_fault, Stops, RanOne}
+pub use Rattle.snap_run.specs.Runs.{StopsAt, Ran, AssertionStops, IsInWork, MemoryFails, LineFails, IsDocumentAnswered, is_store_fault, is_sink_fault, Stopped, RanOne}
 pub use Rattle.snap_run.specs.Status.{RunsTo, AreSpelled, IsSteady, EndsWell, RunCause, Ended, RunsBy, RunsFrom, LengthCause, says_read_fault, says_write_fault, says_file_fault}
-pub use Rattle.snap_run.specs.StatusOf.{status_at, status_of}
 pub use Rattle.snap_run.specs.declared.document_error.DocumentError.{DocumentError}
-pub use Rattle.snap_run.specs.declared.documents.Stop.{Stop}
 pub use Rattle.snap_run.specs.declared.runner.Runner.{Runner}
 pub use Rattle.snap_run.specs.declared.status.Status.{Status}
 pub use Rattle.snap_run.specs.declared.status.Status.TheVariants.{AllPassed, SomeFailed, BadWords, BadRequest, Refused, ReadFault, OutOfMemory, InputTooLong}

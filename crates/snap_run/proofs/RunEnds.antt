@@ -1,7 +1,8 @@
 -- What the program's run comes to.
-use Rattle.snap_run.proofs.Prelude.{◌≡◌, ◌≤◌, ◌+◌, ℕ, Bool, true, false, List, Option, None, Some, refl, sym, ap, ◌∙◌, subst, inl, inr, length, arith, Files, RunWords, words_mean, documents, words_of, Stops, RunCause, Ended, RunsTo, RunsBy, RunsFrom, LengthCause, CountedIf, says_read_fault, says_write_fault, says_file_fault, AreSpelled, IsSteady, EndsWell, status_at, status_of, DocumentError, Stop, Runner, Status, AllPassed, SomeFailed, BadWords, ReadFault, OutOfMemory, InputTooLong}
+use Rattle.snap_run.proofs.Prelude.{◌≡◌, ◌≤◌, ◌+◌, ℕ, Bool, true, false, List, Option, None, Some, refl, sym, ap, ◌∙◌, subst, inl, inr, length, arith, Files, RunWords, words_mean, documents, words_of, Stopped, RunCause, Ended, RunsTo, RunsBy, RunsFrom, LengthCause, CountedIf, says_read_fault, says_write_fault, says_file_fault, AreSpelled, IsSteady, EndsWell, status_at, DocumentError, Runner, Status, AllPassed, SomeFailed, BadWords, BadRequest, ReadFault, OutOfMemory, InputTooLong}
 use Rattle.snap_stream.specs.Streams.{TakesExactly}
 use Rattle.snap_run.specs.declared.document_error.DocumentError.TheVariants as error
+use Rattle.snap_run.specs.declared.status.Status.TheVariants.{FileIo, WriteFault}
 use Rattle.snap_run.proofs.Statuses.{before_all}
 use Rattle.snap_run.proofs.Completeness.{ends_well, not_rose}
 use Rattle.snap_stream.proofs.Pieces.{exactly_long}
@@ -48,25 +49,29 @@ finished fails found words runner said bytes left f g w v found_is is same told 
       runs = ended_runs fails (words_of runner) (documents bytes) f g w v (subst (λ b. Ended b (words_of runner) (documents bytes) f g w v) found_is ended);
     })
 
-stopped_at : (n : ℕ) (e : DocumentError) (stop : Stop) (said : RunWords) (docs : List (List ℕ)) (f g : Option Files) (w v : Option (List ℕ)) → status_at n e ≡ status_of stop → Stops said docs stop f g w v
-    → RunsTo (status_at n e) said docs f g w v
-stopped_at n error.NoRequest stop said docs f g w v is s = record { stop = stop; status_is = is; stops = s }
-stopped_at n (error.FileIo path) stop said docs f g w v is s = record { stop = stop; status_is = is; stops = s }
-stopped_at n error.WriteFault stop said docs f g w v is s = record { stop = stop; status_is = is; stops = s }
-stopped_at n error.OutOfMemory stop said docs f g w v is s = inr (record { stop = stop; status_is = is; stops = s })
+-- what holds of each status that tells of a document, holds of the status at which a run stopped
+pub of_stopped : (P : Status → Type 0) (status : Status) (words : RunWords) (docs : List (List ℕ)) (f g : Option Files) (w v : Option (List ℕ)) → Stopped status words docs f g w v
+    → ((n : ℕ) → P (BadRequest n)) → ((n : ℕ) (path : List ℕ) → P (FileIo n path)) → P WriteFault → P OutOfMemory → P status
+of_stopped P status words docs f g w v s bad file write memory = subst P (sym s.status_is) (of_error (length s.done + 1) s.error)
+  where
+    of_error : (n : ℕ) (e : DocumentError) → P (status_at n e)
+    of_error n error.NoRequest = bad n
+    of_error n (error.FileIo path) = file n path
+    of_error n error.WriteFault = write
+    of_error n error.OutOfMemory = memory
 
 -- the run stopped at a document
-pub stopped : (status : Status) (words : Option RunWords) (runner : Runner) (stop : Stop) (said : RunWords) (bytes : List ℕ) (left : Option (List ℕ)) (f g : Option Files) (w v : Option (List ℕ))
-    → status ≡ status_of stop → words ≡ Some said → words_of runner ≡ said → ((xs : List ℕ) → left ≡ Some xs → bytes ≡ xs)
-    → Stops (words_of runner) (documents bytes) stop f g w v
+pub stopped : (status : Status) (words : Option RunWords) (runner : Runner) (said : RunWords) (bytes : List ℕ) (left : Option (List ℕ)) (f g : Option Files) (w v : Option (List ℕ))
+    → words ≡ Some said → words_of runner ≡ said → ((xs : List ℕ) → left ≡ Some xs → bytes ≡ xs)
+    → Stopped status (words_of runner) (documents bytes) f g w v
     → RunsFrom status words left f g w v
-stopped status words runner stop said bytes left f g w v status_is is same told s =
+stopped status words runner said bytes left f g w v is same told s =
     let Runs : Option RunWords → Type 0 = λ o. RunsFrom status o left f g w v in
-    let To : Status → Type 0 = λ x. RunsTo x (words_of runner) (documents bytes) f g w v in
+    let To : Status → Type 0 = λ x. Stopped x (words_of runner) (documents bytes) f g w v → RunsTo x (words_of runner) (documents bytes) f g w v in
     subst Runs (sym (said_is words runner said is same)) (record {
       input = bytes;
       told = told;
-      runs = subst To (sym status_is) (stopped_at stop.document stop.error stop (words_of runner) (documents bytes) f g w v refl s);
+      runs = of_stopped To status (words_of runner) (documents bytes) f g w v s (λ n r. r) (λ n path r. r) (λ r. r) (λ r. inr r) s;
     })
 
 -- without faults, a run over documents that spell requests ends well

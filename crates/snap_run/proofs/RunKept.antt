@@ -1,5 +1,5 @@
 -- What a whole run keeps.
-use Rattle.snap_run.proofs.Prelude.{◌≡◌, inl, inr, ℕ, false, List, [], ◌∷◌, ◌++◌, Option, None, Some, refl, sym, ◌∙◌, ap, subst, get, Files, Answer, RunWords, asked_by, requests_of, step_of, files_after, documents, Keeps, IsKeptOrGone, is_written, may_change, RequestView, Reads, Ran, Stops, StopsAt, IsInWork, MemoryFails, LineFails, RunsTo, RunsBy, RunsFrom, DocumentError, Stop, Status, gone_after, step_keeps}
+use Rattle.snap_run.proofs.Prelude.{◌≡◌, inl, inr, ℕ, false, List, [], ◌∷◌, ◌++◌, Option, None, Some, refl, sym, ◌∙◌, ap, subst, get, Files, Answer, RunWords, asked_by, requests_of, step_of, files_after, documents, Keeps, IsKeptOrGone, is_written, may_change, RequestView, Reads, Ran, Stopped, StopsAt, IsInWork, MemoryFails, LineFails, RunsTo, RunsBy, RunsFrom, DocumentError, Status, gone_after, step_keeps}
 use Rattle.std.proofs.lemmas.List.Elements.{All-head, All-tail, All-cons, All-nil}
 use Rattle.std.specs.List.{All}
 use Rattle.snap_content.proofs.Booleans.{some_same}
@@ -106,11 +106,11 @@ all_back P [] ys h = h
 all_back P (x ∷ xs) ys h = all_back P xs ys (All-tail P x (xs ++ ys) h)
 
 -- the documents before the one that stopped the run, and then that one
-stopped_keeps : (words : RunWords) (docs : List (List ℕ)) (stop : Stop) (f g : Option Files) (w v : Option (List ℕ)) → Stops words docs stop f g w v → KeptByRun (Some words) docs f g
-stopped_keeps words docs stop f g w v s m told =
+stopped_keeps : (words : RunWords) (end : Status) (docs : List (List ℕ)) (f g : Option Files) (w v : Option (List ℕ)) → Stopped end words docs f g w v → KeptByRun (Some words) docs f g
+stopped_keeps words end docs f g w v s m told =
     let before = requests_of s.answers in
     let middle = files_after words s.answers m in
-    let last = stop_keeps words stop.error s.document s.between g s.sent v s.stops middle (s.ran.stands m told) in
+    let last = stop_keeps words s.error s.document s.between g s.sent v s.stops middle (s.ran.stands m told) in
     record {
       requests = before ++ last.requests;
       read = subst (λ d. AreRead d (before ++ last.requests)) (sym s.cut) (then_read s.done s.document s.later before last.requests s.ran.reads last.read);
@@ -129,13 +129,13 @@ runs_keep : (words : RunWords) (end : Status) (docs : List (List ℕ)) (f g : Op
 runs_keep words status.AllPassed docs f g w v r = ran_keeps words docs r.answers f g w v r.ran
 runs_keep words status.SomeFailed docs f g w v r = ran_keeps words docs r.answers f g w v r.ran
 runs_keep words status.BadWords docs f g w v r = same_keeps words docs f g r.0
-runs_keep words (status.BadRequest n) docs f g w v r = stopped_keeps words docs r.stop f g w v r.stops
+runs_keep words (status.BadRequest n) docs f g w v r = stopped_keeps words (status.BadRequest n) docs f g w v r
 runs_keep words (status.Refused n kind) docs f g w v r = absurd r
-runs_keep words (status.FileIo n path) docs f g w v r = stopped_keeps words docs r.stop f g w v r.stops
+runs_keep words (status.FileIo n path) docs f g w v r = stopped_keeps words (status.FileIo n path) docs f g w v r
 runs_keep words status.ReadFault docs f g w v r = same_keeps words docs f g r.0
-runs_keep words status.WriteFault docs f g w v r = stopped_keeps words docs r.stop f g w v r.stops
+runs_keep words status.WriteFault docs f g w v r = stopped_keeps words status.WriteFault docs f g w v r
 runs_keep words status.OutOfMemory docs f g w v (inl r) = same_keeps words docs f g r.0
-runs_keep words status.OutOfMemory docs f g w v (inr r) = stopped_keeps words docs r.stop f g w v r.stops
+runs_keep words status.OutOfMemory docs f g w v (inr r) = stopped_keeps words status.OutOfMemory docs f g w v r
 runs_keep words status.InputTooLong docs f g w v r = same_keeps words docs f g r.0
 
 by_words : (words : Option RunWords) (end : Status) (docs : List (List ℕ)) (f g : Option Files) (w v : Option (List ℕ)) → RunsBy end words docs f g w v → KeptByRun words docs f g

@@ -1,5 +1,6 @@
 -- How a run over documents goes on from one to the next.
-use Rattle.snap_run.proofs.Prelude.{◌≡◌, ◌||◌, Bool, true, false, ℕ, ◌+◌, List, [], ◌∷◌, ◌++◌, length, take, drop, Option, Some, refl, sym, ◌∙◌, ap, subst, arith, append_assoc, length-append, append-nil, Files, documents, RequestView, Reads, Answer, RunWords, step_of, line_of, requests_of, AreAllowed, files_after, lines_of, answer_fails, some_fails, Ran, RanOne, Stops, StopsAt, Ended, DocumentError}
+use Rattle.snap_run.proofs.Prelude.{◌≡◌, ◌||◌, Bool, true, false, ℕ, ◌+◌, List, [], ◌∷◌, ◌++◌, length, take, drop, Option, Some, refl, sym, ◌∙◌, ap, subst, arith, append_assoc, length-append, append-nil, Files, documents, RequestView, Reads, Answer, RunWords, step_of, line_of, requests_of, AreAllowed, files_after, lines_of, answer_fails, some_fails, Ran, RanOne, Stopped, StopsAt, Ended, says_file_fault, says_write_fault, is_store_fault, is_sink_fault, status_at, DocumentError, Status}
+use Rattle.snap_run.specs.declared.document_error.DocumentError.TheVariants as error
 
 requests_of-append : (a b : List Answer) → requests_of (a ++ b) ≡ requests_of a ++ requests_of b
 requests_of-append [] b = refl
@@ -84,14 +85,15 @@ ends words all [] n fails f g w v none r = record {
 }
 ends words all (b ∷ rest) n fails f g w v none r = absurd (omega arith)
 
-pub stops : (words : RunWords) (all : List (List ℕ)) (rest d later : List ℕ) (n : ℕ) (fails : Bool) (error : DocumentError) (f g h : Option Files) (w v u : Option (List ℕ))
-    → documents rest ≡ d ∷ documents later → IsRun words all rest n fails f g w v → StopsAt words error d g h v u → Stops words all (record { document = n + 1; error = error }) f h w u
-stops words all rest d later n fails error f g h w v u first r s = record {
+pub stops : (words : RunWords) (all : List (List ℕ)) (rest d later : List ℕ) (n : ℕ) (fails : Bool) (e : DocumentError) (status : Status) (f g h : Option Files) (w v u : Option (List ℕ))
+    → documents rest ≡ d ∷ documents later → IsRun words all rest n fails f g w v → StopsAt words e d g h v u → status ≡ status_at (n + 1) e → Stopped status words all f h w u
+stops words all rest d later n fails e status f g h w v u first r s is = record {
   done = r.done;
   document = d;
   later = documents later;
   cut = r.cut ∙ ap (λ t. r.done ++ t) first;
-  number = ap (λ k. k + 1) r.number;
+  error = e;
+  status_is = is ∙ ap (λ k. status_at (k + 1) e) r.number;
   answers = r.answers;
   between = g;
   sent = v;
@@ -101,3 +103,16 @@ stops words all rest d later n fails error f g h w v u first r s = record {
 
 pub first_is : (rest first later : List ℕ) (n : ℕ) → documents rest ≡ take n rest ∷ documents (drop n rest) → first ≡ take n rest → later ≡ drop n rest → documents rest ≡ first ∷ documents later
 first_is rest first later n cut front back = cut ∙ ap (λ t. t ∷ documents (drop n rest)) (sym front) ∙ ap (λ t. first ∷ documents t) (sym back)
+
+-- the status says of faults what the error does
+pub store_told : (n : ℕ) (e : DocumentError) → says_file_fault (status_at n e) ≡ is_store_fault e
+store_told n error.NoRequest = refl
+store_told n (error.FileIo path) = refl
+store_told n error.WriteFault = refl
+store_told n error.OutOfMemory = refl
+
+pub sink_told : (n : ℕ) (e : DocumentError) → says_write_fault (status_at n e) ≡ is_sink_fault e
+sink_told n error.NoRequest = refl
+sink_told n (error.FileIo path) = refl
+sink_told n error.WriteFault = refl
+sink_told n error.OutOfMemory = refl

@@ -3,7 +3,6 @@ pub mod Runner
 pub mod Refused
 pub mod Runs
 pub mod RunKept
-pub mod StatusOf
 pub mod Status
 pub mod Describe
 pub mod Arguments

@@ -3,13 +3,14 @@ use Rattle.std.specs.Prelude.{◌≡◌, ◌⊎◌, ℕ, ◌+◌, List, ◌∷�
 use Rattle.snap_outside.specs.Files.{Files}
 use Rattle.snap_outside.specs.Streams.{HoldsFront}
 use Rattle.snap_request.specs.Requests.{RequestView, Spells, ReadsAs, Reads}
+use Rattle.snap_run.specs.Refused.{status_at}
 use Rattle.snap_run.specs.Answers.{Answer, RunWords, asked_by, IsAllowed, step_of, line_of, requests_of, AreAllowed, files_after, lines_of, answer_fails}
 use Rattle.snap_assert.specs.Steps.{verdict_of}
 use Rattle.snap_assert.specs.Kept.{KeptBy, IsOwn}
 use Rattle.snap_assert.specs.declared.outcome.Outcome.{Outcome}
 use Rattle.snap_run.specs.declared.document_error.DocumentError.{DocumentError}
 use Rattle.snap_run.specs.declared.document_error.DocumentError.TheVariants.{NoRequest, FileIo, WriteFault, OutOfMemory}
-use Rattle.snap_run.specs.declared.documents.Stop.{Stop}
+use Rattle.snap_run.specs.declared.status.Status.{Status}
 
 -- these documents were run with these answers: each was read as its answer's request, and where the store and the
 -- sink tell, each pass is allowed, the files are those after all steps, and the lines are written
@@ -72,18 +73,19 @@ StopsAt words (FileIo named) document files files' written written' = (written' 
 StopsAt words WriteFault document files files' written written' = LineFails words document files files' written written'
 StopsAt words OutOfMemory document files files' written written' = (written' ≡ written) × MemoryFails words document files files'
 
--- the documents before it were run, and this one stops the run
-pub record Stops (words : RunWords) (documents : List (List ℕ)) (stop : Stop) (files files' : Option Files) (written written' : Option (List ℕ)) : Type 0 where
+-- the documents before one were run, that one stops the run, and the status tells of it
+pub record Stopped (status : Status) (words : RunWords) (documents : List (List ℕ)) (files files' : Option Files) (written written' : Option (List ℕ)) : Type 0 where
   pub done : List (List ℕ)
   pub document : List ℕ
   pub later : List (List ℕ)
   pub cut : documents ≡ done ++ document ∷ later
-  pub number : stop.document ≡ length done + 1
+  pub error : DocumentError
+  pub status_is : status ≡ status_at (length done + 1) error
   pub answers : List Answer
   pub between : Option Files
   pub sent : Option (List ℕ)
   pub ran : Ran words done answers files between written sent
-  pub stops : StopsAt words stop.error document between files' sent written'
+  pub stops : StopsAt words error document between files' sent written'
 
 -- whether it is the store that failed
 abbrev pub is_store_fault : DocumentError → Bool
@@ -98,9 +100,3 @@ is_sink_fault NoRequest = false
 is_sink_fault (FileIo path) = false
 is_sink_fault WriteFault = true
 is_sink_fault OutOfMemory = false
-
-abbrev pub stops_by_store : Stop → Bool
-stops_by_store stop = is_store_fault stop.error
-
-abbrev pub stops_by_sink : Stop → Bool
-stops_by_sink stop = is_sink_fault stop.error

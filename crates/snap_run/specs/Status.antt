@@ -5,10 +5,8 @@ use Rattle.snap_outside.specs.Streams.{HoldsFront}
 use Rattle.snap_request.specs.Cut.{documents}
 use Rattle.snap_request.specs.Requests.{RequestView, Spells}
 use Rattle.snap_run.specs.Answers.{Answer, RunWords, words_mean, text_asked, some_fails}
-use Rattle.snap_run.specs.Runs.{Ran, Stops}
-use Rattle.snap_run.specs.StatusOf.{status_of}
+use Rattle.snap_run.specs.Runs.{Ran, Stopped}
 use Rattle.snap_stream.specs.Streams.{TakesAtMost, TakesExactly}
-use Rattle.snap_run.specs.declared.documents.Stop.{Stop}
 use Rattle.snap_run.specs.declared.status.Status.{Status}
 use Rattle.snap_run.specs.declared.status.Status.TheVariants.{AllPassed, SomeFailed, BadWords, BadRequest, Refused, FileIo, ReadFault, WriteFault, OutOfMemory, InputTooLong}
 
@@ -36,12 +34,6 @@ pub record Ended (fails : Bool) (words : RunWords) (docs : List (List ℕ)) (fil
   pub answers : List Answer
   pub ran : Ran words docs answers files files' written written'
   pub failing : some_fails words answers ≡ fails
-
--- the run stopped at a document, with this status
-pub record Stopped (status : Status) (words : RunWords) (docs : List (List ℕ)) (files files' : Option Files) (written written' : Option (List ℕ)) : Type 0 where
-  pub stop : Stop
-  pub status_is : status ≡ status_of stop
-  pub stops : Stops words docs stop files files' written written'
 
 -- what each status says of the documents, the files and the lines
 abbrev pub RunsTo : Status → RunWords → List (List ℕ) → Option Files → Option Files → Option (List ℕ) → Option (List ℕ) → Type 0

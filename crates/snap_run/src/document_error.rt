@@ -1,10 +1,11 @@
 //! Why a document stops a run.
+use crate::status::Status;
 use snap_assert::error::AssertError;
 use snap_content::{OutOfMemory, Text};
 use snap_outside::Fault;
 use snap_request::request::RequestError;
 
-/// Why a document stops a run.
+/// Why a document stops a run: its status, but for the document's number.
 #[derive(Debug, Drop)]
 pub enum DocumentError {
     NoRequest,
@@ -12,6 +13,23 @@ pub enum DocumentError {
     FileIo(Text),
     WriteFault,
     OutOfMemory,
+}
+
+impl DocumentError {
+    ghost use Rattle.std.specs.Prelude.{◌≡◌};
+    ghost use Rattle.snap_run.specs.Refused.{status_at};
+
+    /// The status of a run that stops so at the document with this number, counted from 1.
+    pub fn status_at(self, document: u64) -> Status
+        ensures { result ≡ status_at document self }
+    {
+        match self {
+            DocumentError::NoRequest => Status::BadRequest { document },
+            DocumentError::FileIo(path) => Status::FileIo { document, path },
+            DocumentError::WriteFault => Status::WriteFault,
+            DocumentError::OutOfMemory => Status::OutOfMemory,
+        }
+    }
 }
 
 impl From<OutOfMemory> for DocumentError {

@@ -5,11 +5,12 @@ ghost use Rattle.snap_request.specs.Cut.{documents};
 ghost use Rattle.snap_place.specs.Place.{names_file, place_of};
 ghost use Rattle.snap_run.specs.Runner.{IsReady, words_of};
 ghost use Rattle.snap_run.specs.Answers.{line_text, place_at};
-ghost use Rattle.snap_run.specs.Status.{Ended};
-ghost use Rattle.snap_run.specs.Runs.{RanOne, StopsAt, Stops, IsDocumentAnswered, AssertionStops, is_store_fault, is_sink_fault, stops_by_store, stops_by_sink};
+ghost use Rattle.snap_run.specs.Status.{Ended, says_file_fault, says_write_fault};
+ghost use Rattle.snap_run.specs.Runs.{RanOne, StopsAt, Stopped, IsDocumentAnswered, AssertionStops, is_store_fault, is_sink_fault};
 
 use crate::document_error::DocumentError;
 use crate::runner::Runner;
+use crate::status::Status;
 use snap_assert::engine::assert_content;
 use snap_assert::outcome::{Outcome, Verdict};
 use snap_assert::session::Session;
@@ -23,13 +24,6 @@ use snap_settings::redactions::Redactions;
 use snap_settings::settings::Settings;
 use snap_stream::streams::write_all;
 use std::alloc::Global;
-
-/// The document that stops a run, counted from 1.
-#[derive(Debug, Drop)]
-pub struct Stop {
-    pub document: u64,
-    pub error: DocumentError,
-}
 
 /// The line that tells of an answer.
 fn line(alloc: Global, verdict: Verdict, path: &Text) -> Result<Text, OutOfMemory>
@@ -133,7 +127,8 @@ fn run_document<K: Sink, F: Store>(
     Ok(outcome.fails)
 }
 
-/// Runs the documents of an input in turn, up to the first that stops the run. Whether some answer fails.
+/// Runs the documents of an input in turn, up to the first that stops the run, with the status that tells of it.
+/// Whether some answer fails.
 pub fn run_documents<K: Sink, F: Store>(
     alloc: Global,
     runner: &Runner,
@@ -141,15 +136,16 @@ pub fn run_documents<K: Sink, F: Store>(
     input: &[u8],
     sink: &mut K,
     store: &mut F,
-) -> Result<bool, Stop>
+) -> Result<bool, Status>
     requires ready { IsReady runner.now }
     requires short { length input.now < 2 ^ 63 }
     ensures finished { IfOk result (λ fails. Ended fails (words_of runner.now) (documents input.now)
         (F.files store.old) (F.files store.new) (K.written sink.old) (K.written sink.new)) }
-    ensures stopped { IfErr result (λ stop. Stops (words_of runner.now) (documents input.now) stop
-        (F.files store.old) (F.files store.new) (K.written sink.old) (K.written sink.new)) }
-    ensures store_count { Counted stops_by_store (F.faults store.old) (F.faults store.new) result }
-    ensures sink_count { Counted stops_by_sink (K.faults sink.old) (K.faults sink.new) result }
+    ensures stopped { IfErr result (λ status. Stopped status (words_of runner.now)
+        (documents input.now) (F.files store.old) (F.files store.new) (K.written sink.old)
+        (K.written sink.new)) }
+    ensures store_count { Counted says_file_fault (F.faults store.old) (F.faults store.new) result }
+    ensures sink_count { Counted says_write_fault (K.faults sink.old) (K.faults sink.new) result }
 {
     let mut rest = input;
     let mut document = 0u64;
@@ -159,7 +155,7 @@ pub fn run_documents<K: Sink, F: Store>(
         document += 1;
         match run_document(alloc, runner, session, first, sink, store) {
             Ok(failed) => fails |= failed,
-            Err(error) => return Err(Stop { document, error }),
+            Err(error) => return Err(error.status_at(document)),
         }
         rest = later;
     }

@@ -5,11 +5,9 @@ ghost use Rattle.snap_request.specs.Cut.{documents};
 ghost use Rattle.snap_run.specs.Answers.{RunWords, words_mean, text_asked};
 ghost use Rattle.snap_run.specs.RunKept.{KeptByRun};
 ghost use Rattle.snap_run.specs.Status.{RunCause, WordsCause, IsTold, RunsFrom, LengthCause, says_read_fault, says_write_fault, says_file_fault, AreSpelled, IsSteady, EndsWell};
-ghost use Rattle.snap_run.specs.StatusOf.{status_of};
 ghost use Rattle.snap_stream.specs.Streams.{TakesAtMost, input_limit};
 
-use crate::document_error::DocumentError;
-use crate::documents::{Stop, run_documents};
+use crate::documents::run_documents;
 use crate::runner::Runner;
 use crate::status::Status;
 use crate::usage::{tell, text_in};
@@ -19,18 +17,6 @@ use snap_content::Text;
 use snap_outside::{Sink, Source, Store};
 use snap_stream::streams::{ReadError, read_all};
 use std::alloc::Global;
-
-fn status_of(stop: Stop) -> Status
-    ensures { result ≡ status_of stop }
-{
-    let document = stop.document;
-    match stop.error {
-        DocumentError::NoRequest => Status::BadRequest { document },
-        DocumentError::FileIo(path) => Status::FileIo { document, path },
-        DocumentError::WriteFault => Status::WriteFault,
-        DocumentError::OutOfMemory => Status::OutOfMemory,
-    }
-}
 
 /// What `run` does with words that ask for no text.
 fn run_words<S: Source, K: Sink, F: Store>(
@@ -65,7 +51,7 @@ fn run_words<S: Source, K: Sink, F: Store>(
     match run_documents(alloc, &runner, &mut session, &input, sink, store) {
         Ok(false) => Status::AllPassed,
         Ok(true) => Status::SomeFailed,
-        Err(stop) => status_of(stop),
+        Err(status) => status,
     }
 }
 

@@ -128,12 +128,9 @@ fn read_key<'a>(alloc: Global, text: &'a str) -> Result<(Segment<'a>, &'a str), 
     ensures stop { IfErr result (λ s. StopsAt (in_quotes []) (chars text.now) s) }
     ensures shorter { IfOk result (λ p. length (chars p.1.now) < length (chars text.now)) }
 {
-    match read_quoted(alloc, text) {
-        Err(error) => Err(Stop::from(error)),
-        Ok(found) => match found {
-            None => Err(Stop::Fault(SelectFault::BadToken, "")),
-            Some((key, rest)) => closed(Segment::Key(key), rest),
-        },
+    match read_quoted(alloc, text)? {
+        None => Err(Stop::Fault(SelectFault::BadToken, "")),
+        Some((key, rest)) => closed(Segment::Key(key), rest),
     }
 }
 

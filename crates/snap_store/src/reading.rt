@@ -73,14 +73,8 @@ fn headed_snapshot(alloc: Global, headed: Headed, path: Text) -> Result<Snapshot
     ensures no_fault { (count : ℕ) → Counted is_file_fault count count result }
 {
     let Headed { header, body } = headed;
-    let header = match parse_header(alloc, header.as_str(), &path) {
-        Ok(header) => header,
-        Err(error) => return Err(error),
-    };
-    let metadata = match MetaData::from_content(alloc, &header.content) {
-        Ok(metadata) => metadata,
-        Err(error) => return Err(error),
-    };
+    let header = parse_header(alloc, header.as_str(), &path)?;
+    let metadata = MetaData::from_content(alloc, &header.content)?;
     let contents = contents_of(metadata.kind(), body);
     let (name, module) = names_of_path(alloc, &path)?;
     let snapshot = Snapshot::from_components(module, Some(name), metadata, contents);

@@ -1,5 +1,5 @@
 -- Escapes in double quotes: what their steps say of the scalar.
-use Rattle.snap_token.proofs.Prelude.{◌≡◌, ◌≤◌, ◌<◌, ◌+◌, ◌*◌, ◌-◌, ◌^◌, ◌==◌, ◌&&◌, ℕ, suc, List, [], ◌∷◌, ◌++◌, Bool, true, false, slice_index, Option, Some, None, Err, refl, sym, ◌∙◌, subst, arith, lit<, pow-suc, ScanError, Syntax, OutOfMemory, escaped_gap, is_break, is_pair, past_break, Place, skipped, Quoted, double, escape, digits, hexadecimal, escaped, further_digits, ReadsQuoted, Continues, both_second}
+use Rattle.snap_token.proofs.Prelude.{◌≡◌, ◌≤◌, ◌<◌, ◌+◌, ◌*◌, ◌^◌, ◌==◌, ℕ, suc, List, [], ◌∷◌, Bool, true, false, slice_index, Option, Some, None, Err, refl, sym, subst, arith, lit<, pow-suc, ScanError, Syntax, OutOfMemory, escaped_gap, is_break, is_pair, past_break, Place, skipped, Quoted, double, escape, digits, hexadecimal, escaped, further_digits, ReadsQuoted, Continues, both_second}
 use Rattle.std.proofs.Math.Nat.{pow-le-pow_right}
 
 -- a step that is refused so is a scalar that is refused

@@ -1,5 +1,5 @@
 -- Where a text is cut by its bytes.
-use Rattle.snap_token.proofs.Prelude.{◌≡◌, ℕ, ◌+◌, ◌-◌, ◌<◌, ◌≤◌, ◌≢◌, ◌==◌, List, [], ◌∷◌, ◌++◌, Bool, true, false, length, take, drop, slice_index, get_or, refl, sym, ap, ◌∙◌, subst, arith, if◌then◌else◌, length-append, add-zero, zero, suc, get_or-append-add, get_or-take, get_or-drop, take-append-drop, length-take-le, byte_from_char, char_from_byte, length-encode, len_utf8_bounds, chars-append, chars-nil, encodes-chars, encodes-append, chars_from_encodes, IsUtf8-take, IsUtf8-drop, IsCharBoundary-before_ascii, IsCharBoundary-end, chars, IsUtf8, IsCharBoundary, before_nul, encode, encodes}
+use Rattle.snap_token.proofs.Prelude.{◌≡◌, ℕ, ◌+◌, ◌<◌, ◌≤◌, ◌≢◌, ◌==◌, List, [], ◌∷◌, ◌++◌, false, length, take, drop, slice_index, get_or, refl, sym, ap, ◌∙◌, arith, if◌then◌else◌, length-append, add-zero, get_or-append-add, get_or-take, get_or-drop, take-append-drop, length-take-le, byte_from_char, char_from_byte, length-encode, len_utf8_bounds, chars-append, encodes-chars, IsUtf8-take, IsUtf8-drop, chars, IsUtf8, IsCharBoundary, before_nul, encode, encodes}
 
 -- no byte of a text is 0
 abbrev pub NoneIsNul : List ℕ → Type 0

@@ -1,5 +1,5 @@
 -- Scalars in double quotes, one character or one run of characters further.
-use Rattle.snap_token.proofs.Prelude.{◌≡◌, ◌≢◌, ◌≤◌, ◌+◌, ◌==◌, ◌||◌, ◌&&◌, ℕ, List, [], ◌∷◌, ◌++◌, Bool, true, false, slice_index, refl, sym, ap, ◌∙◌, subst, arith, append-nil, Option, None, or_left, or_right, not_true, both_second, Gap, DoubleQuoted, is_blank, is_break, is_pair, is_break_or_end, is_blank_or_end, is_of, past_break, is_document_indicator, with_break, gap_of, no_gap, joined, Piece, before, EndsIn, Place, skipped, passed, skipped_while, Quoted, quoted_end, double, double_at, escape, or_from}
+use Rattle.snap_token.proofs.Prelude.{◌≡◌, ◌≢◌, ◌≤◌, ◌==◌, ◌||◌, ℕ, List, [], ◌∷◌, ◌++◌, Bool, true, false, slice_index, refl, sym, ap, ◌∙◌, subst, arith, append-nil, Option, None, or_left, or_right, not_true, both_second, Gap, DoubleQuoted, is_blank, is_break, is_pair, is_break_or_end, is_blank_or_end, is_of, past_break, is_document_indicator, with_break, gap_of, no_gap, joined, Piece, before, EndsIn, Place, skipped, passed, skipped_while, Quoted, quoted_end, double, double_at, escape, or_from}
 use Rattle.snap_token.proofs.Folds.{gap-blank, gap-break, gap-none, mid-line, regroup, no-more}
 use Rattle.snap_token.proofs.Pieces.{passed-ends}
 

@@ -1,5 +1,5 @@
 -- Texts and lists without a character.
-use Rattle.snap_token.proofs.Prelude.{◌≡◌, ℕ, ◌+◌, ◌-◌, ◌<◌, ◌==◌, List, [], ◌∷◌, ◌++◌, Bool, true, false, not, length, take, refl, sym, ap, ◌∙◌, arith, encodes-chars, chars, IsUtf8, is_nil, before, EndsIn, encodes}
+use Rattle.snap_token.proofs.Prelude.{◌≡◌, ℕ, ◌+◌, ◌<◌, ◌==◌, List, [], ◌∷◌, true, length, refl, sym, ap, arith, encodes-chars, chars, IsUtf8, is_nil, before, EndsIn, encodes}
 use Rattle.snap_content.proofs.BeforeRest.{splits}
 use Rattle.snap_token.proofs.Cuts.{some-byte}
 

@@ -1,5 +1,5 @@
 -- What explains a refusal, from one character that does.
-use Rattle.snap_token.proofs.Prelude.{◌≡◌, ◌≤◌, ◌+◌, ◌&&◌, ◌||◌, ◌==◌, ℕ, List, [], ◌∷◌, Bool, true, false, length, slice_index, count_by, nat_le, refl, ap, ◌∙◌, arith, cond, needed, is_among, explains, HasCause, IsExplained, IsRefusedBy, Place, mark_of, Mark, ScanError, Syntax, OutOfMemory, both_second, both_first}
+use Rattle.snap_token.proofs.Prelude.{◌≡◌, ◌≤◌, ◌+◌, ℕ, List, [], ◌∷◌, Bool, true, false, length, slice_index, count_by, nat_le, refl, ap, arith, cond, needed, is_among, explains, HasCause, IsExplained, IsRefusedBy, Place, mark_of, Mark, ScanError, Syntax, OutOfMemory, both_second, both_first}
 use Rattle.std.proofs.lemmas.List.Sums.{sum_by-cons}
 use Rattle.snap_token.specs.declared.info.ScanInfo.{ScanInfo}
 

@@ -1,5 +1,5 @@
 -- White space inside a scalar, one character further.
-use Rattle.snap_token.proofs.Prelude.{◌≡◌, ℕ, List, [], ◌∷◌, ◌++◌, Bool, true, false, ◌&&◌, ◌≤◌, ◌==◌, refl, sym, ap, ◌∙◌, arith, append-nil, append_assoc, Gap, with_blank, with_break, gap_of, no_gap, is_document_indicator, Place, before, EndsIn, both_second, both_first}
+use Rattle.snap_token.proofs.Prelude.{◌≡◌, ℕ, List, [], ◌∷◌, ◌++◌, false, ◌≤◌, ◌==◌, refl, sym, ap, ◌∙◌, arith, append-nil, append_assoc, Gap, with_blank, with_break, gap_of, no_gap, is_document_indicator, Place, before, EndsIn}
 use Rattle.snap_token.specs.declared.folding.Fold.{Fold}
 use Rattle.snap_token.specs.declared.folding.Fold.TheVariants.{Inline, Broken, Escaped}
 use Rattle.snap_token.proofs.Pieces.{before-next, before-same, before-cons}

@@ -1,5 +1,5 @@
 -- Pieces of a list, before an end of it.
-use Rattle.snap_token.proofs.Prelude.{◌≡◌, ℕ, ◌+◌, ◌-◌, List, [], ◌∷◌, ◌++◌, length, take, refl, sym, ap, ◌∙◌, subst, arith, Bool, true, false, length-append, append_assoc, take-append_seam, before, EndsIn, Place, passed, behind}
+use Rattle.snap_token.proofs.Prelude.{◌≡◌, ℕ, ◌-◌, List, [], ◌∷◌, ◌++◌, length, take, refl, sym, ap, ◌∙◌, subst, arith, Bool, true, false, length-append, append_assoc, take-append_seam, before, EndsIn, Place, passed, behind}
 
 front-is : (xs ys : List ℕ) → before (xs ++ ys) ys ≡ xs
 front-is xs ys =

@@ -1,5 +1,5 @@
 -- Places that are reached by passing characters.
-use Rattle.snap_token.proofs.Prelude.{◌≡◌, ℕ, ◌+◌, ◌≤◌, List, [], ◌∷◌, Bool, true, false, slice_index, length, refl, subst, arith, sym, ap, ◌∙◌, Place, Later, next, here, skipped, skip_from, passed, behind}
+use Rattle.snap_token.proofs.Prelude.{◌≡◌, ℕ, List, [], ◌∷◌, Bool, true, false, slice_index, refl, subst, sym, ap, Place, Later, next, skipped, skip_from, passed, behind}
 
 -- where the place behind a character is known, it is the next place
 pub later-next : (p q r : Place) → r ≡ skipped q → Later p q → Later p r

@@ -1,5 +1,5 @@
 -- Plain scalars, one character or one run of characters further.
-use Rattle.snap_token.proofs.Prelude.{◌≡◌, ◌≢◌, ◌==◌, ◌||◌, ◌&&◌, ℕ, List, [], ◌∷◌, ◌++◌, Bool, true, false, slice_index, refl, sym, ap, ◌∙◌, subst, arith, append-nil, Option, None, or_left, or_right, not_true, both_second, Gap, Word, is_blank, is_break, is_pair, is_break_or_end, is_blank_or_end, is_flow_sign, is_of, past_break, with_break, gap_of, no_gap, joined, before, EndsIn, Place, skipped, passed, skipped_while, Plain, plain, plain_end, ends_plain, is_bad_tab}
+use Rattle.snap_token.proofs.Prelude.{◌≡◌, ◌==◌, ◌||◌, ℕ, List, [], ◌∷◌, ◌++◌, Bool, true, false, slice_index, refl, sym, ap, ◌∙◌, subst, arith, append-nil, Option, None, or_left, or_right, not_true, both_second, Gap, Word, is_blank, is_break, is_pair, is_break_or_end, is_blank_or_end, is_flow_sign, is_of, past_break, with_break, gap_of, no_gap, joined, before, EndsIn, Place, skipped, passed, skipped_while, Plain, plain, plain_end, ends_plain, is_bad_tab}
 use Rattle.snap_token.proofs.Folds.{gap-blank, gap-break, gap-none, regroup, no-more}
 use Rattle.snap_token.proofs.Pieces.{passed-ends}
 

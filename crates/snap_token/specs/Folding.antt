@@ -1,5 +1,5 @@
 -- White space inside a scalar, and what it stands for once a character follows.
-use Rattle.std.specs.Prelude.{ℕ, ◌==◌, ◌&&◌, List, [], ◌∷◌, ◌++◌, Bool, true, false, if◌then◌else◌}
+use Rattle.std.specs.Prelude.{ℕ, List, [], ◌∷◌, ◌++◌, Bool, true, false, if◌then◌else◌}
 use Rattle.snap_token.specs.declared.folding.Fold.{Fold}
 use Rattle.snap_token.specs.declared.folding.Fold.TheVariants.{Inline, Broken, Escaped}
 use Rattle.snap_token.specs.declared.folding.Gap.{Gap}

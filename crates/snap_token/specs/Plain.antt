@@ -1,5 +1,5 @@
 -- Plain scalars, character by character.
-use Rattle.std.specs.Prelude.{ℕ, ◌==◌, ◌&&◌, ◌||◌, nat_le, List, [], ◌∷◌, ◌++◌, Bool, true, false, not, if◌then◌else◌, slice_index, Option, Some, None, Result, Ok, Err, ◌≡◌}
+use Rattle.std.specs.Prelude.{ℕ, ◌==◌, ◌&&◌, ◌||◌, nat_le, List, [], ◌∷◌, ◌++◌, Bool, false, not, if◌then◌else◌, slice_index, Option, Some, None, Result, Ok, Err, ◌≡◌}
 use Rattle.snap_token.specs.declared.folding.Gap.{Gap}
 use Rattle.snap_token.specs.declared.info.ScanError.{ScanError}
 use Rattle.snap_token.specs.declared.info.ScanError.TheVariants.{OutOfMemory}

@@ -210,10 +210,7 @@ pub fn scan_double_quoted<'a>(alloc: Global, cursor: &mut Cursor<'a>) -> Result<
             let text = close(alloc, cursor, text, &gap)?;
             return Ok(text);
         } else if c == '\\' {
-            match take_escape(alloc, cursor, &mut text, &mut gap, mark) {
-                Err(error) => return Err(error),
-                Ok(()) => {}
-            }
+            take_escape(alloc, cursor, &mut text, &mut gap, mark)?;
         } else {
             take_word(alloc, cursor, &mut text, &mut gap, Kind::DoubleQuoted)?;
         }

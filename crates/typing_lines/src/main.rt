@@ -19,17 +19,14 @@ mod readers;
 mod words;
 
 use crate::asked::answered;
-use row_lines::{answer_rows, first_column, refusal_line};
+use row_lines::{answer_rows, first_column};
 use snap_content::Text;
 use std::alloc::Global;
 
 /// The line that answers a line.
 fn answer(alloc: Global, line: &str) -> Result<Text, anyhow::Error> {
     let (name, columns) = first_column(line);
-    match answered(alloc, name, columns) {
-        Ok(told) => Ok(told),
-        Err(error) => refusal_line(alloc, &error),
-    }
+    answered(alloc, name, columns)
 }
 
 fn main(rt: HostRuntime) -> Result<(), anyhow::Error> {

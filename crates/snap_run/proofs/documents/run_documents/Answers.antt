@@ -1,5 +1,5 @@
 use Rattle.snap_run.proofs.Prelude.{refl, ◌∙◌, arith}
-use Rattle.snap_run.proofs.Stepping.{begins, goes_on, stops, first_is}
+use Rattle.snap_run.proofs.Stepping.{begins, goes_on, stops, first_is, store_told, sink_told}
 use Rattle.snap_run.proofs.documents.run_documents.Goals as goal
 
 pub loop-rest-init : goal.loop-rest-init
@@ -15,4 +15,4 @@ loop-rest-preserved g c = record {
 
 pub returns-in-Err-clause-stopped : goal.returns-in-Err-clause-stopped
 returns-in-Err-clause-stopped g c =
-    stops _ _ _ _ c.split_at.result.1.now _ _ _ _ _ _ _ _ _ (first_is _ _ _ _ c.first_document_end.ensures.cut c.split_at.ensures.front c.split_at.ensures.back) c.loop-rest.invariant.run c.in-Err.ensures.err
+    stops _ _ _ _ c.split_at.result.1.now _ _ _ _ _ _ _ _ _ _ (first_is _ _ _ _ c.first_document_end.ensures.cut c.split_at.ensures.front c.split_at.ensures.back) c.loop-rest.invariant.run c.in-Err.ensures.err c.status_at.ensures

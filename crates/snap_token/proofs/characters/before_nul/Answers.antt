@@ -1,4 +1,4 @@
-use Rattle.snap_token.proofs.Prelude.{◌≡◌, ℕ, List, take, slice_index, ap, ◌∙◌, arith, length, refl, get_or_past, chars}
+use Rattle.snap_token.proofs.Prelude.{◌≡◌, slice_index, ap, ◌∙◌, arith, length, get_or_past, chars}
 use Rattle.std.proofs.lemmas.Grind.{common_steps}
 use Rattle.snap_token.proofs.Cuts.{cut}
 use Rattle.snap_token.proofs.characters.before_nul.Goals as goal

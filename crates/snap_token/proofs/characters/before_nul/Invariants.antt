@@ -1,4 +1,4 @@
-use Rattle.snap_token.proofs.Prelude.{◌≡◌, ◌≢◌, ℕ, ◌<◌, ◌≤◌, ◌-◌, length, slice_index}
+use Rattle.snap_token.proofs.Prelude.{◌≢◌, ℕ, ◌<◌, ◌≤◌, ◌-◌, length, slice_index}
 use Rattle.snap_token.proofs.characters.before_nul.Given as goal
 
 abbrev pub invariant-loop-end : goal.invariant-loop-end

@@ -1,4 +1,4 @@
-use Rattle.snap_token.proofs.Prelude.{◌≡◌, ◌≤◌, ◌<◌, ◌+◌, ◌-◌, ◌*◌, ◌^◌, ◌∙◌, ℕ, suc, Some, slice_index, arith, Place, hexadecimal}
+use Rattle.snap_token.proofs.Prelude.{◌≡◌, ◌≤◌, ◌-◌, ◌∙◌, ℕ, suc, Some, slice_index, arith, Place, hexadecimal}
 use Rattle.snap_token.proofs.Backslashes.{digits-small, digits-room, digit-more}
 use Rattle.snap_token.proofs.escapes.scan_code.Goals as goal
 

@@ -1,4 +1,4 @@
-use Rattle.snap_token.proofs.Prelude.{◌≡◌, ◌∙◌, ℕ, Some, None, false, slice_index, is_break, Place, escaped, further_digits}
+use Rattle.snap_token.proofs.Prelude.{◌≡◌, ◌∙◌, Some, None, false, slice_index, is_break, Place, escaped, further_digits}
 use Rattle.snap_token.proofs.Backslashes.{escape-code}
 use Rattle.snap_token.proofs.escapes.scan_escape.Goals as goal
 

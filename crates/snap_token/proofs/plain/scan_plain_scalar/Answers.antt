@@ -1,4 +1,4 @@
-use Rattle.snap_token.proofs.Prelude.{◌≡◌, ◌≤◌, ◌+◌, ◌∙◌, ◌++◌, ℕ, List, Option, true, false, slice_index, length, arith, rules, subst, sym, ap, refl, Ok, Err, None, chars, Syntax, S34, is_blank, is_break, is_of, Word, Gap, gap_of, with_break, no_gap, joined, Piece, before, EndsIn, Place, skipped, skipped_while, Plain, plain, plain_end, plain_from, ends_plain, is_bad_tab, ReadsPlain}
+use Rattle.snap_token.proofs.Prelude.{◌≡◌, ◌∙◌, ◌++◌, ℕ, List, Option, true, false, slice_index, arith, rules, subst, sym, ap, refl, Ok, Err, None, chars, Syntax, S34, is_blank, is_break, is_of, Word, Gap, gap_of, with_break, no_gap, joined, Piece, before, EndsIn, Place, skipped, skipped_while, Plain, plain, plain_end, plain_from, ends_plain, is_bad_tab, ReadsPlain}
 use Rattle.snap_token.proofs.Plains.{plain-blank, plain-break, plain-ended, plain-word, plain-tab}
 use Rattle.snap_token.proofs.Pieces.{ends-same}
 use Rattle.snap_token.proofs.plain.scan_plain_scalar.Goals as goal

@@ -1,8 +1,9 @@
-use Rattle.snap_token.proofs.Prelude.{◌≡◌, ◌≢◌, ◌≤◌, ◌+◌, ◌∙◌, ◌||◌, ◌==◌, ◌++◌, ℕ, List, [], ◌∷◌, Option, true, false, slice_index, length, arith, rules, subst, sym, ap, refl, Ok, Err, None, codes, chars, ScanError, Syntax, S29, S30, IsExplained, IsRefusedBy, is_blank, is_break, is_of, is_document_indicator, Gap, with_break, no_gap, Mark, Piece, EndsIn, Place, mark_of, Quoted, double_at, double_from, ReadsQuoted}
+use Rattle.snap_token.proofs.Prelude.{◌≡◌, ◌∙◌, ◌||◌, ◌==◌, Option, true, false, slice_index, arith, rules, subst, sym, refl, Err, None, codes, Syntax, S29, S30, IsRefusedBy, is_blank, is_break, is_document_indicator, Gap, with_break, Mark, Piece, EndsIn, Place, Quoted, double_at, double_from, ReadsQuoted}
 use Rattle.snap_token.proofs.Doubles.{double-blank, double-break, double-refused, double-word}
 use Rattle.snap_token.proofs.Pieces.{ends-same}
 use Rattle.snap_token.proofs.Explained.{explained}
 use Rattle.snap_token.proofs.Backslashes.{refused-so}
+use Rattle.std.proofs.lemmas.Result.{err_from_is_err_and}
 use Rattle.snap_token.proofs.quoted.scan_double_quoted.Goals as goal
 
 pub characters-preserved-then-is_blank : goal.characters-preserved-then-is_blank
@@ -74,22 +75,16 @@ characters-preserved c =
       falls = omega (arith, c.take_word.ensures.lighter, c.characters.invariant.falls);
     }
 
-pub characters-preserved-in-Ok : goal.characters-preserved-in-Ok
-characters-preserved-in-Ok c =
-    record {
-      behind = c.in-Ok.ensures.behind;
-      same = c.in-Ok.ensures.value ∙ c.characters.invariant.same;
-      onward = λ r h. c.take_escape.ensures.onward r (c.characters.invariant.onward r h);
-      sum = c.take_escape.ensures.sum ∙ c.characters.invariant.sum;
-      falls = omega (arith, c.take_escape.ensures.lighter, c.characters.invariant.falls);
-    }
+pub returns-in_err-take_escape-clause-value : goal.returns-in_err-take_escape-clause-value
+returns-in_err-take_escape-clause-value c =
+    let told = err_from_is_err_and c.from_residual-in_err-take_escape.result c.from_residual-in_err-take_escape.ensures.1 in
+    let error = c.in_err-take_escape.field-0.0 in
+    let P : Option Quoted → Type 0 = λ o. ReadsQuoted o (Err error) c.take_escape.new.cursor in
+    rw (told.1, told.2) (subst P c.characters.invariant.same (refused-so (double_at c.characters.text c.characters.gap c.characters.cursor) (double_at c.take_escape.new.text c.take_escape.new.gap c.take_escape.new.cursor) error c.take_escape.new.cursor c.in_err-take_escape.ensures.value))
 
-pub returns-in-Err-clause-value : goal.returns-in-Err-clause-value
-returns-in-Err-clause-value c =
-    let P : Option Quoted → Type 0 = λ o. ReadsQuoted o (Err c.in-Err.error) c.take_escape.new.cursor in
-    subst P c.characters.invariant.same (refused-so (double_at c.characters.text c.characters.gap c.characters.cursor) (double_at c.take_escape.new.text c.take_escape.new.gap c.take_escape.new.cursor) c.in-Err.error c.take_escape.new.cursor c.in-Err.ensures.value)
-
-pub returns-in-Err-clause-cause : goal.returns-in-Err-clause-cause
-returns-in-Err-clause-cause c =
-    let P : Mark → Type 0 = λ m. IsRefusedBy (codes "\"") m c.in-Err.error in
-    explained c.args.cursor.now (codes "\"") c.in-Err.error (rw c.requires refl) refl (subst P c.mark-mark.ensures c.in-Err.ensures.cause)
+pub returns-in_err-take_escape-clause-cause : goal.returns-in_err-take_escape-clause-cause
+returns-in_err-take_escape-clause-cause c =
+    let told = err_from_is_err_and c.from_residual-in_err-take_escape.result c.from_residual-in_err-take_escape.ensures.1 in
+    let error = c.in_err-take_escape.field-0.0 in
+    let P : Mark → Type 0 = λ m. IsRefusedBy (codes "\"") m error in
+    rw (told.1, told.2) (explained c.args.cursor.now (codes "\"") error (rw c.requires refl) refl (subst P c.mark-mark.ensures c.in_err-take_escape.ensures.cause))

@@ -1,4 +1,4 @@
-use Rattle.snap_token.proofs.Prelude.{◌≡◌, ◌≢◌, ◌≤◌, ◌+◌, ◌∙◌, ◌||◌, ◌==◌, ◌++◌, ℕ, List, [], ◌∷◌, Option, true, false, slice_index, length, arith, rules, subst, sym, ap, refl, Ok, Err, None, codes, chars, ScanError, Syntax, S29, S30, IsExplained, IsRefusedBy, is_blank, is_break, is_of, is_document_indicator, Gap, with_break, no_gap, Mark, Piece, EndsIn, Place, mark_of, Quoted, single_at, single_from, ReadsQuoted}
+use Rattle.snap_token.proofs.Prelude.{◌≡◌, ◌∙◌, ◌||◌, ◌==◌, Option, true, false, slice_index, arith, rules, subst, sym, refl, Err, None, Syntax, S29, S30, is_blank, is_break, is_document_indicator, Gap, with_break, Piece, EndsIn, Place, Quoted, single_at, single_from, ReadsQuoted}
 use Rattle.snap_token.proofs.Singles.{single-blank, single-break, single-refused, single-word, single-doubled}
 use Rattle.snap_token.proofs.Pieces.{ends-same}
 use Rattle.snap_token.proofs.quoted.scan_single_quoted.Goals as goal

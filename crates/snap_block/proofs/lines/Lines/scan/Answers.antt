@@ -1,5 +1,6 @@
 use Rattle.snap_block.proofs.Prelude.{◌≡◌, ◌≢◌, ◌==◌, ◌||◌, ◌∙◌, ℕ, Bool, true, false, not, slice_index, refl, sym, ap, subst, arith, Option, Some, None, Ok, Err, InLine, ScanError, OutOfMemory, Syntax, is_break, is_of, Mark, Place, Lines, Read, stop, with_breaks, ended, IsRefusedLine, ReadsLines}
 use Rattle.snap_block.proofs.Between.{between_at, within_at, between-stop, between-line, within-end, within-break}
+use Rattle.std.proofs.lemmas.Result.{err_from_is_err_and}
 use Rattle.snap_block.proofs.lines.Lines.scan.Goals as goal
 use Rattle.snap_block.proofs.lines.Lines.scan.Goals.{then-lines-test+else-col-indentation, else-lines-test}
 
@@ -53,8 +54,8 @@ returns-then-ch-eq0-clause-value c =
     let end : slice_index q.left 0 ≡ 0 = sym c.ch-in-lines.ensures ∙ c.if-ch-eq0.true in
     stopped tt (between_at n b c.args.self.now c.args.cursor.now) m q (sym c.lines.invariant.same ∙ sym line ∙ within-end n b m q end)
 
-pub returns-in-Err-clause-value : goal.returns-in-Err-clause-value
-returns-in-Err-clause-value c =
+pub returns-in_err-scan_empty_lines-clause-value : goal.returns-in_err-scan_empty_lines-clause-value
+returns-in_err-scan_empty_lines-clause-value c =
     let n : ℕ = c.args.indentation in
     let b : Bool = c.args.literal in
     let p : Place = c.lines.cursor in
@@ -67,8 +68,9 @@ returns-in-Err-clause-value c =
     let line : within_at n b m q ≡ between_at n b c.lines.self p = between-line n b c.lines.self m p q c.lines.invariant.stands begins c.in_ok-scan_line.ensures.place c.in_ok-scan_line.ensures.value in
     let broken : is_break (slice_index q.left 0) ≡ true = break-of (slice_index q.left 0) c.in_ok-scan_line.ensures.end (λ h. c.if-ch-eq0.false (c.ch-in-lines.ensures ∙ h)) in
     let past : between_at n b (ended m) r ≡ within_at n b m q = within-break n b m q r broken c.skip_break.ensures.value in
-    refused (Unit {0}) n b (between_at n b c.args.self.now c.args.cursor.now) m (with_breaks c.scan_empty_lines.new.breaks (ended m)) r c.scan_empty_lines.new.cursor c.in-Err.error
-    (past ∙ line ∙ c.lines.invariant.same) c.in-Err.ensures.refused
+    let told = err_from_is_err_and c.from_residual-in_err-scan_empty_lines.result c.from_residual-in_err-scan_empty_lines.ensures.1 in
+    rw (told.1, told.2) (refused (Unit {0}) n b (between_at n b c.args.self.now c.args.cursor.now) m (with_breaks c.scan_empty_lines.new.breaks (ended m)) r c.scan_empty_lines.new.cursor c.in_err-scan_empty_lines.field-0.0
+    (past ∙ line ∙ c.lines.invariant.same) c.in_err-scan_empty_lines.ensures.refused)
 
 pub lines-preserved : goal.lines-preserved
 lines-preserved c =
@@ -85,8 +87,8 @@ lines-preserved c =
     let broken : is_break (slice_index q.left 0) ≡ true = break-of (slice_index q.left 0) c.in_ok-scan_line.ensures.end (λ h. c.if-ch-eq0.false (c.ch-in-lines.ensures ∙ h)) in
     let past : between_at n b (ended m) r ≡ within_at n b m q = within-break n b m q r broken c.skip_break.ensures.value in
     record {
-      stands = c.in-Ok.ensures.stands;
-      same = c.in-Ok.ensures.value.0 b (ended m) ∙ past ∙ line ∙ c.lines.invariant.same;
+      stands = c.in_ok-scan_empty_lines.ensures.stands;
+      same = c.in_ok-scan_empty_lines.ensures.value.0 b (ended m) ∙ past ∙ line ∙ c.lines.invariant.same;
       onward = λ x h. c.scan_empty_lines.ensures.onward x (c.skip_break.ensures.onward x (c.scan_line.ensures.onward x (c.lines.invariant.onward x h)));
       sum = c.scan_empty_lines.ensures.sum ∙ c.skip_break.ensures.sum ∙ c.scan_line.ensures.sum ∙ c.lines.invariant.sum;
       lighter = omega (arith, c.scan_empty_lines.ensures.lighter, c.skip_break.ensures.lighter, c.scan_line.ensures.lighter, c.lines.invariant.lighter);
