@@ -1,5 +1,5 @@
 -- What one document leaves.
-use Rattle.snap_run.proofs.Prelude.{◌≡◌, ◌⊎◌, ◌&&◌, not, inl, inr, ℕ, List, [], ◌∷◌, ◌++◌, map, Option, Some, refl, sym, ap, ◌∙◌, subst, Result, Ok, Err, encode_utf8_all, append-nil, empty, get, Rose, Files, HoldsFront, asked_path, verdict_of, is_failure, RequestView, Spells, ReadsAs, RunWords, place_by, settings_by, printed_by, asked_by, assertion_by, line_text, line_of, KeptBy, IsOwn, FaultIsOwn, words_of, Ran, AssertionStops, StopsAt, IsInWork, MemoryFails, LineFails, IsDocumentAnswered, CountedIf, is_store_fault, Update, DocumentError, Outcome, Runner, step_keeps}
+use Rattle.snap_run.proofs.Prelude.{◌≡◌, ◌&&◌, not, inl, inr, ℕ, List, [], ◌∷◌, ◌++◌, map, Option, Some, refl, sym, ap, ◌∙◌, subst, Result, Ok, Err, encode_utf8_all, append-nil, empty, get, Rose, Files, HoldsFront, asked_path, verdict_of, is_failure, RequestView, Spells, ReadsAs, RunWords, place_by, settings_by, printed_by, asked_by, assertion_by, line_text, line_of, KeptBy, IsOwn, FaultIsOwn, words_of, Ran, AssertionStops, IsInWork, MemoryFails, LineFails, IsDocumentAnswered, CountedIf, is_store_fault, DocumentError, Outcome, Runner, step_keeps}
 use Rattle.std.specs.Result.{IfErr, IsErrAnd}
 use Rattle.snap_content.specs.Tree.{Tree}
 use Rattle.snap_select.specs.Put.{Objects}
@@ -17,7 +17,7 @@ use Rattle.snap_assert.specs.Outcomes.{IsAnswered, ErrorCause, left_by}
 use Rattle.snap_request.specs.declared.request.RequestError.{RequestError}
 use Rattle.snap_request.specs.declared.request.RequestError.TheVariants as request
 use Rattle.snap_run.specs.Refused.{unread, unanswered}
-use Rattle.snap_run.specs.declared.document_error.DocumentError.TheVariants.{NoRequest, FileIo, WriteFault, OutOfMemory}
+use Rattle.snap_run.specs.declared.document_error.DocumentError.TheVariants.{OutOfMemory}
 use Rattle.snap_assert.specs.declared.error.AssertError.{AssertError}
 use Rattle.snap_assert.specs.declared.error.AssertError.TheVariants as refusal
 use Rattle.snap_assert.specs.declared.outcome.Verdict.{Verdict}

@@ -1,5 +1,5 @@
 -- What standard error is told.
-use Rattle.snap_run.proofs.Prelude.{◌≡◌, ◌⊎◌, inl, inr, ◌≤◌, ◌<◌, ◌+◌, ◌-◌, ◌^◌, min, ℕ, List, [], ◌∷◌, ◌++◌, length, take, Option, Some, Result, Ok, Err, OnOk, OnErr, refl, sym, ◌∙◌, ap, subst, arith, encode_utf8_all, take_all, Counted, is_fault, Rose, HoldsFront, IsSteady, Status, message, IsSaid}
+use Rattle.snap_run.proofs.Prelude.{◌≡◌, inl, ◌≤◌, ℕ, List, [], ◌∷◌, ◌++◌, length, Option, Some, Result, Ok, Err, OnOk, OnErr, refl, sym, ◌∙◌, ap, subst, arith, encode_utf8_all, take_all, Counted, is_fault, Rose, HoldsFront, IsSteady, Status, message, IsSaid}
 use Rattle.snap_run.specs.Describe.{code_of, description}
 use Rattle.snap_run.specs.declared.status.Status.TheVariants as status
 use Rattle.snap_outside.specs.declared.outside.Fault.{Fault}

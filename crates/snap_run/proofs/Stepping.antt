@@ -1,6 +1,5 @@
 -- How a run over documents goes on from one to the next.
-use Rattle.snap_run.proofs.Prelude.{◌≡◌, ◌||◌, Bool, true, false, ℕ, ◌+◌, List, [], ◌∷◌, ◌++◌, length, take, drop, Option, Some, refl, sym, ◌∙◌, ap, subst, arith, append_assoc, length-append, append-nil, Files, documents, RequestView, Reads, Answer, RunWords, step_of, line_of, requests_of, AreAllowed, files_after, lines_of, answer_fails, some_fails, Ran, RanOne, Stopped, StopsAt, Ended, says_file_fault, says_write_fault, is_store_fault, is_sink_fault, status_at, DocumentError, Status}
-use Rattle.snap_run.specs.declared.document_error.DocumentError.TheVariants as error
+use Rattle.snap_run.proofs.Prelude.{◌≡◌, ◌||◌, Bool, true, false, ℕ, ◌+◌, List, [], ◌∷◌, ◌++◌, length, take, drop, Option, Some, refl, sym, ◌∙◌, ap, subst, arith, append_assoc, length-append, append-nil, Files, documents, RequestView, Reads, Answer, RunWords, step_of, line_of, requests_of, AreAllowed, files_after, lines_of, answer_fails, some_fails, Ran, RanOne, Stopped, StopsAt, Ended, status_at, DocumentError, Status}
 
 requests_of-append : (a b : List Answer) → requests_of (a ++ b) ≡ requests_of a ++ requests_of b
 requests_of-append [] b = refl
@@ -103,16 +102,3 @@ stops words all rest d later n fails e status f g h w v u first r s is = record 
 
 pub first_is : (rest first later : List ℕ) (n : ℕ) → documents rest ≡ take n rest ∷ documents (drop n rest) → first ≡ take n rest → later ≡ drop n rest → documents rest ≡ first ∷ documents later
 first_is rest first later n cut front back = cut ∙ ap (λ t. t ∷ documents (drop n rest)) (sym front) ∙ ap (λ t. first ∷ documents t) (sym back)
-
--- the status says of faults what the error does
-pub store_told : (n : ℕ) (e : DocumentError) → says_file_fault (status_at n e) ≡ is_store_fault e
-store_told n error.NoRequest = refl
-store_told n (error.FileIo path) = refl
-store_told n error.WriteFault = refl
-store_told n error.OutOfMemory = refl
-
-pub sink_told : (n : ℕ) (e : DocumentError) → says_write_fault (status_at n e) ≡ is_sink_fault e
-sink_told n error.NoRequest = refl
-sink_told n (error.FileIo path) = refl
-sink_told n error.WriteFault = refl
-sink_told n error.OutOfMemory = refl

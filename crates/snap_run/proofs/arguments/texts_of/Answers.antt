@@ -1,1 +1,0 @@
-use Rattle.snap_run.proofs.arguments.texts_of.Goals as goal

@@ -1,4 +1,4 @@
-use Rattle.snap_run.proofs.Prelude.{◌≡◌, ◌∙◌, inl, subst, arguments_of, words_given, IsRunOf}
+use Rattle.snap_run.proofs.Prelude.{◌∙◌, inl, subst, IsRunOf}
 use Rattle.snap_run.proofs.command.run_arguments.Goals as goal
 
 pub returns-in-Ok : goal.returns-in-Ok

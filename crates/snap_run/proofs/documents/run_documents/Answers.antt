@@ -1,5 +1,5 @@
 use Rattle.snap_run.proofs.Prelude.{refl, ◌∙◌, arith}
-use Rattle.snap_run.proofs.Stepping.{begins, goes_on, stops, first_is, store_told, sink_told}
+use Rattle.snap_run.proofs.Stepping.{begins, goes_on, stops, first_is}
 use Rattle.snap_run.proofs.documents.run_documents.Goals as goal
 
 pub loop-rest-init : goal.loop-rest-init

@@ -27,7 +27,7 @@ returns-in-Ok-true-clause-runs g c =
     finished true _ _ c.in-Ok.runner _ c.deref.result.now _ _ _ _ _ c.in-Ok-true.field-0-test c.in-Some.ensures c.in-Ok.ensures.words
     (λ xs e. c.deref.ensures.value ∙ c.in-Ok-read_all.ensures.all xs e) c.in-Ok-true.ensures.finished
 
-pub returns-in-Err-clause-runs : goal.returns-in-Err-clause-runs
-returns-in-Err-clause-runs g c =
+pub returns-clause-runs : goal.returns-clause-runs
+returns-clause-runs g c =
     stopped _ _ c.in-Ok.runner _ c.deref.result.now _ _ _ _ _ c.in-Some.ensures c.in-Ok.ensures.words
     (λ xs e. c.deref.ensures.value ∙ c.in-Ok-read_all.ensures.all xs e) c.in-Err.ensures.stopped
