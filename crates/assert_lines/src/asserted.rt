@@ -23,20 +23,21 @@ pub(crate) fn place_in(
 }
 
 /// The tree of one pair.
-pub(crate) fn pair_tree(alloc: Global, key: &str, number: u8) -> Result<Content, OutOfMemory> {
+fn pair_tree(alloc: Global, key: &str, number: u8) -> Result<Content, OutOfMemory> {
+    let key = Content::from_str(alloc, key)?;
     let mut pairs = Pairs::new(alloc);
-    pairs.push((Content::from_str(alloc, key)?, Content::U8(number)))?;
+    pairs.push((key, Content::U8(number)))?;
     Ok(Content::Map(pairs))
 }
 
-/// What an assertion of this tree answers.
+/// What an assertion of the tree of one pair answers.
 pub(crate) fn outcome_of(
     alloc: Global,
     store: &mut SteadyStore,
     update: Update,
     settings: &Settings,
     place: &Place,
-    content: Content,
+    (key, number): (&str, u8),
 ) -> Result<Outcome, AssertError> {
     let config = Config {
         update,
@@ -47,6 +48,7 @@ pub(crate) fn outcome_of(
         run_id: Text::empty(),
     };
     let name = Text::from_str(alloc, "one")?;
+    let content = pair_tree(alloc, key, number)?;
     let mut session = Session::new(alloc);
     assert_content(
         alloc,
@@ -66,11 +68,12 @@ fn add_file(
     line: &mut Text,
     store: &SteadyStore,
     path: &Text,
-) -> Result<(), OutOfMemory> {
-    match store.get(path) {
-        None => add_text_column(alloc, line, "! no file"),
-        Some(bytes) => add_text_column(alloc, line, str::from_utf8(bytes).unwrap_or("! no text")),
-    }
+) -> Result<(), anyhow::Error> {
+    let told = match store.get(path) {
+        None => "! no file",
+        Some(bytes) => str::from_utf8(bytes).unwrap_or("! no text"),
+    };
+    Ok(add_text_column(alloc, line, told)?)
 }
 
 /// Adds a column with the file that is saved of the tree `id: 42` with these settings.
@@ -79,10 +82,27 @@ pub(crate) fn add_saved(
     line: &mut Text,
     settings: &Settings,
 ) -> Result<(), anyhow::Error> {
-    let mut store = SteadyStore::new(alloc);
     let place = place_in(alloc, "m::test", "src/a.rs")??;
-    let tree = pair_tree(alloc, "id", 42)?;
-    let outcome = outcome_of(alloc, &mut store, Update::InPlace, settings, &place, tree)?;
-    add_file(alloc, line, &store, &outcome.path)?;
-    Ok(())
+    add_saved_at(alloc, line, settings, &place)
+}
+
+fn add_saved_at(
+    alloc: Global,
+    line: &mut Text,
+    settings: &Settings,
+    place: &Place,
+) -> Result<(), anyhow::Error> {
+    let mut store = SteadyStore::new(alloc);
+    add_saved_in(alloc, line, &mut store, settings, place)
+}
+
+fn add_saved_in(
+    alloc: Global,
+    line: &mut Text,
+    store: &mut SteadyStore,
+    settings: &Settings,
+    place: &Place,
+) -> Result<(), anyhow::Error> {
+    let outcome = outcome_of(alloc, store, Update::InPlace, settings, place, ("id", 42))?;
+    add_file(alloc, line, store, &outcome.path)
 }

@@ -42,7 +42,14 @@ fn error_named(alloc: Global, name: &str, rest: &str) -> Result<AssertError, Out
 /// What is written of an error.
 pub(crate) fn error_line(alloc: Global, columns: &str) -> Result<Text, anyhow::Error> {
     let (name, rest) = first_column(columns);
-    let error = error_named(alloc, name, rest)?;
+    Ok(written_line(alloc, error_named(alloc, name, rest)?)?)
+}
+
+fn written_line(alloc: Global, error: AssertError) -> Result<Text, OutOfMemory> {
+    written_of(alloc, &error)
+}
+
+fn written_of(alloc: Global, error: &AssertError) -> Result<Text, OutOfMemory> {
     let written = format!(in alloc; "{error}")?;
-    Ok(Text::from_str(alloc, written.as_str())?)
+    Text::from_str(alloc, written.as_str())
 }

@@ -1,7 +1,7 @@
 //! What a stored file is taken for.
-use crate::asserted::{outcome_of, pair_tree, place_in};
+use crate::asserted::{outcome_of, place_in};
 use row_lines::{add_text_column, text_of};
-use snap_assert::{Outcome, Settings, Update, Verdict, Warning};
+use snap_assert::{Outcome, Place, Settings, Update, Verdict, Warning};
 use snap_content::{OutOfMemory, Text};
 use snap_outside::SteadyStore;
 use std::alloc::Global;
@@ -30,7 +30,7 @@ fn warning_name(warning: &Warning) -> &'static str {
 }
 
 /// The verdict, and the warnings in their order.
-fn outcome_line(alloc: Global, outcome: &Outcome) -> Result<Text, OutOfMemory> {
+fn outcome_line(alloc: Global, outcome: &Outcome) -> Result<Text, anyhow::Error> {
     let mut line = Text::from_str(alloc, verdict_name(outcome.verdict))?;
     for index in 0..outcome.warnings.len() {
         if let Some(warning) = outcome.warnings.get(index) {
@@ -51,9 +51,25 @@ fn store_of(alloc: Global, column: &str) -> Result<SteadyStore, OutOfMemory> {
 /// The answer of an assertion of the tree `a: 1` that writes nothing, over a store that holds this file.
 pub(crate) fn judged_line(alloc: Global, column: &str) -> Result<Text, anyhow::Error> {
     let mut store = store_of(alloc, column)?;
+    judged_in(alloc, &mut store)
+}
+
+fn judged_in(alloc: Global, store: &mut SteadyStore) -> Result<Text, anyhow::Error> {
     let place = place_in(alloc, "", "src/a.rs")??;
+    judged_at(alloc, store, &place)
+}
+
+fn judged_at(alloc: Global, store: &mut SteadyStore, place: &Place) -> Result<Text, anyhow::Error> {
     let settings = Settings::new(alloc)?;
-    let tree = pair_tree(alloc, "a", 1)?;
-    let outcome = outcome_of(alloc, &mut store, Update::NoUpdate, &settings, &place, tree)?;
-    Ok(outcome_line(alloc, &outcome)?)
+    judged_by(alloc, store, &settings, place)
+}
+
+fn judged_by(
+    alloc: Global,
+    store: &mut SteadyStore,
+    settings: &Settings,
+    place: &Place,
+) -> Result<Text, anyhow::Error> {
+    let outcome = outcome_of(alloc, store, Update::NoUpdate, settings, place, ("a", 1))?;
+    outcome_line(alloc, &outcome)
 }

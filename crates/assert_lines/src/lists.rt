@@ -6,39 +6,48 @@ use row_lines::{add_text_column, first_column, text_of};
 use snap_assert::Redactions;
 use snap_content::{Content, OutOfMemory, Text};
 use snap_emit::yaml;
-use snap_select::Redaction;
+use snap_select::{Redaction, SelectError};
 use std::alloc::Global;
 
 /// The list of one redaction.
 pub(crate) fn list_of(
     alloc: Global,
-    selector: &str,
+    selector: Text,
     redaction: Redaction,
 ) -> Result<Vec<(Text, Redaction)>, OutOfMemory> {
-    let selector = Text::from_str(alloc, selector)?;
     let mut list = Vec::new(alloc);
     list.push((selector, redaction))?;
     Ok(list)
 }
 
-/// The text of the tree that redactions make of 42.
-fn applied(alloc: Global, redactions: &Redactions) -> Result<Text, anyhow::Error> {
-    let made = redactions.apply(alloc, Content::U8(42))?;
-    Ok(yaml::to_string(alloc, &made, false)?)
+/// The text of a tree, which ends here.
+fn text_of_tree(alloc: Global, tree: Content) -> Result<Text, OutOfMemory> {
+    yaml::to_string(alloc, &tree, false)
+}
+
+/// A column with the text of the tree that redactions make of 42.
+fn applied_line(alloc: Global, redactions: &Redactions) -> Result<Text, anyhow::Error> {
+    let made = text_of_tree(alloc, redactions.apply(alloc, Content::U8(42))?)?;
+    let mut line = Text::empty();
+    add_text_column(alloc, &mut line, made.as_str())?;
+    Ok(line)
+}
+
+/// A column with what is wrong in a selector.
+fn refused_line(alloc: Global, error: SelectError) -> Result<Text, OutOfMemory> {
+    let mut line = Text::empty();
+    add_taken(alloc, &mut line, Err(error))?;
+    Ok(line)
 }
 
 /// What a list of one redaction makes of 42.
 pub(crate) fn list_line(alloc: Global, columns: &str) -> Result<Text, anyhow::Error> {
     let (selector, text) = first_column(columns);
+    let selector = Text::from_str(alloc, selector)?;
     let put = Content::String(text_of(alloc, text)?);
     let list = list_of(alloc, selector, Redaction::from_content(put))?;
-    let mut line = Text::empty();
     match Redactions::from_list(alloc, list) {
-        Ok(redactions) => {
-            let made = applied(alloc, &redactions)?;
-            add_text_column(alloc, &mut line, made.as_str())?;
-        }
-        Err(error) => add_taken(alloc, &mut line, Err(error))?,
+        Ok(redactions) => applied_line(alloc, &redactions),
+        Err(error) => Ok(refused_line(alloc, error)?),
     }
-    Ok(line)
 }

@@ -42,8 +42,12 @@ fn add_texts(alloc: Global, line: &mut Text, settings: &Settings) -> Result<(), 
 /// What new settings say, a column each.
 pub(crate) fn new_settings_line(alloc: Global) -> Result<Text, anyhow::Error> {
     let settings = Settings::new(alloc)?;
+    told_line(alloc, &settings)
+}
+
+fn told_line(alloc: Global, settings: &Settings) -> Result<Text, anyhow::Error> {
     let mut line = Text::empty();
-    add_truths(alloc, &mut line, &settings)?;
-    add_texts(alloc, &mut line, &settings)?;
+    add_truths(alloc, &mut line, settings)?;
+    add_texts(alloc, &mut line, settings)?;
     Ok(line)
 }

@@ -1,8 +1,8 @@
 //! Where an assertion stands.
 use crate::asserted::{outcome_of, place_in};
 use row_lines::{add_text_column, text_of};
-use snap_assert::{Settings, Update};
-use snap_content::{Content, Text};
+use snap_assert::{Place, Settings, Update};
+use snap_content::Text;
 use snap_outside::SteadyStore;
 use std::alloc::Global;
 
@@ -21,16 +21,26 @@ pub(crate) fn path_line(alloc: Global, column: &str) -> Result<Text, anyhow::Err
     let function = text_of(alloc, column)?;
     let place = place_in(alloc, function.as_str(), "src/a.b.rs")??;
     let settings = Settings::new(alloc)?;
+    path_at(alloc, &settings, &place)
+}
+
+fn path_at(alloc: Global, settings: &Settings, place: &Place) -> Result<Text, anyhow::Error> {
     let mut store = SteadyStore::new(alloc);
+    path_in(alloc, &mut store, settings, place)
+}
+
+fn path_in(
+    alloc: Global,
+    store: &mut SteadyStore,
+    settings: &Settings,
+    place: &Place,
+) -> Result<Text, anyhow::Error> {
+    let outcome = outcome_of(alloc, store, Update::InPlace, settings, place, ("a", 1))?;
+    column_of(alloc, &outcome.path)
+}
+
+fn column_of(alloc: Global, path: &Text) -> Result<Text, anyhow::Error> {
     let mut line = Text::empty();
-    let outcome = outcome_of(
-        alloc,
-        &mut store,
-        Update::InPlace,
-        &settings,
-        &place,
-        Content::U8(1),
-    )?;
-    add_text_column(alloc, &mut line, outcome.path.as_str())?;
+    add_text_column(alloc, &mut line, path.as_str())?;
     Ok(line)
 }

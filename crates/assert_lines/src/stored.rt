@@ -4,7 +4,7 @@ use crate::columns::add_taken;
 use row_lines::first_column;
 use snap_assert::Settings;
 use snap_content::{Content, OutOfMemory, Text};
-use snap_select::{ContentPath, FnRedactor, PathItem, Redaction, Redactor};
+use snap_select::{ContentPath, FnRedactor, PathItem, Redaction, Redactor, SelectError};
 use std::alloc::Global;
 
 /// Puts its number in place of each value.
@@ -30,33 +30,43 @@ impl Redactor for Numbered {
 /// A stored function that puts a text in place of each value.
 pub(crate) fn function_line(alloc: Global, selector: &str) -> Result<Text, anyhow::Error> {
     let mut settings = Settings::new(alloc)?;
+    with_function(alloc, &mut settings, selector)
+}
+
+fn with_function(
+    alloc: Global,
+    settings: &mut Settings,
+    selector: &str,
+) -> Result<Text, anyhow::Error> {
     let function = FnRedactor::new(Box::new(
         alloc,
         |alloc: Global, _value: Content, _path: &[PathItem]| -> Result<Content, OutOfMemory> {
             Content::from_str(alloc, "[id]")
         },
     )?);
-    let mut line = Text::empty();
     let taken = settings.add_dynamic_redaction(selector, function);
-    add_taken(alloc, &mut line, taken)?;
-    add_saved(alloc, &mut line, &settings)?;
-    Ok(line)
+    taken_line(alloc, settings, taken)
 }
 
 /// A stored function that puts the count of the steps to a value in its place.
 pub(crate) fn depth_line(alloc: Global, selector: &str) -> Result<Text, anyhow::Error> {
     let mut settings = Settings::new(alloc)?;
+    with_depth(alloc, &mut settings, selector)
+}
+
+fn with_depth(
+    alloc: Global,
+    settings: &mut Settings,
+    selector: &str,
+) -> Result<Text, anyhow::Error> {
     let function = FnRedactor::new(Box::new(
         alloc,
         |_alloc: Global, _value: Content, path: &[PathItem]| -> Result<Content, OutOfMemory> {
             Ok(Content::U64(path.len() as u64))
         },
     )?);
-    let mut line = Text::empty();
     let taken = settings.add_dynamic_redaction(selector, function);
-    add_taken(alloc, &mut line, taken)?;
-    add_saved(alloc, &mut line, &settings)?;
-    Ok(line)
+    taken_line(alloc, settings, taken)
 }
 
 /// An object that puts its number in place of each value.
@@ -64,10 +74,28 @@ pub(crate) fn object_line(alloc: Global, columns: &str) -> Result<Text, anyhow::
     let (selector, digits) = first_column(columns);
     let number = digits.parse::<u8>().unwrap_or(0);
     let mut settings = Settings::new(alloc)?;
+    with_object(alloc, &mut settings, selector, number)
+}
+
+fn with_object(
+    alloc: Global,
+    settings: &mut Settings,
+    selector: &str,
+    number: u8,
+) -> Result<Text, anyhow::Error> {
     let object = Redaction::Dynamic(Box::new(alloc, Numbered(number))?);
-    let mut line = Text::empty();
     let taken = settings.add_redaction(selector, object);
+    taken_line(alloc, settings, taken)
+}
+
+/// What became of a selector, and the file that is saved with these settings.
+fn taken_line(
+    alloc: Global,
+    settings: &Settings,
+    taken: Result<(), SelectError>,
+) -> Result<Text, anyhow::Error> {
+    let mut line = Text::empty();
     add_taken(alloc, &mut line, taken)?;
-    add_saved(alloc, &mut line, &settings)?;
+    add_saved(alloc, &mut line, settings)?;
     Ok(line)
 }

@@ -9,16 +9,15 @@ use crate::texts::{lent_line, text_line};
 use crate::trees::{copy_line, inside_line, read_line, sort_line};
 use crate::values::value_line;
 use row_lines::first_column;
-use snap_content::{Content, OutOfMemory, Text};
+use snap_content::{Content, Text};
 use std::alloc::Global;
 use tree_lines::tree_of_column;
 
 /// The answer to the question of that name.
 pub(crate) fn answered(alloc: Global, name: &str, columns: &str) -> Result<Text, anyhow::Error> {
     match name {
-        "sort" | "copy" | "held" | "read" => of_one_tree(alloc, name, columns),
+        "sort" | "copy" | "held" | "read" | "inside" => of_one_tree(alloc, name, columns),
         "key" | "key_order" | "order" => of_trees(alloc, name, columns),
-        "inside" => inside(alloc, columns),
         "value" => value_line(alloc, columns),
         "text" => text_line(alloc, columns),
         "lent" => Ok(lent_line(alloc, columns)?),
@@ -27,17 +26,24 @@ pub(crate) fn answered(alloc: Global, name: &str, columns: &str) -> Result<Text,
     }
 }
 
-/// The answer to a question of one tree.
-fn of_one_tree(alloc: Global, name: &str, column: &str) -> Result<Text, anyhow::Error> {
-    let mut tree = tree_of_column(alloc, column)?;
-    told_of_tree(alloc, name, &mut tree)
+/// The answer to a question of one tree, which may need more columns.
+fn of_one_tree(alloc: Global, name: &str, columns: &str) -> Result<Text, anyhow::Error> {
+    let (first, others) = first_column(columns);
+    let mut tree = tree_of_column(alloc, first)?;
+    told_of_tree(alloc, name, &mut tree, others)
 }
 
-fn told_of_tree(alloc: Global, name: &str, tree: &mut Content) -> Result<Text, anyhow::Error> {
+fn told_of_tree(
+    alloc: Global,
+    name: &str,
+    tree: &mut Content,
+    others: &str,
+) -> Result<Text, anyhow::Error> {
     match name {
         "sort" => Ok(sort_line(alloc, tree)?),
         "copy" => Ok(copy_line(alloc, tree)?),
         "held" => held_line(alloc, tree),
+        "inside" => inside_line(alloc, tree, others),
         _ => Ok(read_line(alloc, tree)?),
     }
 }
@@ -45,21 +51,13 @@ fn told_of_tree(alloc: Global, name: &str, tree: &mut Content) -> Result<Text, a
 /// The answer to a question of any number of trees.
 fn of_trees(alloc: Global, name: &str, columns: &str) -> Result<Text, anyhow::Error> {
     let trees = trees_of(alloc, columns)?;
-    Ok(told_of_trees(alloc, name, trees.as_slice())?)
+    told_of_trees(alloc, name, trees.as_slice())
 }
 
-fn told_of_trees(alloc: Global, name: &str, trees: &[Content]) -> Result<Text, OutOfMemory> {
+fn told_of_trees(alloc: Global, name: &str, trees: &[Content]) -> Result<Text, anyhow::Error> {
     match name {
-        "key" => keys_line(alloc, trees),
-        "key_order" => key_orders_line(alloc, trees),
-        _ => orders_line(alloc, trees),
+        "key" => Ok(keys_line(alloc, trees)?),
+        "key_order" => Ok(key_orders_line(alloc, trees)?),
+        _ => Ok(orders_line(alloc, trees)?),
     }
-}
-
-/// The first tree, where the second one is written inside its wrappers.
-fn inside(alloc: Global, columns: &str) -> Result<Text, anyhow::Error> {
-    let (first, second) = first_column(columns);
-    let inner = tree_of_column(alloc, second)?;
-    let tree = tree_of_column(alloc, first)?;
-    Ok(inside_line(alloc, tree, inner)?)
 }

@@ -7,10 +7,14 @@ use tree_lines::{add_column, tree_of_column};
 pub(crate) fn trees_of(alloc: Global, columns: &str) -> Result<Items, anyhow::Error> {
     let mut trees = Items::new(alloc);
     for column in columns.split('\t') {
-        let tree = tree_of_column(alloc, column)?;
-        trees.push(tree)?;
+        push_tree(alloc, &mut trees, column)?;
     }
     Ok(trees)
+}
+
+fn push_tree(alloc: Global, trees: &mut Items, column: &str) -> Result<(), anyhow::Error> {
+    let tree = tree_of_column(alloc, column)?;
+    Ok(trees.push(tree)?)
 }
 
 /// Adds a column with this word, behind a tab where it is not the first.
@@ -34,4 +38,36 @@ pub(crate) fn add_tree_column(
 /// Whether two values are equal, in a word.
 pub(crate) fn equal_or_not(is_equal: bool) -> &'static str {
     if is_equal { "equal" } else { "unequal" }
+}
+
+/// Adds whether a copy is equal, and what the copy is, which ends here.
+pub(crate) fn add_copy(
+    alloc: Global,
+    line: &mut Text,
+    is_equal: bool,
+    copy: Content,
+) -> Result<(), OutOfMemory> {
+    add_compared(alloc, line, is_equal, &copy)
+}
+
+fn add_compared(
+    alloc: Global,
+    line: &mut Text,
+    is_equal: bool,
+    copy: &Content,
+) -> Result<(), OutOfMemory> {
+    add_word(alloc, line, equal_or_not(is_equal))?;
+    add_tree_column(alloc, line, copy)
+}
+
+/// The line of one column with a tree, which ends here. A tree that is alive at an early return makes that dear to prove, so trees are
+/// handed on to where they end.
+pub(crate) fn line_of_tree(alloc: Global, tree: Content) -> Result<Text, OutOfMemory> {
+    tree_line(alloc, &tree)
+}
+
+fn tree_line(alloc: Global, tree: &Content) -> Result<Text, OutOfMemory> {
+    let mut line = Text::empty();
+    add_tree_column(alloc, &mut line, tree)?;
+    Ok(line)
 }

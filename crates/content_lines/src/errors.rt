@@ -13,9 +13,14 @@ pub(crate) fn error_line(alloc: Global, columns: &str) -> Result<Text, anyhow::E
     }
     let path = text_of(alloc, column)?;
     match error_of(name, path) {
-        Some(error) => Ok(told(alloc, &error)?),
+        Some(error) => Ok(told_at_last(alloc, error)?),
         None => Err(AskError::NoError.into()),
     }
+}
+
+/// What is written of an error that ends here.
+fn told_at_last(alloc: Global, error: Error) -> Result<Text, OutOfMemory> {
+    told(alloc, &error)
 }
 
 fn told(alloc: Global, error: &impl Display) -> Result<Text, OutOfMemory> {

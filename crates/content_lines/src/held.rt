@@ -1,5 +1,5 @@
 //! What trees hold: bytes, items, pairs and fields, and copies of these.
-use crate::columns::{add_tree_column, add_word, equal_or_not};
+use crate::columns::add_copy;
 use crate::error::AskError;
 use snap_content::{Blob, Content, Fields, Items, OutOfMemory, Pairs, Text};
 use std::alloc::Global;
@@ -16,49 +16,39 @@ pub(crate) fn held_line(alloc: Global, tree: &Content) -> Result<Text, anyhow::E
 }
 
 fn bytes_line(alloc: Global, bytes: &Blob) -> Result<Text, OutOfMemory> {
+    let mut line = count_line(alloc, bytes.as_slice().len())?;
     let copy = bytes.try_clone(alloc)?;
     let is_equal = copy == *bytes;
-    copied_line(
-        alloc,
-        copy.as_slice().len(),
-        is_equal,
-        &Content::Bytes(copy),
-    )
+    add_copy(alloc, &mut line, is_equal, Content::Bytes(copy))?;
+    Ok(line)
 }
 
 fn items_line(alloc: Global, items: &Items) -> Result<Text, OutOfMemory> {
+    let mut line = count_line(alloc, items.len())?;
     let copy = items.try_clone(alloc)?;
     let is_equal = copy == *items;
-    copied_line(alloc, items.len(), is_equal, &Content::Seq(copy))
+    add_copy(alloc, &mut line, is_equal, Content::Seq(copy))?;
+    Ok(line)
 }
 
 fn pairs_line(alloc: Global, pairs: &Pairs) -> Result<Text, OutOfMemory> {
+    let mut line = count_line(alloc, pairs.len())?;
     let copy = pairs.try_clone(alloc)?;
     let is_equal = copy == *pairs;
-    copied_line(alloc, pairs.len(), is_equal, &Content::Map(copy))
+    add_copy(alloc, &mut line, is_equal, Content::Map(copy))?;
+    Ok(line)
 }
 
 fn fields_line(alloc: Global, fields: &Fields) -> Result<Text, OutOfMemory> {
+    let mut line = count_line(alloc, fields.len())?;
     let copy = fields.try_clone(alloc)?;
     let is_equal = copy == *fields;
-    copied_line(
-        alloc,
-        fields.len(),
-        is_equal,
-        &Content::Struct(Text::empty(), copy),
-    )
+    let copy = Content::Struct(Text::empty(), copy);
+    add_copy(alloc, &mut line, is_equal, copy)?;
+    Ok(line)
 }
 
-fn copied_line(
-    alloc: Global,
-    count: usize,
-    is_equal: bool,
-    copy: &Content,
-) -> Result<Text, OutOfMemory> {
+fn count_line(alloc: Global, count: usize) -> Result<Text, OutOfMemory> {
     let word = format!(in alloc; "{count}")?;
-    let mut line = Text::empty();
-    add_word(alloc, &mut line, word.as_str())?;
-    add_word(alloc, &mut line, equal_or_not(is_equal))?;
-    add_tree_column(alloc, &mut line, copy)?;
-    Ok(line)
+    Text::from_str(alloc, word.as_str())
 }

@@ -3,6 +3,7 @@ use crate::columns::add_word;
 use row_lines::add_escaped;
 use snap_content::{Content, Key, OutOfMemory, Text};
 use std::alloc::Global;
+use std::fmt::Display;
 
 /// What each tree is as a key.
 pub(crate) fn keys_line(alloc: Global, trees: &[Content]) -> Result<Text, OutOfMemory> {
@@ -28,14 +29,24 @@ fn add_key(alloc: Global, line: &mut Text, key: Key<'_>) -> Result<(), OutOfMemo
 
 /// Adds a column with a truth value or a number.
 fn add_plain(alloc: Global, line: &mut Text, key: Key<'_>) -> Result<(), OutOfMemory> {
-    let word = match key {
-        Key::Bool(truth) => format!(in alloc; "Bool {truth}")?,
-        Key::U64(number) => format!(in alloc; "U64 {number}")?,
-        Key::I64(number) => format!(in alloc; "I64 {number}")?,
-        Key::U128(number) => format!(in alloc; "U128 {number}")?,
-        Key::I128(number) => format!(in alloc; "I128 {number}")?,
-        _ => return Ok(()),
-    };
+    match key {
+        Key::Bool(truth) => add_shown(alloc, line, "Bool", &truth),
+        Key::U64(number) => add_shown(alloc, line, "U64", &number),
+        Key::I64(number) => add_shown(alloc, line, "I64", &number),
+        Key::U128(number) => add_shown(alloc, line, "U128", &number),
+        Key::I128(number) => add_shown(alloc, line, "I128", &number),
+        _ => Ok(()),
+    }
+}
+
+/// Adds a column with a kind and a value.
+fn add_shown(
+    alloc: Global,
+    line: &mut Text,
+    kind: &str,
+    value: &impl Display,
+) -> Result<(), OutOfMemory> {
+    let word = format!(in alloc; "{kind} {value}")?;
     add_word(alloc, line, word.as_str())
 }
 

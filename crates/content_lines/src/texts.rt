@@ -59,6 +59,15 @@ pub(crate) fn lent_line(alloc: Global, columns: &str) -> Result<Text, OutOfMemor
     let (first, second) = first_column(columns);
     let held = Lent::owned(text_of(alloc, first)?);
     let (borrowed, other) = (Lent::borrowed(first), Lent::borrowed(second));
+    compared_line(alloc, &borrowed, &held, &other)
+}
+
+fn compared_line(
+    alloc: Global,
+    borrowed: &Lent<'_>,
+    held: &Lent<'_>,
+    other: &Lent<'_>,
+) -> Result<Text, OutOfMemory> {
     let mut line = Text::empty();
     add_word(alloc, &mut line, equal_or_not(borrowed == other))?;
     add_word(alloc, &mut line, equal_or_not(held == other))?;

@@ -1,8 +1,9 @@
 //! Trees that are sorted, copied, read and written into.
-use crate::columns::{add_tree_column, add_word, equal_or_not};
+use crate::columns::{add_copy, add_tree_column, add_word};
 use row_lines::add_text_column;
 use snap_content::{Content, OutOfMemory, Text};
 use std::alloc::Global;
+use tree_lines::tree_of_column;
 
 /// The tree with its maps in order, and what it is when it is sorted once more.
 pub(crate) fn sort_line(alloc: Global, tree: &mut Content) -> Result<Text, OutOfMemory> {
@@ -17,9 +18,9 @@ pub(crate) fn sort_line(alloc: Global, tree: &mut Content) -> Result<Text, OutOf
 /// Whether a copy is equal, and what the copy is.
 pub(crate) fn copy_line(alloc: Global, tree: &Content) -> Result<Text, OutOfMemory> {
     let copy = tree.try_clone(alloc)?;
+    let is_equal = copy == *tree;
     let mut line = Text::empty();
-    add_word(alloc, &mut line, equal_or_not(copy == *tree))?;
-    add_tree_column(alloc, &mut line, &copy)?;
+    add_copy(alloc, &mut line, is_equal, copy)?;
     Ok(line)
 }
 
@@ -36,14 +37,14 @@ pub(crate) fn read_line(alloc: Global, tree: &Content) -> Result<Text, OutOfMemo
     Ok(line)
 }
 
-/// The tree, where the inner one is written inside its wrappers.
+/// The tree, where that of the column is written inside its wrappers.
 pub(crate) fn inside_line(
     alloc: Global,
-    mut tree: Content,
-    inner: Content,
-) -> Result<Text, OutOfMemory> {
-    *tree.resolve_inner_mut() = inner;
+    tree: &mut Content,
+    column: &str,
+) -> Result<Text, anyhow::Error> {
+    *tree.resolve_inner_mut() = tree_of_column(alloc, column)?;
     let mut line = Text::empty();
-    add_tree_column(alloc, &mut line, &tree)?;
+    add_tree_column(alloc, &mut line, tree)?;
     Ok(line)
 }

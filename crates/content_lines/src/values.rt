@@ -1,22 +1,16 @@
 //! Trees that are made of values of std's types and of the house's.
-use crate::columns::add_tree_column;
+use crate::columns::line_of_tree;
 use crate::error::AskError;
 use row_lines::{first_column, text_of};
 use snap_content::{Content, OutOfMemory, Text, ToContent};
 use std::alloc::Global;
+use std::str::FromStr;
 use tree_lines::tree_of_column;
 
 /// The tree that is made of a value of a type, which stands in the other columns.
 pub(crate) fn value_line(alloc: Global, columns: &str) -> Result<Text, anyhow::Error> {
     let (kind, rest) = first_column(columns);
-    let tree = tree_of_value(alloc, kind, rest)?;
-    Ok(tree_line(alloc, &tree)?)
-}
-
-fn tree_line(alloc: Global, tree: &Content) -> Result<Text, OutOfMemory> {
-    let mut line = Text::empty();
-    add_tree_column(alloc, &mut line, tree)?;
-    Ok(line)
+    Ok(line_of_tree(alloc, tree_of_value(alloc, kind, rest)?)?)
 }
 
 /// The tree of a value.
@@ -38,8 +32,11 @@ fn tree_of_value(alloc: Global, kind: &str, rest: &str) -> Result<Content, anyho
 }
 
 fn of_tree(alloc: Global, column: &str) -> Result<Content, anyhow::Error> {
-    let tree = tree_of_column(alloc, column)?;
-    Ok(made(alloc, &tree)?)
+    Ok(made_of(alloc, tree_of_column(alloc, column)?)?)
+}
+
+fn made_of(alloc: Global, tree: Content) -> Result<Content, OutOfMemory> {
+    made(alloc, &tree)
 }
 
 fn of_text(alloc: Global, kind: &str, column: &str) -> Result<Content, OutOfMemory> {
@@ -80,35 +77,39 @@ fn of_character(alloc: Global, column: &str) -> Result<Content, anyhow::Error> {
 }
 
 /// The tree of a number of a type, where the digits are one.
-macro_rules! parsed {
-    ($alloc:expr, $digits:expr, $kind:ty) => {
-        match $digits.parse::<$kind>() {
-            Ok(number) => Ok(made($alloc, &number)?),
-            Err(_) => Err(AskError::NoValue.into()),
-        }
-    };
+fn number_of<T: FromStr + ToContent + Drop>(
+    alloc: Global,
+    digits: &str,
+) -> Result<Content, anyhow::Error>
+where
+    <T as FromStr>::Err: Drop,
+{
+    match digits.parse::<T>() {
+        Ok(number) => Ok(made(alloc, &number)?),
+        Err(_) => Err(AskError::NoValue.into()),
+    }
 }
 
 fn of_number(alloc: Global, kind: &str, digits: &str) -> Result<Content, anyhow::Error> {
     match kind {
-        "u8" => parsed!(alloc, digits, u8),
-        "u16" => parsed!(alloc, digits, u16),
-        "u32" => parsed!(alloc, digits, u32),
-        "u64" => parsed!(alloc, digits, u64),
-        "u128" => parsed!(alloc, digits, u128),
-        "usize" => parsed!(alloc, digits, usize),
+        "u8" => number_of::<u8>(alloc, digits),
+        "u16" => number_of::<u16>(alloc, digits),
+        "u32" => number_of::<u32>(alloc, digits),
+        "u64" => number_of::<u64>(alloc, digits),
+        "u128" => number_of::<u128>(alloc, digits),
+        "usize" => number_of::<usize>(alloc, digits),
         _ => of_signed_number(alloc, kind, digits),
     }
 }
 
 fn of_signed_number(alloc: Global, kind: &str, digits: &str) -> Result<Content, anyhow::Error> {
     match kind {
-        "i8" => parsed!(alloc, digits, i8),
-        "i16" => parsed!(alloc, digits, i16),
-        "i32" => parsed!(alloc, digits, i32),
-        "i64" => parsed!(alloc, digits, i64),
-        "i128" => parsed!(alloc, digits, i128),
-        "isize" => parsed!(alloc, digits, isize),
+        "i8" => number_of::<i8>(alloc, digits),
+        "i16" => number_of::<i16>(alloc, digits),
+        "i32" => number_of::<i32>(alloc, digits),
+        "i64" => number_of::<i64>(alloc, digits),
+        "i128" => number_of::<i128>(alloc, digits),
+        "isize" => number_of::<isize>(alloc, digits),
         _ => of_truth(alloc, kind, digits),
     }
 }

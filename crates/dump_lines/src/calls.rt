@@ -1,6 +1,6 @@
 //! The calls of the emitter, by their names.
 use crate::error::CallError;
-use snap_content::{OutOfMemory, Text};
+use snap_content::{Content, OutOfMemory, Text};
 use snap_emitter::documents::{document_text, push_document};
 use snap_emitter::printing::{print_body, printed_document};
 use snap_emitter::{EmitError, YamlEmitter, written_len};
@@ -41,13 +41,21 @@ fn given_items(alloc: Global, given: &str) -> Result<Array, anyhow::Error> {
 
 fn document(alloc: Global, given: &str) -> Result<Text, anyhow::Error> {
     let value = given_value(alloc, given)?;
-    Ok(document_text(alloc, &value)?)
+    document_of(alloc, &value)
+}
+
+fn document_of(alloc: Global, value: &Yaml) -> Result<Text, anyhow::Error> {
+    Ok(document_text(alloc, value)?)
 }
 
 fn documents(alloc: Global, given: &str) -> Result<Text, anyhow::Error> {
     let items = given_items(alloc, given)?;
+    documents_of(alloc, items.as_slice())
+}
+
+fn documents_of(alloc: Global, items: &[Yaml]) -> Result<Text, anyhow::Error> {
     let mut text = Text::empty();
-    for item in items.as_slice() {
+    for item in items {
         push_document(&mut text, alloc, item)?;
     }
     Ok(text)
@@ -55,8 +63,12 @@ fn documents(alloc: Global, given: &str) -> Result<Text, anyhow::Error> {
 
 fn dumps(alloc: Global, given: &str) -> Result<Text, anyhow::Error> {
     let items = given_items(alloc, given)?;
+    dumps_of(alloc, items.as_slice())
+}
+
+fn dumps_of(alloc: Global, items: &[Yaml]) -> Result<Text, anyhow::Error> {
     let mut text = Text::from_str(alloc, "before\n")?;
-    dump_each(alloc, &mut text, items.as_slice())?;
+    dump_each(alloc, &mut text, items)?;
     Ok(text)
 }
 
@@ -72,19 +84,31 @@ fn dump_each(alloc: Global, text: &mut Text, items: &[Yaml]) -> Result<(), EmitE
 /// How long a scalar is written, in digits.
 fn length(alloc: Global, given: &str) -> Result<Text, anyhow::Error> {
     let value = given_value(alloc, given)?;
-    let digits = format!(in alloc; "{}", written_len(&value))?;
+    digits_of(alloc, written_len(&value))
+}
+
+fn digits_of(alloc: Global, number: u128) -> Result<Text, anyhow::Error> {
+    let digits = format!(in alloc; "{number}")?;
     Ok(Text::from_str(alloc, digits.as_str())?)
 }
 
 fn printed(alloc: Global, given: &str) -> Result<Text, anyhow::Error> {
     let tree = tree_of_line(alloc, given)?;
-    Ok(printed_document(alloc, &tree)?)
+    printed_of(alloc, &tree)
+}
+
+fn printed_of(alloc: Global, tree: &Content) -> Result<Text, anyhow::Error> {
+    Ok(printed_document(alloc, tree)?)
 }
 
 /// The lines of a tree, without `---`.
 fn tree_body(alloc: Global, given: &str) -> Result<Text, anyhow::Error> {
     let tree = tree_of_line(alloc, given)?;
+    body_of(alloc, &tree)
+}
+
+fn body_of(alloc: Global, tree: &Content) -> Result<Text, anyhow::Error> {
     let mut text = Text::empty();
-    print_body(&mut text, alloc, &tree)?;
+    print_body(&mut text, alloc, tree)?;
     Ok(text)
 }

@@ -33,11 +33,16 @@ fn dumped(alloc: Global, value: &Yaml) -> Result<Text, EmitError> {
 
 /// The line of a value.
 fn value_line(alloc: Global, line: &str) -> Result<Text, anyhow::Error> {
-    let mut told = Text::empty();
-    if let Some(value) = value_of_line(alloc, line)? {
-        let text = dumped(alloc, &value)?;
-        add_escaped(alloc, &mut told, text.as_str())?;
+    match value_of_line(alloc, line)? {
+        Some(value) => dump_line(alloc, &value),
+        None => Ok(Text::empty()),
     }
+}
+
+fn dump_line(alloc: Global, value: &Yaml) -> Result<Text, anyhow::Error> {
+    let text = dumped(alloc, value)?;
+    let mut told = Text::empty();
+    add_escaped(alloc, &mut told, text.as_str())?;
     Ok(told)
 }
 

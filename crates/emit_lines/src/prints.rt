@@ -1,5 +1,5 @@
 //! What is printed of trees: of one that stands on the line, and of one that a text is read as.
-use crate::refusals::add_refusal;
+use crate::refusals::refusal_line;
 use row_lines::add_escaped;
 use snap_content::{Content, OutOfMemory, Text};
 use snap_emit::{parse_str, to_string};
@@ -8,31 +8,31 @@ use tree_lines::{LineError, tree_of_line};
 
 /// What is printed of the tree of which these are the words.
 pub(crate) fn tree_line(alloc: Global, words: &str) -> Result<Text, OutOfMemory> {
-    let mut line = Text::empty();
     match tree_of_line(alloc, words) {
-        Ok(tree) => add_printed(alloc, &mut line, &tree)?,
-        Err(error) => add_no_tree(alloc, &mut line, error)?,
+        Ok(tree) => printed_line(alloc, tree),
+        Err(LineError::NoTree) => Text::from_ascii(alloc, "! NoTree"),
+        Err(LineError::OutOfMemory) => Err(OutOfMemory),
     }
-    Ok(line)
 }
 
-/// After want of memory there is no line.
-fn add_no_tree(alloc: Global, line: &mut Text, error: LineError) -> Result<(), OutOfMemory> {
-    match error {
-        LineError::NoTree => line.push_ascii(alloc, "! NoTree"),
-        LineError::OutOfMemory => Err(OutOfMemory),
-    }
+/// What is printed of a tree, which ends here. A tree that is alive at an early return makes that dear to prove.
+fn printed_line(alloc: Global, tree: Content) -> Result<Text, OutOfMemory> {
+    line_of_tree(alloc, &tree)
+}
+
+fn line_of_tree(alloc: Global, tree: &Content) -> Result<Text, OutOfMemory> {
+    let mut line = Text::empty();
+    add_printed(alloc, &mut line, tree)?;
+    Ok(line)
 }
 
 /// What is printed of the tree that a text is read as, or why it is refused.
 pub(crate) fn read_line(alloc: Global, text: &str) -> Result<Text, OutOfMemory> {
     let path = Text::from_str(alloc, "a.snap")?;
-    let mut line = Text::empty();
     match parse_str(alloc, text, &path) {
-        Ok(tree) => add_printed(alloc, &mut line, &tree)?,
-        Err(error) => add_refusal(alloc, &mut line, &error)?,
+        Ok(tree) => printed_line(alloc, tree),
+        Err(error) => refusal_line(alloc, &error),
     }
-    Ok(line)
 }
 
 /// Adds what is printed of a tree.

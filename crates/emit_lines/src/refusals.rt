@@ -3,12 +3,15 @@ use row_lines::add_escaped;
 use snap_content::{Error, OutOfMemory, Text};
 use std::alloc::Global;
 
+/// The line of a refusal alone.
+pub(crate) fn refusal_line(alloc: Global, error: &Error) -> Result<Text, OutOfMemory> {
+    let mut line = Text::empty();
+    add_refusal(alloc, &mut line, error)?;
+    Ok(line)
+}
+
 /// Adds `!`, the name of the error and the path in it. After want of memory there is no line.
-pub(crate) fn add_refusal(
-    alloc: Global,
-    line: &mut Text,
-    error: &Error,
-) -> Result<(), OutOfMemory> {
+fn add_refusal(alloc: Global, line: &mut Text, error: &Error) -> Result<(), OutOfMemory> {
     match error {
         Error::FailedParsingYaml(path) => add_named(alloc, line, "! FailedParsingYaml ", path),
         Error::FloatText(path) => add_named(alloc, line, "! FloatText ", path),

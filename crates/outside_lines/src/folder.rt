@@ -20,9 +20,18 @@ pub(crate) fn folder_line<R: Files + Alloc>(
     columns: &str,
 ) -> Result<Text, OutOfMemory> {
     let mut store = FolderStore::new(files);
+    steps_line(files, alloc, &mut store, columns)
+}
+
+fn steps_line<R: Files + Alloc>(
+    files: &R,
+    alloc: Global,
+    store: &mut FolderStore<&R>,
+    columns: &str,
+) -> Result<Text, OutOfMemory> {
     let mut line = Text::empty();
     for step in columns.split('\t') {
-        add_step(files, alloc, &mut line, &mut store, step)?;
+        add_step(files, alloc, &mut line, store, step)?;
     }
     Ok(line)
 }
@@ -72,8 +81,17 @@ pub(crate) fn long_names_line<R: Files + Alloc>(
     let (folder, digits) = first_column(columns);
     let count = digits.parse::<u32>().unwrap_or(0);
     let mut store = FolderStore::new(files);
+    long_names_in(alloc, &mut store, folder, count)
+}
+
+fn long_names_in<S: Store>(
+    alloc: Global,
+    store: &mut S,
+    folder: &str,
+    count: u32,
+) -> Result<Text, OutOfMemory> {
     let mut line = Text::empty();
-    let written = long_names_written(alloc, &mut store, folder, count)?;
+    let written = long_names_written(alloc, store, folder, count)?;
     add_number_column(alloc, &mut line, "written", written)?;
     let names = store.list(alloc, &text_of(alloc, folder)?);
     add_listed_count(alloc, &mut line, names)?;

@@ -20,9 +20,13 @@ fn add_held(alloc: Global, line: &mut Text, held: Option<&[u8]>) -> Result<(), O
 /// The answers of a store of which the listed calls fail.
 pub(crate) fn memory_line(alloc: Global, columns: &str) -> Result<Text, OutOfMemory> {
     let mut store = MemoryStore::new(alloc);
+    steps_line(alloc, &mut store, columns)
+}
+
+fn steps_line(alloc: Global, store: &mut MemoryStore, columns: &str) -> Result<Text, OutOfMemory> {
     let mut line = Text::empty();
     for step in columns.split('\t') {
-        add_step(alloc, &mut line, &mut store, step)?;
+        add_step(alloc, &mut line, store, step)?;
     }
     Ok(line)
 }
@@ -62,9 +66,17 @@ fn add_put(
 /// The answers of a store that never fails.
 pub(crate) fn steady_line(alloc: Global, columns: &str) -> Result<Text, OutOfMemory> {
     let mut store = SteadyStore::new(alloc);
+    steady_steps_line(alloc, &mut store, columns)
+}
+
+fn steady_steps_line(
+    alloc: Global,
+    store: &mut SteadyStore,
+    columns: &str,
+) -> Result<Text, OutOfMemory> {
     let mut line = Text::empty();
     for step in columns.split('\t') {
-        add_steady_step(alloc, &mut line, &mut store, step)?;
+        add_steady_step(alloc, &mut line, store, step)?;
     }
     Ok(line)
 }

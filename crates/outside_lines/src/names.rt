@@ -35,11 +35,20 @@ fn order_word(order: Ordering) -> &'static str {
 pub(crate) fn names_line(alloc: Global, columns: &str) -> Result<Text, OutOfMemory> {
     let (left, right) = first_column(columns);
     let names = names_of(alloc, left)?;
-    let others = Names::from_vec(words_of(alloc, right)?);
-    let mut line = Text::from_str(alloc, order_word(names.cmp(&others)))?;
+    let mut line = compared_line(alloc, &names, right)?;
+    add_number_column(alloc, &mut line, "names", names.into_vec().len() as u64)?;
+    Ok(line)
+}
+
+fn compared_line(alloc: Global, names: &Names, column: &str) -> Result<Text, OutOfMemory> {
+    let others = Names::from_vec(words_of(alloc, column)?);
+    told_line(alloc, names, &others)
+}
+
+fn told_line(alloc: Global, names: &Names, others: &Names) -> Result<Text, OutOfMemory> {
+    let mut line = Text::from_str(alloc, order_word(names.cmp(others)))?;
     let same = if names == others { "same" } else { "other" };
     add_text_column(alloc, &mut line, same)?;
-    add_number_column(alloc, &mut line, "names", names.into_vec().len() as u64)?;
     Ok(line)
 }
 

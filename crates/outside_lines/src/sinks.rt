@@ -39,9 +39,13 @@ pub(crate) fn add_writes<S: Sink>(
 /// What a sink of which the listed calls fail takes.
 pub(crate) fn memory_sink_line(alloc: Global, columns: &str) -> Result<Text, OutOfMemory> {
     let mut sink = MemorySink::new(alloc);
+    steps_line(alloc, &mut sink, columns)
+}
+
+fn steps_line(alloc: Global, sink: &mut MemorySink, columns: &str) -> Result<Text, OutOfMemory> {
     let mut line = Text::empty();
     for step in columns.split('\t') {
-        add_step(alloc, &mut line, &mut sink, step)?;
+        add_step(alloc, &mut line, sink, step)?;
     }
     add_bytes(alloc, &mut line, sink.written())?;
     Ok(line)

@@ -83,10 +83,19 @@ fn held_of(alloc: Global, column: &str) -> Result<Blob, OutOfMemory> {
 pub(crate) fn memory_source_line(alloc: Global, columns: &str) -> Result<Text, OutOfMemory> {
     let (said, held) = first_column(columns);
     let reading = reading_of(said);
+    let failing = vec![in alloc; reading.fail]?;
     let mut source = MemorySource::new(held_of(alloc, held)?, reading.piece);
-    source.fail_at(vec![in alloc; reading.fail]?);
+    source.fail_at(failing);
+    reads_line(alloc, &mut source, reading)
+}
+
+fn reads_line<S: Source>(
+    alloc: Global,
+    source: &mut S,
+    reading: Reading,
+) -> Result<Text, OutOfMemory> {
     let mut line = Text::empty();
-    add_reads(alloc, &mut line, &mut source, reading)?;
+    add_reads(alloc, &mut line, source, reading)?;
     Ok(line)
 }
 
@@ -95,7 +104,5 @@ pub(crate) fn steady_source_line(alloc: Global, columns: &str) -> Result<Text, O
     let (said, held) = first_column(columns);
     let reading = reading_of(said);
     let mut source = SteadySource::new(held_of(alloc, held)?, reading.piece);
-    let mut line = Text::empty();
-    add_reads(alloc, &mut line, &mut source, reading)?;
-    Ok(line)
+    reads_line(alloc, &mut source, reading)
 }

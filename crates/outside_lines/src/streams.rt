@@ -3,7 +3,7 @@ use crate::sinks::{add_write, add_writes};
 use crate::sources::{Reading, add_reads, reading_of};
 use row_lines::{first_column, text_of};
 use snap_content::{OutOfMemory, Text};
-use snap_outside::{StreamSink, StreamSource};
+use snap_outside::{Sink, Source, StreamSink, StreamSource};
 use std::alloc::Global;
 use std::fs::Files;
 use std::io::{BufWriter, ErrorKind, Read, Write};
@@ -113,15 +113,44 @@ pub(crate) fn file_line<R: Files + Alloc>(
     columns: &str,
 ) -> Result<Text, anyhow::Error> {
     let (path, texts) = first_column(columns);
+    let line = through_file(files, alloc, path, texts)?;
+    fs::remove_file(files, path)?;
+    Ok(line)
+}
+
+fn through_file<R: Files + Alloc>(
+    files: &R,
+    alloc: Global,
+    path: &str,
+    texts: &str,
+) -> Result<Text, anyhow::Error> {
     let file = fs::create(files, path)?;
     let mut sink = StreamSink::new(BufWriter::new(alloc, file)?);
+    with_sink(files, alloc, &mut sink, path, texts)
+}
+
+fn with_sink<R: Files + Alloc, S: Sink>(
+    files: &R,
+    alloc: Global,
+    sink: &mut S,
+    path: &str,
+    texts: &str,
+) -> Result<Text, anyhow::Error> {
     let mut source = StreamSource::new(fs::open(files, path)?);
+    with_both(alloc, sink, &mut source, texts)
+}
+
+fn with_both<S: Sink, T: Source>(
+    alloc: Global,
+    sink: &mut S,
+    source: &mut T,
+    texts: &str,
+) -> Result<Text, anyhow::Error> {
     let mut line = Text::empty();
     for text in texts.split('\t') {
-        add_write(alloc, &mut line, &mut sink, text)?;
-        add_reads(alloc, &mut line, &mut source, three_reads())?;
+        add_write(alloc, &mut line, sink, text)?;
+        add_reads(alloc, &mut line, source, three_reads())?;
     }
-    fs::remove_file(files, path)?;
     Ok(line)
 }
 

@@ -3,6 +3,7 @@ use row_lines::add_escaped;
 use snap_content::{Content, Error, Items, OutOfMemory, Pairs, Text};
 use snap_emit::parse_str;
 use std::alloc::Global;
+use std::fmt::Display;
 
 /// The words of the tree that a text is read as, a tab behind each and a collection behind what it holds; or `!` and why there is
 /// none.
@@ -10,20 +11,24 @@ use std::alloc::Global;
 /// `n` is null, `t` and `f` are truths, a number stands behind the name of its kind, a text behind `s`; `a` and how many of the
 /// trees before it are the items; `h` and how many pairs of the trees before it are the entries.
 pub(crate) fn tree_line(alloc: Global, text: &str) -> Result<Text, OutOfMemory> {
-    let mut line = Text::empty();
     match parse_str(alloc, text, &Text::empty()) {
-        Ok(content) => add_tree(alloc, &mut line, &content)?,
-        Err(error) => add_refusal(alloc, &mut line, &error)?,
+        Ok(content) => words_of(alloc, &content),
+        Err(error) => refusal_line(alloc, &error),
     }
+}
+
+fn words_of(alloc: Global, content: &Content) -> Result<Text, OutOfMemory> {
+    let mut line = Text::empty();
+    add_tree(alloc, &mut line, content)?;
     Ok(line)
 }
 
 /// After want of memory there is no line.
-fn add_refusal(alloc: Global, line: &mut Text, error: &Error) -> Result<(), OutOfMemory> {
+fn refusal_line(alloc: Global, error: &Error) -> Result<Text, OutOfMemory> {
     match error {
         Error::OutOfMemory => Err(OutOfMemory),
-        Error::FloatText(_) => line.push_ascii(alloc, "! FloatText"),
-        _ => line.push_ascii(alloc, "! FailedParsingYaml"),
+        Error::FloatText(_) => Text::from_ascii(alloc, "! FloatText"),
+        _ => Text::from_ascii(alloc, "! FailedParsingYaml"),
     }
 }
 
@@ -45,7 +50,7 @@ fn add_items(alloc: Global, line: &mut Text, items: &Items) -> Result<(), OutOfM
     for item in items.as_slice() {
         add_tree(alloc, line, item)?;
     }
-    add_count(alloc, line, "a", items.len())
+    add_counted(alloc, line, "a", &items.len())
 }
 
 #[cycle(words)]
@@ -54,11 +59,16 @@ fn add_pairs(alloc: Global, line: &mut Text, pairs: &Pairs) -> Result<(), OutOfM
         add_tree(alloc, line, key)?;
         add_tree(alloc, line, value)?;
     }
-    add_count(alloc, line, "h", pairs.len())
+    add_counted(alloc, line, "h", &pairs.len())
 }
 
-fn add_count(alloc: Global, line: &mut Text, word: &str, count: usize) -> Result<(), OutOfMemory> {
-    let counted = format!(in alloc; "{word}{count}\t")?;
+fn add_counted(
+    alloc: Global,
+    line: &mut Text,
+    word: &str,
+    number: &impl Display,
+) -> Result<(), OutOfMemory> {
+    let counted = format!(in alloc; "{word}{number}\t")?;
     line.push_str(alloc, counted.as_str())
 }
 
@@ -70,12 +80,11 @@ fn add_text(alloc: Global, line: &mut Text, text: &str) -> Result<(), OutOfMemor
 
 /// A reader makes numbers of these kinds alone.
 fn add_number(alloc: Global, line: &mut Text, number: &Content) -> Result<(), OutOfMemory> {
-    let word = match number {
-        Content::I64(number) => format!(in alloc; "I64 {number}\t")?,
-        Content::U64(number) => format!(in alloc; "U64 {number}\t")?,
-        Content::I128(number) => format!(in alloc; "I128 {number}\t")?,
-        Content::U128(number) => format!(in alloc; "U128 {number}\t")?,
-        _ => format!(in alloc; "?\t")?,
-    };
-    line.push_str(alloc, word.as_str())
+    match number {
+        Content::I64(number) => add_counted(alloc, line, "I64 ", number),
+        Content::U64(number) => add_counted(alloc, line, "U64 ", number),
+        Content::I128(number) => add_counted(alloc, line, "I128 ", number),
+        Content::U128(number) => add_counted(alloc, line, "U128 ", number),
+        _ => line.push_ascii(alloc, "?\t"),
+    }
 }

@@ -17,11 +17,22 @@ pub(crate) fn called(alloc: Global, row: &str) -> Result<Text, OutOfMemory> {
     let (call, columns) = first_column(row);
     let path = Text::from_ascii(alloc, "p")?;
     let mut store = MemoryStore::new(alloc);
+    called_in(alloc, &mut store, &path, call, columns)
+}
+
+/// The same in a store that is lent: where it is alive at an early return, that is dear to prove.
+fn called_in(
+    alloc: Global,
+    store: &mut MemoryStore,
+    path: &Text,
+    call: &str,
+    columns: &str,
+) -> Result<Text, OutOfMemory> {
     let end = match call {
-        "save" => saved(alloc, &mut store, &path, columns),
-        "again" => saved_again(alloc, &mut store, &path, columns),
-        "steps" => taken(alloc, &mut store, &path, columns),
+        "save" => saved(alloc, store, path, columns),
+        "again" => saved_again(alloc, store, path, columns),
+        "steps" => taken(alloc, store, path, columns),
         _ => return Text::from_ascii(alloc, "no call"),
     };
-    store_line(alloc, &store, &path, end)
+    store_line(alloc, store, path, &end)
 }

@@ -9,13 +9,13 @@ pub(crate) fn store_line(
     alloc: Global,
     store: &MemoryStore,
     path: &Text,
-    end: Result<(), Error>,
+    end: &Result<(), Error>,
 ) -> Result<Text, OutOfMemory> {
     let counted = format!(in alloc; "{}\t{}\t", store.faults(), store.len())?;
     let mut line = Text::from_str(alloc, counted.as_str())?;
     match end {
         Ok(()) => add_file(alloc, &mut line, store.get(path))?,
-        Err(error) => add_refusal(alloc, &mut line, &error)?,
+        Err(error) => add_refusal(alloc, &mut line, error)?,
     }
     Ok(line)
 }

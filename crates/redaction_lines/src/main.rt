@@ -11,36 +11,52 @@
 mod redactions;
 mod replacements;
 
-use crate::redactions::redacted;
+use crate::redactions::redact_each;
 use row_lines::{add_escaped, answer_rows, first_column};
 use snap_content::{Content, Text};
 use snap_json::to_string;
 use std::alloc::Global;
-use tree_lines::add_column;
+use tree_lines::{add_column, tree_of_column};
 
-/// Adds a tree in a layout.
-fn add_laid_out(
-    alloc: Global,
-    line: &mut Text,
-    layout: &str,
-    tree: &Content,
-) -> Result<(), anyhow::Error> {
+/// The condensed text of a tree, as it stands on a line.
+fn json_line(alloc: Global, tree: &Content) -> Result<Text, anyhow::Error> {
+    let text = to_string(alloc, tree)?;
+    let mut line = Text::empty();
+    add_escaped(alloc, &mut line, text.as_str())?;
+    Ok(line)
+}
+
+/// A tree in a layout.
+fn laid_out(alloc: Global, layout: &str, tree: &Content) -> Result<Text, anyhow::Error> {
     match layout {
-        "json" => {
-            let text = to_string(alloc, tree)?;
-            Ok(add_escaped(alloc, line, text.as_str())?)
-        }
-        _ => Ok(add_column(alloc, line, tree)?),
+        "json" => json_line(alloc, tree),
+        _ => tree_line(alloc, tree),
     }
+}
+
+fn tree_line(alloc: Global, tree: &Content) -> Result<Text, anyhow::Error> {
+    let mut line = Text::empty();
+    add_column(alloc, &mut line, tree)?;
+    Ok(line)
 }
 
 /// The line that answers a line.
 fn answer(alloc: Global, line: &str) -> Result<Text, anyhow::Error> {
     let (layout, columns) = first_column(line);
-    let tree = redacted(alloc, columns)?;
-    let mut told = Text::empty();
-    add_laid_out(alloc, &mut told, layout, &tree)?;
-    Ok(told)
+    let (first, others) = first_column(columns);
+    let mut tree = tree_of_column(alloc, first)?;
+    answer_with(alloc, layout, &mut tree, others)
+}
+
+/// The same with a tree that is lent: where it is alive at an early return, that is dear to prove.
+fn answer_with(
+    alloc: Global,
+    layout: &str,
+    tree: &mut Content,
+    redactions: &str,
+) -> Result<Text, anyhow::Error> {
+    redact_each(alloc, tree, redactions)?;
+    laid_out(alloc, layout, tree)
 }
 
 fn main(rt: HostRuntime) -> Result<(), anyhow::Error> {

@@ -7,6 +7,7 @@
 use snap_content::{Content, Items, OutOfMemory};
 use snap_select::{Answers, ContentPath, FnRedactor, PathItem, Redaction, Redactor, Selector};
 use std::alloc::Global;
+use std::mem;
 use thiserror::Error;
 use tree_lines::tree_of_column;
 
@@ -15,15 +16,15 @@ use tree_lines::tree_of_column;
 #[error("NoReplacement")]
 pub(crate) struct NoReplacement;
 
-/// The tree with what is named in place of what the selector hits.
+/// Puts what is named in place of what the selector hits.
 pub(crate) fn put(
     alloc: Global,
-    tree: Content,
+    tree: &mut Content,
     selector: &Selector<'_>,
     name: &str,
-) -> Result<Content, anyhow::Error> {
+) -> Result<(), anyhow::Error> {
     match name {
-        "sorted" => Ok(selector.redact(alloc, tree, &Redaction::Sorted)?),
+        "sorted" => Ok(redact(alloc, tree, selector, Redaction::Sorted)?),
         "depth" => Ok(put_depth(alloc, tree, selector)?),
         "listed" => Ok(put_listed(alloc, tree, selector)?),
         "none" => Ok(put_none(alloc, tree, selector)?),
@@ -31,17 +32,38 @@ pub(crate) fn put(
     }
 }
 
+/// Makes of a tree what a redaction does, which ends here.
+fn redact(
+    alloc: Global,
+    tree: &mut Content,
+    selector: &Selector<'_>,
+    redaction: Redaction,
+) -> Result<(), OutOfMemory> {
+    redact_by(alloc, tree, selector, &redaction)
+}
+
+fn redact_by(
+    alloc: Global,
+    tree: &mut Content,
+    selector: &Selector<'_>,
+    redaction: &Redaction,
+) -> Result<(), OutOfMemory> {
+    let whole = mem::replace(tree, Content::Unit);
+    *tree = selector.redact(alloc, whole, redaction)?;
+    Ok(())
+}
+
 fn put_tree(
     alloc: Global,
-    tree: Content,
+    tree: &mut Content,
     selector: &Selector<'_>,
     name: &str,
-) -> Result<Content, anyhow::Error> {
+) -> Result<(), anyhow::Error> {
     let Some(words) = name.strip_prefix("put ") else {
         return Err(NoReplacement.into());
     };
     let redaction = Redaction::from_content(tree_of_column(alloc, words)?);
-    Ok(selector.redact(alloc, tree, &redaction)?)
+    Ok(redact(alloc, tree, selector, redaction)?)
 }
 
 /// Puts the number of steps to it in place of each value.
@@ -66,18 +88,18 @@ impl Redactor for Depth {
 
 fn put_depth(
     alloc: Global,
-    tree: Content,
+    tree: &mut Content,
     selector: &Selector<'_>,
-) -> Result<Content, OutOfMemory> {
+) -> Result<(), OutOfMemory> {
     let redaction = Redaction::Dynamic(Box::new(alloc, Depth)?);
-    selector.redact(alloc, tree, &redaction)
+    redact(alloc, tree, selector, redaction)
 }
 
 fn put_listed(
     alloc: Global,
-    tree: Content,
+    tree: &mut Content,
     selector: &Selector<'_>,
-) -> Result<Content, OutOfMemory> {
+) -> Result<(), OutOfMemory> {
     let function = FnRedactor::new(Box::new(
         alloc,
         |alloc: Global, value: Content, _path: &[PathItem]| -> Result<Content, OutOfMemory> {
@@ -86,7 +108,7 @@ fn put_listed(
             Ok(Content::Seq(items))
         },
     )?);
-    selector.redact(alloc, tree, &Redaction::Function(function))
+    redact(alloc, tree, selector, Redaction::Function(function))
 }
 
 /// Each answer is no value.
@@ -99,12 +121,12 @@ impl Answers for EachNone {
     ghost answers = { λ _ _ out. out ≡ t.none };
 }
 
-fn put_none(alloc: Global, tree: Content, selector: &Selector<'_>) -> Result<Content, OutOfMemory> {
+fn put_none(alloc: Global, tree: &mut Content, selector: &Selector<'_>) -> Result<(), OutOfMemory> {
     let function = FnRedactor::promising::<EachNone>(Box::new(
         alloc,
         |_alloc: Global, _value: Content, _path: &[PathItem]| -> Result<Content, OutOfMemory> {
             Ok(Content::None)
         },
     )?);
-    selector.redact(alloc, tree, &Redaction::Function(function))
+    redact(alloc, tree, selector, Redaction::Function(function))
 }

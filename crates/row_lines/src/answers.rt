@@ -38,21 +38,39 @@ fn answer_each<R: Read + Drop, W: Write + Drop, A: Fn(Global, &str) -> Result<Te
     let mut out = BufWriter::new(alloc, output)?;
     let input = BufReader::new(alloc, input)?;
     for line in input.lines(alloc) {
-        let line = line?;
-        if are_rows && line.as_str().starts_with("# ") {
-            writeln!(out, "{}", line.as_str())?;
-            continue;
-        }
-        match answer(alloc, line.as_str()) {
-            Ok(told) => writeln!(out, "{}", told.as_str())?,
-            Err(error) => {
-                if !are_rows {
-                    return Err(error);
-                }
-                writeln!(out, "! {error}")?;
-            }
-        }
+        write_answer(alloc, &mut out, line?.as_str(), are_rows, &answer)?;
     }
     out.flush()?;
+    Ok(())
+}
+
+/// Writes what one line is answered with.
+fn write_answer<W: Write, A: Fn(Global, &str) -> Result<Text, anyhow::Error>>(
+    alloc: Global,
+    out: &mut W,
+    line: &str,
+    are_rows: bool,
+    answer: &A,
+) -> Result<(), anyhow::Error>
+    requires { A.IsAlwaysCallable answer.now }
+{
+    if are_rows && line.starts_with("# ") {
+        writeln!(out, "{}", line)?;
+        return Ok(());
+    }
+    match answer(alloc, line) {
+        Ok(told) => write_text(out, &told),
+        Err(error) if are_rows => write_refusal(out, &error),
+        Err(error) => Err(error),
+    }
+}
+
+fn write_text<W: Write>(out: &mut W, told: &Text) -> Result<(), anyhow::Error> {
+    writeln!(out, "{}", told.as_str())?;
+    Ok(())
+}
+
+fn write_refusal<W: Write>(out: &mut W, error: &anyhow::Error) -> Result<(), anyhow::Error> {
+    writeln!(out, "! {error}")?;
     Ok(())
 }

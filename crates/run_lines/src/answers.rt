@@ -32,10 +32,20 @@ pub(crate) fn add_files<F: Store>(
     let folder = Text::from_str(alloc, FOLDER)?;
     let names = store.list(alloc, &folder)?;
     for name in names.as_slice() {
-        let path = format!(in alloc; "{FOLDER}/{}", name.as_str())?;
-        add_file(alloc, line, store, path.as_str())?;
+        add_named_file(alloc, line, store, name)?;
     }
     Ok(())
+}
+
+/// The same of the file of this name.
+fn add_named_file<F: Store>(
+    alloc: Global,
+    line: &mut Text,
+    store: &mut F,
+    name: &Text,
+) -> Result<(), anyhow::Error> {
+    let path = format!(in alloc; "{FOLDER}/{}", name.as_str())?;
+    add_file(alloc, line, store, path.as_str())
 }
 
 /// Adds the path and the bytes of a file.

@@ -9,26 +9,29 @@ use std::alloc::Global;
 
 /// The store of the files before.
 fn store_of(alloc: Global, case: Case<'_>) -> Result<MemoryStore, OutOfMemory> {
+    let failing = vec![in alloc; case.outside.store]?;
     let mut store = MemoryStore::new(alloc);
     for (path, bytes) in files_of(alloc, case.files)? {
         store.put(&path, bytes.as_str().as_bytes())?;
     }
-    store.fail_at(vec![in alloc; case.outside.store]?);
+    store.fail_at(failing);
     Ok(store)
 }
 
 /// The source of the input.
 fn source_of(alloc: Global, case: Case<'_>) -> Result<MemorySource, OutOfMemory> {
+    let failing = vec![in alloc; case.outside.read]?;
     let input = input_of(alloc, case.input)?;
     let mut source = MemorySource::new(input, case.outside.piece);
-    source.fail_at(vec![in alloc; case.outside.read]?);
+    source.fail_at(failing);
     Ok(source)
 }
 
 /// The sink of the lines.
 fn sink_of(alloc: Global, case: Case<'_>) -> Result<MemorySink, OutOfMemory> {
+    let failing = vec![in alloc; case.outside.write]?;
     let mut sink = MemorySink::new(alloc);
-    sink.fail_at(vec![in alloc; case.outside.write]?);
+    sink.fail_at(failing);
     Ok(sink)
 }
 
@@ -58,10 +61,19 @@ fn add_store(alloc: Global, line: &mut Text, store: &mut MemoryStore) -> Result<
 pub(crate) fn run_line(alloc: Global, columns: &str) -> Result<Text, anyhow::Error> {
     let case = case_of(columns);
     let mut store = store_of(alloc, case)?;
+    runs_line(alloc, case, &mut store)
+}
+
+/// The same over a store that is lent: where it is alive at an early return, that is dear to prove.
+fn runs_line(
+    alloc: Global,
+    case: Case<'_>,
+    store: &mut MemoryStore,
+) -> Result<Text, anyhow::Error> {
     let mut line = Text::empty();
     for _run in 0..case.outside.times {
-        add_run(alloc, &mut line, case, &mut store)?;
+        add_run(alloc, &mut line, case, store)?;
     }
-    add_store(alloc, &mut line, &mut store)?;
+    add_store(alloc, &mut line, store)?;
     Ok(line)
 }

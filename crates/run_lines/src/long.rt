@@ -6,7 +6,7 @@ use crate::cases::words_of;
 use row_lines::{add_number_column, first_column};
 use snap_content::Text;
 use snap_outside::{Fault, MemorySink, MemoryStore, Source};
-use snap_run::run;
+use snap_run::{Status, run};
 use std::alloc::Global;
 
 /// So many line ends. It tells nothing of them.
@@ -37,10 +37,20 @@ pub(crate) fn long_line(alloc: Global, columns: &str) -> Result<Text, anyhow::Er
     };
     let mut sink = MemorySink::new(alloc);
     let mut store = MemoryStore::new(alloc);
-    let mut line = Text::empty();
     let status = run(alloc, &words, &mut source, &mut sink, &mut store);
-    add_ending(alloc, &mut line, &status, sink.written())?;
-    add_number_column(alloc, &mut line, "files", store.len() as u64)?;
-    add_number_column(alloc, &mut line, "left", source.left as u64)?;
+    ended_line(alloc, &status, sink.written(), store.len(), source.left)
+}
+
+fn ended_line(
+    alloc: Global,
+    status: &Status,
+    written: &[u8],
+    files: usize,
+    left: usize,
+) -> Result<Text, anyhow::Error> {
+    let mut line = Text::empty();
+    add_ending(alloc, &mut line, status, written)?;
+    add_number_column(alloc, &mut line, "files", files as u64)?;
+    add_number_column(alloc, &mut line, "left", left as u64)?;
     Ok(line)
 }

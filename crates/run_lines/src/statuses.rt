@@ -61,6 +61,10 @@ fn status_of(alloc: Global, columns: &str) -> Result<Status, OutOfMemory> {
 /// The exit status of a status, and what it says.
 pub(crate) fn status_line(alloc: Global, columns: &str) -> Result<Text, anyhow::Error> {
     let status = status_of(alloc, columns)?;
+    told_line(alloc, &status)
+}
+
+fn told_line(alloc: Global, status: &Status) -> Result<Text, anyhow::Error> {
     let mut line = Text::empty();
     add_number_column(alloc, &mut line, "status", u64::from(status.code()))?;
     let said = status.describe(alloc)?;
@@ -71,10 +75,10 @@ pub(crate) fn status_line(alloc: Global, columns: &str) -> Result<Text, anyhow::
 /// The exit status that ends the program with a status, and what the sink of errors is told.
 pub(crate) fn conclude_line(alloc: Global, columns: &str) -> Result<Text, anyhow::Error> {
     let status = status_of(alloc, columns)?;
-    Ok(concluded(alloc, &status)?)
+    concluded_line(alloc, &status)
 }
 
-fn concluded(alloc: Global, status: &Status) -> Result<Text, OutOfMemory> {
+fn concluded_line(alloc: Global, status: &Status) -> Result<Text, anyhow::Error> {
     let mut errors = SteadySink::new(alloc);
     let code = conclude(alloc, status, &mut errors);
     let mut line = Text::empty();

@@ -34,11 +34,19 @@ fn add_run(
 pub(crate) fn steady_line(alloc: Global, columns: &str) -> Result<Text, anyhow::Error> {
     let case = case_of(columns);
     let mut store = store_of(alloc, case)?;
+    runs_line(alloc, case, &mut store)
+}
+
+fn runs_line(
+    alloc: Global,
+    case: Case<'_>,
+    store: &mut SteadyStore,
+) -> Result<Text, anyhow::Error> {
     let mut line = Text::empty();
     for _run in 0..case.outside.times {
-        add_run(alloc, &mut line, case, &mut store)?;
+        add_run(alloc, &mut line, case, store)?;
     }
     add_number_column(alloc, &mut line, "files", store.len() as u64)?;
-    add_files(alloc, &mut line, &mut store)?;
+    add_files(alloc, &mut line, store)?;
     Ok(line)
 }

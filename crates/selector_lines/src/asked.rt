@@ -19,12 +19,8 @@ pub(crate) fn answered(alloc: Global, name: &str, columns: &str) -> Result<Text,
     }
 }
 
-fn yes_or_no(alloc: Global, answer: bool) -> Result<Text, OutOfMemory> {
-    if answer {
-        Text::from_ascii(alloc, "yes")
-    } else {
-        Text::from_ascii(alloc, "no")
-    }
+fn yes_or_no(alloc: Global, answer: bool) -> Result<Text, anyhow::Error> {
+    Ok(Text::from_ascii(alloc, if answer { "yes" } else { "no" })?)
 }
 
 /// Whether the column is a selector, or its fault.
@@ -48,32 +44,61 @@ fn fault_line(alloc: Global, fault: SelectorParseError) -> Result<Text, OutOfMem
 fn matched(alloc: Global, columns: &str) -> Result<Text, anyhow::Error> {
     let (first, steps) = first_column(columns);
     let path = path_of(alloc, steps)?;
-    let text = text_of(alloc, first)?;
+    matched_path(alloc, first, path.as_slice())
+}
+
+/// The same of a path that is lent: where it is alive at an early return, that is dear to prove.
+fn matched_path(alloc: Global, column: &str, path: &[PathItem]) -> Result<Text, anyhow::Error> {
+    let text = text_of(alloc, column)?;
     let selector = Selector::parse(alloc, text.as_str())?;
-    Ok(yes_or_no(alloc, selector.is_match(&path))?)
+    yes_or_no(alloc, selector.is_match(path))
 }
 
 /// The signs of the selector and of its copies.
 fn fronts(alloc: Global, columns: &str) -> Result<Text, anyhow::Error> {
     let (first, steps) = first_column(columns);
     let path = path_of(alloc, steps)?;
-    let text = text_of(alloc, first)?;
-    let selector = Selector::parse(alloc, text.as_str())?;
-    Ok(signs_of_copies(alloc, selector, path.as_slice())?)
+    fronts_of(alloc, first, path.as_slice())
 }
 
-fn signs_of_copies(
+fn fronts_of(alloc: Global, column: &str, path: &[PathItem]) -> Result<Text, anyhow::Error> {
+    let text = text_of(alloc, column)?;
+    let selector = Selector::parse(alloc, text.as_str())?;
+    let mut line = signs_line(alloc, &selector, path)?;
+    add_signs_of_copy(alloc, &mut line, selector.make_static(alloc)?, path)?;
+    Ok(line)
+}
+
+/// The signs of a selector and of its copy.
+fn signs_line(
     alloc: Global,
-    selector: Selector<'_>,
+    selector: &Selector<'_>,
     path: &[PathItem],
 ) -> Result<Text, OutOfMemory> {
     let mut line = Text::empty();
-    add_signs(alloc, &mut line, &selector, path)?;
-    line.push_ascii(alloc, " ")?;
-    add_signs(alloc, &mut line, &selector.try_clone(alloc)?, path)?;
-    line.push_ascii(alloc, " ")?;
-    add_signs(alloc, &mut line, &selector.make_static(alloc)?, path)?;
+    add_signs(alloc, &mut line, selector, path)?;
+    add_signs_of_copy(alloc, &mut line, selector.try_clone(alloc)?, path)?;
     Ok(line)
+}
+
+/// Adds the signs of a copy, which ends here, behind a blank.
+fn add_signs_of_copy(
+    alloc: Global,
+    line: &mut Text,
+    copy: Selector<'_>,
+    path: &[PathItem],
+) -> Result<(), OutOfMemory> {
+    add_signs_behind(alloc, line, &copy, path)
+}
+
+fn add_signs_behind(
+    alloc: Global,
+    line: &mut Text,
+    selector: &Selector<'_>,
+    path: &[PathItem],
+) -> Result<(), OutOfMemory> {
+    line.push_ascii(alloc, " ")?;
+    add_signs(alloc, line, selector, path)
 }
 
 fn add_sign(alloc: Global, line: &mut Text, is_matched: bool) -> Result<(), OutOfMemory> {
@@ -104,7 +129,7 @@ fn between(alloc: Global, columns: &str) -> Result<Text, anyhow::Error> {
     let (to, column) = first_column(others);
     let (from, to) = (bound_of(from)?, bound_of(to)?);
     let step = step_of(alloc, column)?;
-    Ok(yes_or_no(alloc, step.range_check(from, to))?)
+    yes_or_no(alloc, step.range_check(from, to))
 }
 
 /// The bound of a column; none where it is empty.
@@ -121,7 +146,11 @@ fn bound_of(column: &str) -> Result<Option<i64>, AskError> {
 /// The text of the path, and that of a copy, with a tab between them.
 fn path_texts(alloc: Global, columns: &str) -> Result<Text, anyhow::Error> {
     let steps = path_of(alloc, columns)?;
-    let path = ContentPath::new(steps.as_slice());
+    texts_of(alloc, steps.as_slice())
+}
+
+fn texts_of(alloc: Global, steps: &[PathItem]) -> Result<Text, anyhow::Error> {
+    let path = ContentPath::new(steps);
     let mut line = Text::empty();
     add_path(alloc, &mut line, &path)?;
     line.push_ascii(alloc, "\t")?;

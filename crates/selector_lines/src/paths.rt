@@ -4,7 +4,6 @@
 //! `tree_lines` reads it from a column.
 use crate::error::AskError;
 use row_lines::text_of;
-use snap_content::OutOfMemory;
 use snap_select::PathItem;
 use std::alloc::Global;
 use tree_lines::tree_of_column;
@@ -14,16 +13,15 @@ pub(crate) fn path_of(alloc: Global, columns: &str) -> Result<Vec<PathItem>, any
     let mut path = Vec::new(alloc);
     for column in columns.split('\t') {
         if !column.is_empty() {
-            let step = step_of(alloc, column)?;
-            add_step(&mut path, step)?;
+            add_step(alloc, &mut path, column)?;
         }
     }
     Ok(path)
 }
 
-fn add_step(path: &mut Vec<PathItem>, step: PathItem) -> Result<(), OutOfMemory> {
-    path.push(step)?;
-    Ok(())
+fn add_step(alloc: Global, path: &mut Vec<PathItem>, column: &str) -> Result<(), anyhow::Error> {
+    let step = step_of(alloc, column)?;
+    Ok(path.push(step)?)
 }
 
 /// The step that a column stands for.

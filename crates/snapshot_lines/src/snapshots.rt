@@ -22,8 +22,8 @@ pub fn snapshot_of(
     let (fields, columns) = first_column(columns);
     let (text, columns) = first_column(columns);
     let name = name_of(alloc, name)?;
-    let metadata = metadata_of(alloc, fields)?;
     let contents = contents_of(alloc, kind, text)?;
+    let metadata = metadata_of(alloc, fields)?;
     let snapshot = Snapshot::from_components(module, name, metadata, contents);
     Ok((snapshot, columns))
 }

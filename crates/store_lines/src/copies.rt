@@ -1,7 +1,7 @@
 //! Copies and agreement.
 //!
 //! Contents stand in one column: `text=` and a text, `payload=` and bytes, or `absent`.
-use crate::shown::{add_metadata, add_snapshot};
+use crate::shown::{metadata_shown, snapshot_shown};
 use row_lines::{first_column, text_of};
 use snap_content::{OutOfMemory, Text};
 use snap_store::{MetaData, Snapshot, SnapshotContents};
@@ -9,29 +9,15 @@ use snap_text::{TextSnapshotContents, TextSnapshotKind};
 use snapshot_lines::{bytes_of, metadata_of, snapshot_of};
 use std::alloc::Global;
 
-/// What metadata tell.
-fn metadata_shown(alloc: Global, metadata: &MetaData) -> Result<Text, OutOfMemory> {
-    let mut line = Text::empty();
-    add_metadata(alloc, &mut line, metadata)?;
-    Ok(line)
-}
-
 fn metadata_copied(alloc: Global, metadata: &MetaData) -> Result<Text, OutOfMemory> {
     let copy = metadata.try_clone(alloc)?;
     metadata_shown(alloc, &copy)
 }
 
-/// The copy of metadata. Metadata that are alive make each early return dear to prove, so each function here has one behind them at most.
+/// The copy of metadata. Metadata that are alive make each early return dear to prove, so each function hands them on.
 pub(crate) fn metadata_line(alloc: Global, column: &str) -> Result<Text, OutOfMemory> {
     let metadata = metadata_of(alloc, column)?;
     metadata_copied(alloc, &metadata)
-}
-
-/// What a snapshot tells.
-fn snapshot_shown(alloc: Global, snapshot: &Snapshot) -> Result<Text, OutOfMemory> {
-    let mut line = Text::empty();
-    add_snapshot(alloc, &mut line, snapshot)?;
-    Ok(line)
 }
 
 fn snapshot_copied(alloc: Global, snapshot: &Snapshot) -> Result<Text, OutOfMemory> {
@@ -72,14 +58,26 @@ fn agree(
 /// What the copy of contents is, and whether it agrees with them.
 pub(crate) fn contents_line(alloc: Global, column: &str) -> Result<Text, OutOfMemory> {
     let contents = contents_of(alloc, column)?;
+    contents_copied(alloc, &contents)
+}
+
+fn contents_copied(alloc: Global, contents: &SnapshotContents) -> Result<Text, OutOfMemory> {
     let copy = contents.try_clone(alloc)?;
+    compared_line(alloc, contents, &copy)
+}
+
+fn compared_line(
+    alloc: Global,
+    contents: &SnapshotContents,
+    copy: &SnapshotContents,
+) -> Result<Text, OutOfMemory> {
     let kind = if copy.is_binary() {
         "binary\t"
     } else {
         "text\t"
     };
     let mut line = Text::from_ascii(alloc, kind)?;
-    line.push_text(alloc, &agree(alloc, &contents, &copy)?)?;
+    line.push_text(alloc, &agree(alloc, contents, copy)?)?;
     Ok(line)
 }
 
@@ -87,6 +85,10 @@ pub(crate) fn contents_line(alloc: Global, column: &str) -> Result<Text, OutOfMe
 pub(crate) fn agree_line(alloc: Global, columns: &str) -> Result<Text, OutOfMemory> {
     let (left, right) = first_column(columns);
     let left = contents_of(alloc, left)?;
+    agree_with(alloc, &left, right)
+}
+
+fn agree_with(alloc: Global, left: &SnapshotContents, right: &str) -> Result<Text, OutOfMemory> {
     let right = contents_of(alloc, right)?;
-    agree(alloc, &left, &right)
+    agree(alloc, left, &right)
 }

@@ -1,5 +1,5 @@
 //! Files that are cut, and files that are read.
-use crate::shown::{add_metadata, add_snapshot};
+use crate::shown::{add_metadata, snapshot_into_line};
 use row_lines::{add_escaped, first_column, text_of};
 use snap_content::{Error, OutOfMemory, Text};
 use snap_outside::SteadyStore;
@@ -9,22 +9,22 @@ use snap_store::{MetaData, Snapshot};
 use snapshot_lines::bytes_of;
 use std::alloc::Global;
 
-/// Adds the header and the body of a file.
-fn add_headed(alloc: Global, line: &mut Text, headed: &Headed) -> Result<(), OutOfMemory> {
-    add_escaped(alloc, line, headed.header.as_str())?;
+/// The header and the body of a file, in two columns.
+fn headed_line(alloc: Global, headed: &Headed) -> Result<Text, OutOfMemory> {
+    let mut line = Text::empty();
+    add_escaped(alloc, &mut line, headed.header.as_str())?;
     line.push_ascii(alloc, "\t")?;
-    add_escaped(alloc, line, headed.body.as_str())
+    add_escaped(alloc, &mut line, headed.body.as_str())?;
+    Ok(line)
 }
 
 /// The header and the body of a file.
 pub(crate) fn split_line(alloc: Global, columns: &str) -> Result<Text, OutOfMemory> {
     let file = text_of(alloc, columns)?;
-    let mut line = Text::empty();
     match split_file(alloc, file.as_str())? {
-        Some(headed) => add_headed(alloc, &mut line, &headed)?,
-        None => line.push_ascii(alloc, "no header")?,
+        Some(headed) => headed_line(alloc, &headed),
+        None => Text::from_ascii(alloc, "no header"),
     }
-    Ok(line)
 }
 
 /// What metadata tell, and a text behind them.
@@ -45,11 +45,15 @@ pub(crate) fn legacy_line(alloc: Global, columns: &str) -> Result<Text, OutOfMem
 }
 
 /// The snapshot of a store's file.
-fn snapshot_line(alloc: Global, store: &mut SteadyStore, path: &Text) -> Result<Text, Error> {
-    let snapshot = Snapshot::from_file(alloc, store, path)?;
-    let mut line = Text::empty();
-    add_snapshot(alloc, &mut line, &snapshot)?;
-    Ok(line)
+fn found_line(alloc: Global, store: &mut SteadyStore, path: &Text) -> Result<Text, Error> {
+    Ok(snapshot_into_line(alloc, Snapshot::from_file(alloc, store, path)?)?)
+}
+
+/// A store of one file.
+fn store_of(alloc: Global, path: &Text, bytes: &[u8]) -> Result<SteadyStore, OutOfMemory> {
+    let mut store = SteadyStore::new(alloc);
+    store.put(path, bytes)?;
+    Ok(store)
 }
 
 /// The snapshot of a file at a path.
@@ -57,9 +61,8 @@ pub(crate) fn read_line(alloc: Global, columns: &str) -> Result<Text, Error> {
     let (path, file) = first_column(columns);
     let path = text_of(alloc, path)?;
     let file = text_of(alloc, file)?;
-    let mut store = SteadyStore::new(alloc);
-    store.put(&path, file.as_str().as_bytes())?;
-    snapshot_line(alloc, &mut store, &path)
+    let mut store = store_of(alloc, &path, file.as_str().as_bytes())?;
+    found_line(alloc, &mut store, &path)
 }
 
 /// The snapshot of a file of these bytes, which may be no text.
@@ -67,14 +70,13 @@ pub(crate) fn read_bytes_line(alloc: Global, columns: &str) -> Result<Text, Erro
     let (path, bytes) = first_column(columns);
     let path = text_of(alloc, path)?;
     let file = bytes_of(alloc, bytes)?;
-    let mut store = SteadyStore::new(alloc);
-    store.put(&path, file.as_slice())?;
-    snapshot_line(alloc, &mut store, &path)
+    let mut store = store_of(alloc, &path, file.as_slice())?;
+    found_line(alloc, &mut store, &path)
 }
 
 /// What is read where no file is.
 pub(crate) fn missing_line(alloc: Global, columns: &str) -> Result<Text, Error> {
     let path = text_of(alloc, columns)?;
     let mut store = SteadyStore::new(alloc);
-    snapshot_line(alloc, &mut store, &path)
+    found_line(alloc, &mut store, &path)
 }

@@ -24,8 +24,19 @@ fn saved(alloc: Global, path: &Text, snapshot: &Snapshot) -> Result<Text, Error>
     requires { IsSome (text_in (contents_in snapshot.now)) }
 {
     let mut store = SteadyStore::new(alloc);
-    snapshot.save(alloc, &mut store, path)?;
-    Ok(stored_line(alloc, &store, path)?)
+    saved_in(alloc, &mut store, path, snapshot)
+}
+
+fn saved_in(
+    alloc: Global,
+    store: &mut SteadyStore,
+    path: &Text,
+    snapshot: &Snapshot,
+) -> Result<Text, Error>
+    requires { IsSome (text_in (contents_in snapshot.now)) }
+{
+    snapshot.save(alloc, store, path)?;
+    Ok(stored_line(alloc, store, path)?)
 }
 
 /// The file of a snapshot that is saved.
@@ -40,8 +51,19 @@ fn saved_new(alloc: Global, path: &Text, snapshot: &Snapshot) -> Result<Text, Er
     requires { IsSome (text_in (contents_in snapshot.now)) }
 {
     let mut store = SteadyStore::new(alloc);
-    let pending = snapshot.save_new(alloc, &mut store, path)?;
-    Ok(stored_line(alloc, &store, &pending)?)
+    saved_new_in(alloc, &mut store, path, snapshot)
+}
+
+fn saved_new_in(
+    alloc: Global,
+    store: &mut SteadyStore,
+    path: &Text,
+    snapshot: &Snapshot,
+) -> Result<Text, Error>
+    requires { IsSome (text_in (contents_in snapshot.now)) }
+{
+    let pending = snapshot.save_new(alloc, store, path)?;
+    Ok(stored_line(alloc, store, &pending)?)
 }
 
 /// The file in which a snapshot waits for a review.

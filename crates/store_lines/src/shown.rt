@@ -3,6 +3,7 @@ use row_lines::add_escaped;
 use snap_content::{Content, Error, OutOfMemory, Text};
 use snap_store::{MetaData, Snapshot, SnapshotKind};
 use std::alloc::Global;
+use std::fmt::Display;
 
 /// Why there is no answer. After want of memory there is no line.
 pub(crate) fn refusal(alloc: Global, error: &Error) -> Result<Text, OutOfMemory> {
@@ -21,8 +22,8 @@ pub(crate) fn add_metadata(
 ) -> Result<(), OutOfMemory> {
     add_field(alloc, line, "source", metadata.source())?;
     if let Some(number) = metadata.assertion_line() {
-        let told = format!(in alloc; "assertion_line={number}\t")?;
-        line.push_str(alloc, told.as_str())?;
+        add_number(alloc, line, "assertion_line=", &number)?;
+        line.push_ascii(alloc, "\t")?;
     }
     add_field(alloc, line, "description", metadata.description())?;
     add_field(alloc, line, "expression", metadata.expression())?;
@@ -66,6 +67,17 @@ fn add_kind(alloc: Global, line: &mut Text, kind: &SnapshotKind) -> Result<(), O
     Ok(())
 }
 
+/// Adds a number behind its word.
+fn add_number(
+    alloc: Global,
+    line: &mut Text,
+    word: &str,
+    number: &impl Display,
+) -> Result<(), OutOfMemory> {
+    let told = format!(in alloc; "{word}{number}")?;
+    line.push_str(alloc, told.as_str())
+}
+
 /// Adds the word of a tree, as `snapshot_lines` reads it; `?` for a tree of which it has none.
 pub(crate) fn add_tree(alloc: Global, line: &mut Text, tree: &Content) -> Result<(), OutOfMemory> {
     match tree {
@@ -73,19 +85,15 @@ pub(crate) fn add_tree(alloc: Global, line: &mut Text, tree: &Content) -> Result
             line.push_ascii(alloc, "String ")?;
             add_escaped(alloc, line, text.as_str())
         }
-        Content::U8(number) => line.push_str(alloc, format!(in alloc; "U8 {number}")?.as_str()),
-        Content::U32(number) => line.push_str(alloc, format!(in alloc; "U32 {number}")?.as_str()),
-        Content::I64(number) => line.push_str(alloc, format!(in alloc; "I64 {number}")?.as_str()),
+        Content::U8(number) => add_number(alloc, line, "U8 ", number),
+        Content::U32(number) => add_number(alloc, line, "U32 ", number),
+        Content::I64(number) => add_number(alloc, line, "I64 ", number),
         _ => line.push_ascii(alloc, "?"),
     }
 }
 
 /// Adds whether the snapshot's file had a header, its names, its metadata, and its text or that its contents are a payload.
-pub(crate) fn add_snapshot(
-    alloc: Global,
-    line: &mut Text,
-    snapshot: &Snapshot,
-) -> Result<(), OutOfMemory> {
+fn add_snapshot(alloc: Global, line: &mut Text, snapshot: &Snapshot) -> Result<(), OutOfMemory> {
     if snapshot.was_legacy() {
         line.push_ascii(alloc, "legacy\t")?;
     }
@@ -97,4 +105,28 @@ pub(crate) fn add_snapshot(
         Some(text) => add_escaped(alloc, line, text.as_raw()),
         None => line.push_ascii(alloc, "a payload"),
     }
+}
+
+/// What metadata tell.
+pub(crate) fn metadata_shown(alloc: Global, metadata: &MetaData) -> Result<Text, OutOfMemory> {
+    let mut line = Text::empty();
+    add_metadata(alloc, &mut line, metadata)?;
+    Ok(line)
+}
+
+/// The same of metadata that end here.
+pub(crate) fn metadata_into_line(alloc: Global, metadata: MetaData) -> Result<Text, OutOfMemory> {
+    metadata_shown(alloc, &metadata)
+}
+
+/// What a snapshot tells.
+pub(crate) fn snapshot_shown(alloc: Global, snapshot: &Snapshot) -> Result<Text, OutOfMemory> {
+    let mut line = Text::empty();
+    add_snapshot(alloc, &mut line, snapshot)?;
+    Ok(line)
+}
+
+/// The same of a snapshot that ends here.
+pub(crate) fn snapshot_into_line(alloc: Global, snapshot: Snapshot) -> Result<Text, OutOfMemory> {
+    snapshot_shown(alloc, &snapshot)
 }

@@ -1,7 +1,7 @@
 //! Metadata of trees, and trees of metadata.
 //!
 //! A map stands in one column: pairs `NAME=WORD` of a text and a tree of one word, with `; ` between each two.
-use crate::shown::{add_metadata, add_tree};
+use crate::shown::{add_tree, metadata_into_line};
 use row_lines::text_of;
 use snap_content::{Content, Error, OutOfMemory, Pairs, Text};
 use snap_store::MetaData;
@@ -10,24 +10,26 @@ use std::alloc::Global;
 
 fn pair_of(alloc: Global, pair: &str) -> Result<(Content, Content), OutOfMemory> {
     let (name, word) = pair.split_once('=').unwrap_or((pair, ""));
+    let name = text_of(alloc, name)?;
     let tree = tree_of_word(alloc, word)?;
-    Ok((Content::String(text_of(alloc, name)?), tree))
+    Ok((Content::String(name), tree))
 }
 
 fn map_of(alloc: Global, column: &str) -> Result<Content, OutOfMemory> {
     let mut pairs = Pairs::new(alloc);
     for pair in column.split("; ") {
-        pairs.push(pair_of(alloc, pair)?)?;
+        push_pair(alloc, &mut pairs, pair)?;
     }
     Ok(Content::Map(pairs))
 }
 
+fn push_pair(alloc: Global, pairs: &mut Pairs, pair: &str) -> Result<(), OutOfMemory> {
+    pairs.push(pair_of(alloc, pair)?)
+}
+
 /// The metadata that a tree tells.
 fn told_line(alloc: Global, tree: &Content) -> Result<Text, Error> {
-    let metadata = MetaData::from_content(alloc, tree)?;
-    let mut line = Text::empty();
-    add_metadata(alloc, &mut line, &metadata)?;
-    Ok(line)
+    Ok(metadata_into_line(alloc, MetaData::from_content(alloc, tree)?)?)
 }
 
 /// The metadata that a map tells.
@@ -55,13 +57,26 @@ pub(crate) fn other_line(alloc: Global, column: &str) -> Result<Text, Error> {
 
 /// The tree that is made of the metadata of a map.
 pub(crate) fn made_line(alloc: Global, column: &str) -> Result<Text, Error> {
+    Ok(made_of(alloc, read_of(alloc, column)?)?)
+}
+
+/// The metadata of a map.
+fn read_of(alloc: Global, column: &str) -> Result<MetaData, Error> {
     let map = map_of(alloc, column)?;
-    let metadata = MetaData::from_content(alloc, &map)?;
-    Ok(pairs_line(alloc, metadata.to_content(alloc)?)?)
+    MetaData::from_content(alloc, &map)
+}
+
+fn made_of(alloc: Global, metadata: MetaData) -> Result<Text, OutOfMemory> {
+    pairs_of_metadata(alloc, &metadata)
+}
+
+fn pairs_of_metadata(alloc: Global, metadata: &MetaData) -> Result<Text, OutOfMemory> {
+    let tree = metadata.to_content(alloc)?;
+    pairs_line(alloc, &tree)
 }
 
 /// The pairs of a map, as they stand in a column.
-fn pairs_line(alloc: Global, tree: Content) -> Result<Text, OutOfMemory> {
+fn pairs_line(alloc: Global, tree: &Content) -> Result<Text, OutOfMemory> {
     let Content::Map(pairs) = tree else {
         return Text::from_ascii(alloc, "no map");
     };

@@ -16,11 +16,16 @@ use std::alloc::Global;
 pub fn tree_of_line(alloc: Global, line: &str) -> Result<Content, LineError> {
     let mut held = Vec::new(alloc);
     for word in line.split('\t') {
-        let (kind, rest) = word.split_once(' ').unwrap_or((word, ""));
-        let tree = tree_of_word(alloc, &mut held, kind, rest)?;
-        hold(&mut held, tree)?;
+        hold_word(alloc, &mut held, word)?;
     }
     last_tree(&mut held)
+}
+
+/// Holds the tree that a word stands for.
+fn hold_word(alloc: Global, held: &mut Vec<Content>, word: &str) -> Result<(), LineError> {
+    let (kind, rest) = word.split_once(' ').unwrap_or((word, ""));
+    let tree = tree_of_word(alloc, held, kind, rest)?;
+    Ok(hold(held, tree)?)
 }
 
 fn hold(held: &mut Vec<Content>, tree: Content) -> Result<(), OutOfMemory> {
@@ -153,7 +158,12 @@ fn pairs(alloc: Global, held: &mut Vec<Content>, count: &str) -> Result<Pairs, L
 fn fields(alloc: Global, held: &mut Vec<Content>, count: &str) -> Result<Fields, LineError> {
     let mut fields = Fields::new(alloc);
     for (name, tree) in pairs(alloc, held, count)?.into_vec() {
-        fields.push((text_of_tree(name)?, tree))?;
+        add_field(&mut fields, name, tree)?;
     }
     Ok(fields)
+}
+
+fn add_field(fields: &mut Fields, name: Content, tree: Content) -> Result<(), LineError> {
+    let name = text_of_tree(name)?;
+    Ok(fields.push((name, tree))?)
 }

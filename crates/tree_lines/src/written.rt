@@ -2,6 +2,7 @@
 use row_lines::add_escaped;
 use snap_content::{Blob, Content, Fields, Items, OutOfMemory, Pairs, Text};
 use std::alloc::Global;
+use std::fmt::Display;
 
 /// Adds the words of a tree to a line that is empty or ends in a whole word.
 #[cycle(written)]
@@ -79,7 +80,7 @@ fn add_items(alloc: Global, line: &mut Text, kind: &str, items: &Items) -> Resul
     for item in items.as_slice() {
         add_tree(alloc, line, item)?;
     }
-    add_counted(alloc, line, kind, items.len())
+    add_counted(alloc, line, kind, &items.len())
 }
 
 #[cycle(written)]
@@ -88,7 +89,7 @@ fn add_pairs(alloc: Global, line: &mut Text, pairs: &Pairs) -> Result<(), OutOfM
         add_tree(alloc, line, key)?;
         add_tree(alloc, line, value)?;
     }
-    add_counted(alloc, line, "Map", pairs.len())
+    add_counted(alloc, line, "Map", &pairs.len())
 }
 
 #[cycle(written)]
@@ -102,7 +103,7 @@ fn add_fields(
         add_text(alloc, line, name)?;
         add_tree(alloc, line, value)?;
     }
-    add_counted(alloc, line, kind, fields.len())
+    add_counted(alloc, line, kind, &fields.len())
 }
 
 /// Adds the words of a tree that holds no other.
@@ -113,11 +114,7 @@ fn add_scalar(alloc: Global, line: &mut Text, scalar: &Content) -> Result<(), Ou
         Content::Bool(true) => add_word(alloc, line, "Bool true"),
         Content::Bool(false) => add_word(alloc, line, "Bool false"),
         Content::String(text) => add_text(alloc, line, text),
-        Content::Char(c) => {
-            add_word(alloc, line, "Char ")?;
-            let letter = format!(in alloc; "{c}")?;
-            add_escaped(alloc, line, letter.as_str())
-        }
+        Content::Char(c) => add_char(alloc, line, *c),
         Content::Bytes(bytes) => add_bytes(alloc, line, bytes),
         Content::UnitStruct(name) => {
             add_text(alloc, line, name)?;
@@ -130,28 +127,34 @@ fn add_scalar(alloc: Global, line: &mut Text, scalar: &Content) -> Result<(), Ou
 
 /// Adds the word of a number.
 fn add_number(alloc: Global, line: &mut Text, number: &Content) -> Result<(), OutOfMemory> {
-    let word = match number {
-        Content::U8(number) => format!(in alloc; "U8 {number}")?,
-        Content::U16(number) => format!(in alloc; "U16 {number}")?,
-        Content::U32(number) => format!(in alloc; "U32 {number}")?,
-        Content::U64(number) => format!(in alloc; "U64 {number}")?,
-        Content::U128(number) => format!(in alloc; "U128 {number}")?,
-        other => return add_signed(alloc, line, other),
-    };
-    add_word(alloc, line, word.as_str())
+    match number {
+        Content::U8(number) => add_counted(alloc, line, "U8", number),
+        Content::U16(number) => add_counted(alloc, line, "U16", number),
+        Content::U32(number) => add_counted(alloc, line, "U32", number),
+        Content::U64(number) => add_counted(alloc, line, "U64", number),
+        Content::U128(number) => add_counted(alloc, line, "U128", number),
+        other => add_signed(alloc, line, other),
+    }
 }
 
 /// Adds the word of a number with a sign.
 fn add_signed(alloc: Global, line: &mut Text, number: &Content) -> Result<(), OutOfMemory> {
-    let word = match number {
-        Content::I8(number) => format!(in alloc; "I8 {number}")?,
-        Content::I16(number) => format!(in alloc; "I16 {number}")?,
-        Content::I32(number) => format!(in alloc; "I32 {number}")?,
-        Content::I64(number) => format!(in alloc; "I64 {number}")?,
-        Content::I128(number) => format!(in alloc; "I128 {number}")?,
-        _ => return Ok(()),
-    };
-    add_word(alloc, line, word.as_str())
+    match number {
+        Content::I8(number) => add_counted(alloc, line, "I8", number),
+        Content::I16(number) => add_counted(alloc, line, "I16", number),
+        Content::I32(number) => add_counted(alloc, line, "I32", number),
+        Content::I64(number) => add_counted(alloc, line, "I64", number),
+        Content::I128(number) => add_counted(alloc, line, "I128", number),
+        _ => Ok(()),
+    }
+}
+
+/// Adds the word of a character.
+fn add_char(alloc: Global, line: &mut Text, c: char) -> Result<(), OutOfMemory> {
+    add_word(alloc, line, "Char ")?;
+    let mut letter = Text::empty();
+    letter.push(alloc, c)?;
+    add_escaped(alloc, line, letter.as_str())
 }
 
 fn add_bytes(alloc: Global, line: &mut Text, bytes: &Blob) -> Result<(), OutOfMemory> {
@@ -173,8 +176,7 @@ fn add_names(
 ) -> Result<(), OutOfMemory> {
     add_text(alloc, line, of)?;
     add_text(alloc, line, variant)?;
-    let word = format!(in alloc; "UnitVariant {index}")?;
-    add_word(alloc, line, word.as_str())
+    add_counted(alloc, line, "UnitVariant", &index)
 }
 
 /// Adds the word of a text.
@@ -183,14 +185,14 @@ fn add_text(alloc: Global, line: &mut Text, text: &Text) -> Result<(), OutOfMemo
     add_escaped(alloc, line, text.as_str())
 }
 
-/// Adds the word of a collection, behind what it holds.
+/// Adds a word with a number behind it.
 fn add_counted(
     alloc: Global,
     line: &mut Text,
     kind: &str,
-    count: usize,
+    number: &impl Display,
 ) -> Result<(), OutOfMemory> {
-    let word = format!(in alloc; "{kind} {count}")?;
+    let word = format!(in alloc; "{kind} {number}")?;
     add_word(alloc, line, word.as_str())
 }
 

@@ -5,7 +5,7 @@ use crate::readers::readers_line;
 use crate::words::{add_value, add_word, found_line};
 use row_lines::{first_column, text_of};
 use snap_content::{OutOfMemory, Text};
-use snap_yaml::Yaml;
+use snap_yaml::{Yaml, YamlIter};
 use std::alloc::Global;
 use value_lines::value_of_line;
 
@@ -26,7 +26,7 @@ pub(crate) fn answered(alloc: Global, name: &str, columns: &str) -> Result<Text,
 fn answered_of_lists(alloc: Global, name: &str, columns: &str) -> Result<Text, anyhow::Error> {
     match name {
         "list" => list(alloc, columns),
-        "copy" => Ok(copied_line(alloc, &read_value(alloc, columns)?)?),
+        "copy" => copy(alloc, columns),
         "order" => order_line(alloc, &read_value(alloc, columns)?),
         _ => Err(AskError::NoQuestion.into()),
     }
@@ -67,6 +67,10 @@ fn tagged(alloc: Global, columns: &str) -> Result<Text, OutOfMemory> {
 fn at_text(alloc: Global, columns: &str) -> Result<Text, anyhow::Error> {
     let (column, others) = first_column(columns);
     let value = read_value(alloc, others)?;
+    behind_text(alloc, &value, column)
+}
+
+fn behind_text(alloc: Global, value: &Yaml, column: &str) -> Result<Text, anyhow::Error> {
     let key = text_of(alloc, column)?;
     Ok(found_line(alloc, value.get(key.as_str()))?)
 }
@@ -76,7 +80,17 @@ fn at_index(alloc: Global, columns: &str) -> Result<Text, anyhow::Error> {
     let (column, others) = first_column(columns);
     let index = read_index(column)?;
     let value = read_value(alloc, others)?;
+    behind_index(alloc, &value, index)
+}
+
+fn behind_index(alloc: Global, value: &Yaml, index: usize) -> Result<Text, anyhow::Error> {
     Ok(found_line(alloc, value.get_at(index))?)
+}
+
+/// Whether a copy of a value is equal, and what it is.
+fn copy(alloc: Global, columns: &str) -> Result<Text, anyhow::Error> {
+    let value = read_value(alloc, columns)?;
+    copied_line(alloc, &value)
 }
 
 /// The list that is filled anew, and what stands at an index of it.
@@ -88,13 +102,22 @@ fn list(alloc: Global, columns: &str) -> Result<Text, anyhow::Error> {
 
 /// The items of a value, and `end` where none comes behind the last.
 fn items_line(alloc: Global, value: Yaml) -> Result<Text, OutOfMemory> {
-    let mut line = Text::empty();
     let mut items = value.into_iter();
+    each_line(alloc, &mut items)
+}
+
+fn each_line(alloc: Global, items: &mut YamlIter) -> Result<Text, OutOfMemory> {
+    let mut line = Text::empty();
     while let Some(item) = items.next() {
-        add_value(alloc, &mut line, &item)?;
+        add_item(alloc, &mut line, item)?;
     }
     if items.next().is_none() {
         add_word(alloc, &mut line, "end")?;
     }
     Ok(line)
+}
+
+/// Adds a value that ends here.
+fn add_item(alloc: Global, line: &mut Text, item: Yaml) -> Result<(), OutOfMemory> {
+    add_value(alloc, line, &item)
 }

@@ -39,18 +39,38 @@ fn length_line(alloc: Global, is_empty: bool, length: usize) -> Result<Text, Out
 
 fn array_line(alloc: Global, index: usize, items: Array) -> Result<Text, OutOfMemory> {
     let filled = filled_array(alloc, items)?;
-    let mut line = length_line(alloc, filled.is_empty(), filled.len())?;
+    let (is_empty, length) = (filled.is_empty(), filled.len());
     let again = Array::from_vec(filled.into_vec());
-    let found = found_line(alloc, again.get(index))?;
+    length_and_item(alloc, is_empty, length, again.get(index))
+}
+
+fn length_and_item(
+    alloc: Global,
+    is_empty: bool,
+    length: usize,
+    found: Option<&Yaml>,
+) -> Result<Text, OutOfMemory> {
+    let mut line = length_line(alloc, is_empty, length)?;
+    let found = found_line(alloc, found)?;
     add_word(alloc, &mut line, found.as_str())?;
     Ok(line)
 }
 
 fn hash_line(alloc: Global, index: usize, pairs: Hash) -> Result<Text, OutOfMemory> {
     let filled = filled_hash(alloc, pairs)?;
-    let mut line = length_line(alloc, filled.is_empty(), filled.len())?;
+    let (is_empty, length) = (filled.is_empty(), filled.len());
     let again = Hash::from_vec(filled.into_vec());
-    add_pair(alloc, &mut line, again.get(index))?;
+    length_and_pair(alloc, is_empty, length, again.get(index))
+}
+
+fn length_and_pair(
+    alloc: Global,
+    is_empty: bool,
+    length: usize,
+    found: Option<&(Yaml, Yaml)>,
+) -> Result<Text, OutOfMemory> {
+    let mut line = length_line(alloc, is_empty, length)?;
+    add_pair(alloc, &mut line, found)?;
     Ok(line)
 }
 
@@ -70,15 +90,16 @@ fn add_pair(
 }
 
 /// Whether a copy is equal, and what it is.
-pub(crate) fn copied_line(alloc: Global, value: &Yaml) -> Result<Text, OutOfMemory> {
+pub(crate) fn copied_line(alloc: Global, value: &Yaml) -> Result<Text, anyhow::Error> {
     let copy = value.try_clone(alloc)?;
+    compared_line(alloc, value, &copy)
+}
+
+fn compared_line(alloc: Global, value: &Yaml, copy: &Yaml) -> Result<Text, anyhow::Error> {
     let mut line = Text::empty();
-    add_word(
-        alloc,
-        &mut line,
-        if copy == *value { "equal" } else { "unequal" },
-    )?;
-    add_value(alloc, &mut line, &copy)?;
+    let word = if copy == value { "equal" } else { "unequal" };
+    add_word(alloc, &mut line, word)?;
+    add_value(alloc, &mut line, copy)?;
     Ok(line)
 }
 

@@ -5,11 +5,12 @@ use row_lines::add_escaped;
 use snap_content::{OutOfMemory, Text};
 use snap_yaml::Yaml;
 use std::alloc::Global;
+use std::fmt::Display;
 
 /// The name of each reader that gives something, and what it gives. The value is read anew for each reader that takes it.
 pub(crate) fn readers_line(alloc: Global, columns: &str) -> Result<Text, anyhow::Error> {
     let mut line = Text::empty();
-    add_borrowed(alloc, &mut line, &read_value(alloc, columns)?)?;
+    add_borrowed(alloc, &mut line, read_value(alloc, columns)?)?;
     add_taken(alloc, &mut line, columns)?;
     if line.as_str().is_empty() {
         line.push_ascii(alloc, "nothing")?;
@@ -17,32 +18,28 @@ pub(crate) fn readers_line(alloc: Global, columns: &str) -> Result<Text, anyhow:
     Ok(line)
 }
 
-/// Adds what the readers that borrow the value give.
-fn add_borrowed(alloc: Global, line: &mut Text, value: &Yaml) -> Result<(), OutOfMemory> {
+/// Adds what the readers that borrow the value give. The value ends here.
+fn add_borrowed(alloc: Global, line: &mut Text, value: Yaml) -> Result<(), OutOfMemory> {
+    add_lent(alloc, line, &value)
+}
+
+fn add_lent(alloc: Global, line: &mut Text, value: &Yaml) -> Result<(), OutOfMemory> {
     add_kinds(alloc, line, value)?;
-    add_truth(alloc, line, "as_bool", value.as_bool())?;
-    add_number(alloc, line, "as_i64", value.as_i64())?;
+    add_given(alloc, line, "as_bool", value.as_bool())?;
+    add_given(alloc, line, "as_i64", value.as_i64())?;
     add_text(alloc, line, "as_str", value.as_str())?;
-    add_length(
-        alloc,
-        line,
-        "as_vec",
-        value.as_vec().map(|items| items.len()),
-    )?;
-    add_length(
-        alloc,
-        line,
-        "as_hash",
-        value.as_hash().map(|pairs| pairs.len()),
-    )
+    let items = value.as_vec().map(|items| items.len());
+    add_given(alloc, line, "as_vec", items)?;
+    let pairs = value.as_hash().map(|pairs| pairs.len());
+    add_given(alloc, line, "as_hash", pairs)
 }
 
 /// Adds what the readers that take the value give.
 fn add_taken(alloc: Global, line: &mut Text, columns: &str) -> Result<(), anyhow::Error> {
     let truth = read_value(alloc, columns)?.into_bool();
-    add_truth(alloc, line, "into_bool", truth)?;
+    add_given(alloc, line, "into_bool", truth)?;
     let number = read_value(alloc, columns)?.into_i64();
-    add_number(alloc, line, "into_i64", number)?;
+    add_given(alloc, line, "into_i64", number)?;
     add_taken_text(alloc, line, read_value(alloc, columns)?)?;
     add_taken_lists(alloc, line, columns)
 }
@@ -56,10 +53,10 @@ fn add_taken_text(alloc: Global, line: &mut Text, value: Yaml) -> Result<(), Out
 
 fn add_taken_lists(alloc: Global, line: &mut Text, columns: &str) -> Result<(), anyhow::Error> {
     if let Some(items) = read_value(alloc, columns)?.into_vec() {
-        add_list(alloc, line, "into_vec", &Yaml::Array(items))?;
+        add_list(alloc, line, "into_vec", Yaml::Array(items))?;
     }
     if let Some(pairs) = read_value(alloc, columns)?.into_hash() {
-        add_list(alloc, line, "into_hash", &Yaml::Hash(pairs))?;
+        add_list(alloc, line, "into_hash", Yaml::Hash(pairs))?;
     }
     Ok(())
 }
@@ -78,42 +75,17 @@ fn add_kinds(alloc: Global, line: &mut Text, value: &Yaml) -> Result<(), OutOfMe
     Ok(())
 }
 
-fn add_truth(
+/// Adds what a reader gives, behind its name.
+fn add_given<T: Display + Drop>(
     alloc: Global,
     line: &mut Text,
     name: &str,
-    given: Option<bool>,
+    given: Option<T>,
 ) -> Result<(), OutOfMemory> {
-    let Some(truth) = given else {
+    let Some(value) = given else {
         return Ok(());
     };
-    let word = format!(in alloc; "{name} {truth}")?;
-    add_word(alloc, line, word.as_str())
-}
-
-fn add_number(
-    alloc: Global,
-    line: &mut Text,
-    name: &str,
-    given: Option<i64>,
-) -> Result<(), OutOfMemory> {
-    let Some(number) = given else {
-        return Ok(());
-    };
-    let word = format!(in alloc; "{name} {number}")?;
-    add_word(alloc, line, word.as_str())
-}
-
-fn add_length(
-    alloc: Global,
-    line: &mut Text,
-    name: &str,
-    given: Option<usize>,
-) -> Result<(), OutOfMemory> {
-    let Some(length) = given else {
-        return Ok(());
-    };
-    let word = format!(in alloc; "{name} {length}")?;
+    let word = format!(in alloc; "{name} {value}")?;
     add_word(alloc, line, word.as_str())
 }
 
@@ -131,7 +103,12 @@ fn add_text(
     add_escaped(alloc, line, text)
 }
 
-fn add_list(alloc: Global, line: &mut Text, name: &str, list: &Yaml) -> Result<(), OutOfMemory> {
+/// Adds a list that ends here, behind a name.
+fn add_list(alloc: Global, line: &mut Text, name: &str, list: Yaml) -> Result<(), OutOfMemory> {
+    add_named(alloc, line, name, &list)
+}
+
+fn add_named(alloc: Global, line: &mut Text, name: &str, list: &Yaml) -> Result<(), OutOfMemory> {
     add_word(alloc, line, name)?;
     add_value(alloc, line, list)
 }
