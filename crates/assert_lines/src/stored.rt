@@ -30,14 +30,6 @@ impl Redactor for Numbered {
 /// A stored function that puts a text in place of each value.
 pub(crate) fn function_line(alloc: Global, selector: &str) -> Result<Text, anyhow::Error> {
     let mut settings = Settings::new(alloc)?;
-    with_function(alloc, &mut settings, selector)
-}
-
-fn with_function(
-    alloc: Global,
-    settings: &mut Settings,
-    selector: &str,
-) -> Result<Text, anyhow::Error> {
     let function = FnRedactor::new(Box::new(
         alloc,
         |alloc: Global, _value: Content, _path: &[PathItem]| -> Result<Content, OutOfMemory> {
@@ -45,20 +37,12 @@ fn with_function(
         },
     )?);
     let taken = settings.add_dynamic_redaction(selector, function);
-    taken_line(alloc, settings, taken)
+    taken_line(alloc, &settings, taken)
 }
 
 /// A stored function that puts the count of the steps to a value in its place.
 pub(crate) fn depth_line(alloc: Global, selector: &str) -> Result<Text, anyhow::Error> {
     let mut settings = Settings::new(alloc)?;
-    with_depth(alloc, &mut settings, selector)
-}
-
-fn with_depth(
-    alloc: Global,
-    settings: &mut Settings,
-    selector: &str,
-) -> Result<Text, anyhow::Error> {
     let function = FnRedactor::new(Box::new(
         alloc,
         |_alloc: Global, _value: Content, path: &[PathItem]| -> Result<Content, OutOfMemory> {
@@ -66,7 +50,7 @@ fn with_depth(
         },
     )?);
     let taken = settings.add_dynamic_redaction(selector, function);
-    taken_line(alloc, settings, taken)
+    taken_line(alloc, &settings, taken)
 }
 
 /// An object that puts its number in place of each value.
@@ -74,18 +58,9 @@ pub(crate) fn object_line(alloc: Global, columns: &str) -> Result<Text, anyhow::
     let (selector, digits) = first_column(columns);
     let number = digits.parse::<u8>().unwrap_or(0);
     let mut settings = Settings::new(alloc)?;
-    with_object(alloc, &mut settings, selector, number)
-}
-
-fn with_object(
-    alloc: Global,
-    settings: &mut Settings,
-    selector: &str,
-    number: u8,
-) -> Result<Text, anyhow::Error> {
     let object = Redaction::Dynamic(Box::new(alloc, Numbered(number))?);
     let taken = settings.add_redaction(selector, object);
-    taken_line(alloc, settings, taken)
+    taken_line(alloc, &settings, taken)
 }
 
 /// What became of a selector, and the file that is saved with these settings.
