@@ -30,7 +30,8 @@ impl Content {
     {
         let whole = mem::replace(self, Content::Unit);
         let (whole, outcome) = sort_inside(whole, alloc);
-        *self = whole;
+        // Ended by a call, since each goal behind has the steps of what the sort itself ends.
+        drop(mem::replace(self, whole));
         outcome
     }
 }

@@ -22,7 +22,8 @@ impl Content {
     {
         if visit(self) {
             let whole = mem::replace(self, Content::Unit);
-            *self = walk_inside(whole, visit);
+            // Ended by a call, since each goal behind has the steps of what the walk itself ends.
+            drop(mem::replace(self, walk_inside(whole, visit)));
         }
     }
 }

@@ -1,4 +1,4 @@
-use Rattle.snap_content.proofs.Prelude.{◌≡◌, true, rules, of_calls, refl, ◌≤◌, ◌+◌, arith, length-set, tree, item_trees, pair_trees, field_trees, count, count_items, count_pairs, count_fields, is_leaf, in_leaf, the_lemmas}
+use Rattle.snap_content.proofs.Prelude.{◌≡◌, true, rules, of_calls, refl, ap, ◌≤◌, ◌+◌, arith, length-set, tree, item_trees, pair_trees, field_trees, count, count_items, count_pairs, count_fields, is_leaf, in_leaf, the_lemmas}
 use Rattle.snap_content.proofs.Visits.{shrinks_at, walked_on, walked_off, some_walked, newtype_struct_walked, newtype_variant_walked, seq_walked, tuple_walked, tuple_struct_walked, tuple_variant_walked, map_walked, struct_walked, struct_variant_walked}
 use Rattle.snap_content.proofs.WalkTurns.{count-set, count_at, count_pairs-set, count_pairs_at, count_fields-set, count_fields_at, items_turn, items_end, pairs_turn, pairs_end, fields_turn, fields_end}
 use Rattle.snap_content.proofs.+walk.Goals as goal
@@ -8,10 +8,12 @@ content::Content::walk-walk_inside-requires g t c κs within =
     let k : count (tree c.replace-whole.result) ≤ count (tree c.args.self.now) = shrinks_at _ _ _ _ _ _ _ c.requires.shrinks c.visit.ensures c.replace-whole.ensures.value in search (rules, of_calls)
 
 pub content::Content::walk-returns-then-visit-clause-calls : goal.content::Content::walk-returns-then-visit-clause-calls
-content::Content::walk-returns-then-visit-clause-calls g t c = walked_on _ _ _ _ _ _ _ _ _ c.visit.ensures c.if-visit.true c.replace-whole.ensures.value c.walk_inside.ensures.calls
+content::Content::walk-returns-then-visit-clause-calls g t c =
+    rw c.replace.ensures.after (walked_on _ _ _ _ _ _ _ _ _ c.visit.ensures c.if-visit.true c.replace-whole.ensures.value c.walk_inside.ensures.calls)
 
 pub content::Content::walk-returns-then-visit-clause-shrinks : goal.content::Content::walk-returns-then-visit-clause-shrinks
 content::Content::walk-returns-then-visit-clause-shrinks g t c =
+    let same : count (tree c.replace.new.dest) ≡ count (tree c.walk_inside.result) = ap (λ x. count (tree x)) c.replace.ensures.after in
     let k : count (tree c.replace-whole.result) ≤ count (tree c.args.self.now) = shrinks_at _ _ _ _ _ _ _ c.requires.shrinks c.visit.ensures c.replace-whole.ensures.value in omega arith
 
 pub content::Content::walk-returns-else-visit-clause-calls : goal.content::Content::walk-returns-else-visit-clause-calls
