@@ -50,11 +50,11 @@ module _ (ss : Parts) (allows : Allowed) where
       let R : ℕ → t.Trees → t.Trees → Type 0 = ItemsRedacted ss allows path (count_of (item_trees all)) in
       subst (R 0 (item_trees all)) (joined-end now ∙ ap item_trees (sym same)) (end item_trees joined R all now i t.no_trees so_far done refl)
 
-  pub pairs_turn : (was path : List PathItem) (all now : List (Content × Content)) (i : ℕ) (x y : Content × Content) (key_step : PathItem)
-      → PairsSoFar (map step_of was) all i now → path ≡ was → step_of key_step ≡ into_field (codes "$key") → i < length now → x ≡ get_or now i x
-      → RedactedAt ss allows (map step_of path ++ step_of key_step ∷ []) (tree x.0) (tree y.0)
+  pub pairs_turn : (was path : List PathItem) (all now : List (Content × Content)) (i : ℕ) (x y : Content × Content) (name : List ℕ)
+      → PairsSoFar (map step_of was) all i now → path ≡ was → name ≡ codes "$key" → i < length now → x ≡ get_or now i x
+      → RedactedAt ss allows (map step_of path ++ into_field name ∷ []) (tree x.0) (tree y.0)
       → RedactedAt ss allows (map step_of path ++ under_key (tree x.0) ∷ []) (tree x.1) (tree y.1) → PairsSoFar (map step_of was) all (i + 1) (set now i y)
-  pairs_turn was path all now i x y key_step so_far same dollar small is new_key new_value =
+  pairs_turn was path all now i x y name so_far same dollar small is new_key new_value =
       let first = rw (same, dollar) at new_key in
       let second = rw same at new_value in
       turn pair_trees joined_pairs (λ _. PairsRedacted ss allows (map step_of was)) all now i x y (t.pair (tree y.0) (tree y.1)) so_far small is

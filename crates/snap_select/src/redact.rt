@@ -30,8 +30,31 @@ fn key_name(alloc: Global) -> Result<Text, OutOfMemory>
     Text::from_ascii(alloc, "$key")
 }
 
-/// Drops a step that is gone back over. Where it is dropped in the walk, each goal behind that has the steps of its dropping.
-fn leave(_step: PathItem) {}
+// Where the walk itself ends a tree or a step, each goal behind has the steps of that, and where one is alive at an early return,
+// each of them is walked through there. So they end in calls of `drop`, and a name stands for the step that is made of it.
+
+/// The name of the field that the step leads into. Any other step has none.
+fn name_of(step: PathItem) -> Text
+    ensures { (name : List ℕ) → step ≡ PathItem.Field name → result ≡ name }
+{
+    match step {
+        PathItem::Field(name) => name,
+        other => {
+            drop(other);
+            Text::empty()
+        }
+    }
+}
+
+/// The key that the step leads behind. Any other step has none.
+fn key_of(step: PathItem) -> Content
+    ensures { (key : Content) → step ≡ PathItem.Content key → result ≡ key }
+{
+    match step {
+        PathItem::Content(key) => key,
+        _ => Content::Unit,
+    }
+}
 
 /// The tree at a path, redacted. Where no match can lie below, it comes back unseen.
 #[cycle(redact)]
@@ -74,7 +97,7 @@ fn redact_behind<P: Put>(
 {
     path.push(step)?;
     let whole = mem::replace(value, Content::Unit);
-    *value = redact_at(whole, selector, put, alloc, path)?;
+    drop(mem::replace(value, redact_at(whole, selector, put, alloc, path)?));
     let Some(step) = path.pop() else {
         unreachable!()
     };
@@ -96,7 +119,7 @@ fn redact_box<P: Put>(
     ensures path { OnOk result (path.new.items ≡ path.old.items) }
 {
     let whole = mem::replace(&mut *inner, Content::Unit);
-    *inner = redact_at(whole, selector, put, alloc, path)?;
+    drop(mem::replace(&mut *inner, redact_at(whole, selector, put, alloc, path)?));
     Ok(inner)
 }
 
@@ -174,7 +197,7 @@ fn redact_items<P: Put>(
     let length = items.len() as u64;
     for index in 0..items.len() {
         let step = item_step(index, length);
-        leave(redact_behind(&mut items[index], step, selector, put, alloc, path)?);
+        drop(redact_behind(&mut items[index], step, selector, put, alloc, path)?);
     }
     Ok(Items::from_vec(items))
 }
@@ -194,41 +217,58 @@ fn redact_pairs<P: Put>(
     ensures path { OnOk result (path.new.items ≡ path.old.items) }
 {
     let mut pairs = list.into_vec();
-    let mut key_step = PathItem::Field(key_name(alloc)?);
+    let mut name = key_name(alloc)?;
     for index in 0..pairs.len() {
-        key_step = redact_pair(&mut pairs[index], key_step, selector, put, alloc, path)?;
+        name = redact_pair(&mut pairs[index], name, selector, put, alloc, path)?;
     }
-    leave(key_step);
     Ok(Pairs::from_vec(pairs))
 }
 
-/// First the value, so that its step has the key as it was; then the key behind its own step, which comes back.
+/// First the value, so that its step has the key as it was; then the key behind the field of that name, which comes back.
 #[cycle(redact)]
 fn redact_pair<P: Put>(
     pair: &mut (Content, Content),
-    key_step: PathItem,
+    name: Text,
     selector: &Selector<'_>,
     put: &P,
     alloc: Global,
     path: &mut Vec<PathItem>,
-) -> Result<PathItem, OutOfMemory>
+) -> Result<Text, OutOfMemory>
     requires { P.can_put put.now }
     ensures key { OnOk result (RedactedAt (parts_of selector.now) (P.puts put.now)
-        (map step_of path.old.items ++ step_of key_step ∷ []) (tree pair.old.0)
+        (map step_of path.old.items ++ into_field name ∷ []) (tree pair.old.0)
         (tree pair.new.0)) }
     ensures value { OnOk result (RedactedAt (parts_of selector.now) (P.puts put.now)
         (map step_of path.old.items ++ under_key (tree pair.old.0) ∷ []) (tree pair.old.1)
         (tree pair.new.1)) }
-    ensures step { IfOk result (λ back. back ≡ key_step) }
+    ensures name { IfOk result (λ back. back ≡ name) }
     ensures path { OnOk result (path.new.items ≡ path.old.items) }
 {
-    let key = mem::replace(&mut pair.0, Content::Unit);
-    let step = PathItem::Content(key);
-    match redact_behind(&mut pair.1, step, selector, put, alloc, path)? {
-        PathItem::Content(key) => pair.0 = key,
-        PathItem::Field(_) | PathItem::Index(_, _) => unreachable!(),
-    }
-    redact_behind(&mut pair.0, key_step, selector, put, alloc, path)
+    redact_value(pair, selector, put, alloc, path)?;
+    let step = PathItem::Field(name);
+    Ok(name_of(redact_behind(&mut pair.0, step, selector, put, alloc, path)?))
+}
+
+/// The value of a pair, redacted behind its key.
+#[cycle(redact)]
+fn redact_value<P: Put>(
+    pair: &mut (Content, Content),
+    selector: &Selector<'_>,
+    put: &P,
+    alloc: Global,
+    path: &mut Vec<PathItem>,
+) -> Result<(), OutOfMemory>
+    requires { P.can_put put.now }
+    ensures value { OnOk result (RedactedAt (parts_of selector.now) (P.puts put.now)
+        (map step_of path.old.items ++ under_key (tree pair.old.0) ∷ []) (tree pair.old.1)
+        (tree pair.new.1)) }
+    ensures key { OnOk result (pair.new.0 ≡ pair.old.0) }
+    ensures path { OnOk result (path.new.items ≡ path.old.items) }
+{
+    let step = PathItem::Content(mem::replace(&mut pair.0, Content::Unit));
+    let step = redact_behind(&mut pair.1, step, selector, put, alloc, path)?;
+    drop(mem::replace(&mut pair.0, key_of(step)));
+    Ok(())
 }
 
 /// The fields of a struct, each redacted behind its name.
@@ -268,12 +308,8 @@ fn redact_field<P: Put>(
     ensures name { OnOk result (field.new.0 ≡ field.old.0) }
     ensures path { OnOk result (path.new.items ≡ path.old.items) }
 {
-    let name = mem::replace(&mut field.0, Text::empty());
-    let step = PathItem::Field(name);
-    match redact_behind(&mut field.1, step, selector, put, alloc, path)? {
-        PathItem::Field(name) => field.0 = name,
-        PathItem::Content(_) | PathItem::Index(_, _) => unreachable!(),
-    }
+    let step = PathItem::Field(mem::replace(&mut field.0, Text::empty()));
+    field.0 = name_of(redact_behind(&mut field.1, step, selector, put, alloc, path)?);
     Ok(())
 }
 

@@ -49,7 +49,10 @@ impl Redaction {
             (tree value) (map step_of path.now) (tree out)) }
     {
         match self {
-            Redaction::Static(content) => content.try_clone(alloc),
+            Redaction::Static(content) => {
+                drop(value);
+                content.try_clone(alloc)
+            }
             Redaction::Sorted => in_order(alloc, value),
             Redaction::Dynamic(redactor) => redactor.redact(alloc, value, ContentPath::new(path)),
             Redaction::Function(function) => function.call(alloc, value, path),

@@ -45,7 +45,7 @@ redact_items-returns-clause-path g t c = c.loop-index.invariant.path
 pub redact_pairs-loop-index-init : goal.redact_pairs-loop-index-init
 redact_pairs-loop-index-init g t c = record {
   path = refl;
-  key_step = ap into_field c.in_ok-key_name.ensures;
+  name = c.in_ok-name.ensures;
   left = ap (drop 0) c.into_vec-pairs.ensures;
   same_length = ap length c.into_vec-pairs.ensures;
   so_far = rw c.into_vec-pairs.ensures (λ rest done. done);
@@ -58,12 +58,12 @@ redact_pairs-redact_pair-requires g t c κs within =
 
 pub redact_pairs-loop-index-preserved : goal.redact_pairs-loop-index-preserved
 redact_pairs-loop-index-preserved g t c = record {
-  path = c.in_ok-key_step.ensures.path ∙ c.loop-index.invariant.path;
-  key_step = ap step_of c.in_ok-key_step.ensures.step ∙ c.loop-index.invariant.key_step;
+  path = c.in_ok-name-2.ensures.path ∙ c.loop-index.invariant.path;
+  name = c.in_ok-name-2.ensures.name ∙ c.loop-index.invariant.name;
   left = left_turn _ c.loop-index.pairs.items c.loop-index.index c.redact_pair.new.pair c.loop-index.invariant.left;
   same_length = length-set c.loop-index.pairs.items c.loop-index.index c.redact_pair.new.pair ∙ c.loop-index.invariant.same_length;
   so_far = pairs_turn (parts_of c.args.selector.now) (g.P.Put.puts c.args.put.now) _ _ (pair_list c.args.list) c.loop-index.pairs.items c.loop-index.index _ c.redact_pair.new.pair _
-      c.loop-index.invariant.so_far c.loop-index.invariant.path c.loop-index.invariant.key_step (omega (arith, ap length c.into_vec-pairs.ensures)) c.index_mut.ensures.value c.in_ok-key_step.ensures.key c.in_ok-key_step.ensures.value;
+      c.loop-index.invariant.so_far c.loop-index.invariant.path c.loop-index.invariant.name (omega (arith, ap length c.into_vec-pairs.ensures)) c.index_mut.ensures.value c.in_ok-name-2.ensures.key c.in_ok-name-2.ensures.value;
 }
 
 pub redact_pairs-returns-clause-ok : goal.redact_pairs-returns-clause-ok

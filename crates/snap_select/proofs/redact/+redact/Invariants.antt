@@ -19,10 +19,13 @@ abbrev pub decreases-redact_items : goal.decreases-redact_items
 decreases-redact_items g l = 8 * count_items (item_trees (item_list l.list)) + 4
 
 abbrev pub decreases-redact_pairs : goal.decreases-redact_pairs
-decreases-redact_pairs g l = 8 * count_pairs (pair_trees (pair_list l.list)) + 4
+decreases-redact_pairs g l = 8 * count_pairs (pair_trees (pair_list l.list)) + 5
 
 abbrev pub decreases-redact_pair : goal.decreases-redact_pair
-decreases-redact_pair g l = 8 * (count (tree l.pair.now.0) + count (tree l.pair.now.1)) + 3
+decreases-redact_pair g l = 8 * (count (tree l.pair.now.0) + count (tree l.pair.now.1)) + 4
+
+abbrev pub decreases-redact_value : goal.decreases-redact_value
+decreases-redact_value g l = 8 * count (tree l.pair.now.1) + 3
 
 abbrev pub decreases-redact_fields : goal.decreases-redact_fields
 decreases-redact_fields g l = 8 * count_fields (field_trees (field_list l.list)) + 4
@@ -42,7 +45,7 @@ invariant-redact_items-loop-index g l = record {
 abbrev pub invariant-redact_pairs-loop-index : goal.invariant-redact_pairs-loop-index
 invariant-redact_pairs-loop-index g l = record {
   path : l.path.items ≡ l.fn.path.items;
-  key_step : step_of l.key_step ≡ into_field (codes "$key");
+  name : l.name ≡ codes "$key";
   left : drop l.index l.pairs.items ≡ drop l.index (pair_list l.fn.list);
   same_length : length l.pairs.items ≡ length (pair_list l.fn.list);
   so_far : PairsSoFar (parts_of l.selector) (g.P.Put.puts l.put) (map step_of l.fn.path.items) (pair_list l.fn.list) l.index l.pairs.items;
