@@ -22,7 +22,9 @@ pub(crate) fn list_of(
 
 /// The text of a tree, which ends here.
 fn text_of_tree(alloc: Global, tree: Content) -> Result<Text, OutOfMemory> {
-    yaml::to_string(alloc, &tree, false)
+    let text = yaml::to_string(alloc, &tree, false);
+    drop(tree);
+    text
 }
 
 /// A column with the text of the tree that redactions make of 42.

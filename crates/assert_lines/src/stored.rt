@@ -20,9 +20,10 @@ impl Redactor for Numbered {
     fn redact(
         &self,
         _alloc: Global,
-        _value: Content,
+        value: Content,
         _path: ContentPath<'_>,
     ) -> Result<Content, OutOfMemory> {
+        drop(value);
         Ok(Content::U8(self.0))
     }
 }
@@ -32,7 +33,8 @@ pub(crate) fn function_line(alloc: Global, selector: &str) -> Result<Text, anyho
     let mut settings = Settings::new(alloc)?;
     let function = FnRedactor::new(Box::new(
         alloc,
-        |alloc: Global, _value: Content, _path: &[PathItem]| -> Result<Content, OutOfMemory> {
+        |alloc: Global, value: Content, _path: &[PathItem]| -> Result<Content, OutOfMemory> {
+            drop(value);
             Content::from_str(alloc, "[id]")
         },
     )?);
@@ -45,7 +47,8 @@ pub(crate) fn depth_line(alloc: Global, selector: &str) -> Result<Text, anyhow::
     let mut settings = Settings::new(alloc)?;
     let function = FnRedactor::new(Box::new(
         alloc,
-        |_alloc: Global, _value: Content, path: &[PathItem]| -> Result<Content, OutOfMemory> {
+        |_alloc: Global, value: Content, path: &[PathItem]| -> Result<Content, OutOfMemory> {
+            drop(value);
             Ok(Content::U64(path.len() as u64))
         },
     )?);

@@ -30,7 +30,9 @@ pub(crate) fn answered(alloc: Global, name: &str, columns: &str) -> Result<Text,
 fn of_one_tree(alloc: Global, name: &str, columns: &str) -> Result<Text, anyhow::Error> {
     let (first, others) = first_column(columns);
     let mut tree = tree_of_column(alloc, first)?;
-    told_of_tree(alloc, name, &mut tree, others)
+    let told = told_of_tree(alloc, name, &mut tree, others);
+    drop(tree);
+    told
 }
 
 fn told_of_tree(

@@ -47,7 +47,9 @@ pub(crate) fn add_copy(
     is_equal: bool,
     copy: Content,
 ) -> Result<(), OutOfMemory> {
-    add_compared(alloc, line, is_equal, &copy)
+    let added = add_compared(alloc, line, is_equal, &copy);
+    drop(copy);
+    added
 }
 
 fn add_compared(
@@ -61,9 +63,11 @@ fn add_compared(
 }
 
 /// The line of one column with a tree, which ends here. A tree that is alive at an early return makes that dear to prove, so trees are
-/// handed on to where they end.
+/// handed on to where they end, which is a call of `drop`.
 pub(crate) fn line_of_tree(alloc: Global, tree: Content) -> Result<Text, OutOfMemory> {
-    tree_line(alloc, &tree)
+    let line = tree_line(alloc, &tree);
+    drop(tree);
+    line
 }
 
 fn tree_line(alloc: Global, tree: &Content) -> Result<Text, OutOfMemory> {

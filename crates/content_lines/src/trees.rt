@@ -3,6 +3,7 @@ use crate::columns::{add_copy, add_tree_column, add_word};
 use row_lines::add_text_column;
 use snap_content::{Content, OutOfMemory, Text};
 use std::alloc::Global;
+use std::mem;
 use tree_lines::tree_of_column;
 
 /// The tree with its maps in order, and what it is when it is sorted once more.
@@ -43,7 +44,8 @@ pub(crate) fn inside_line(
     tree: &mut Content,
     column: &str,
 ) -> Result<Text, anyhow::Error> {
-    *tree.resolve_inner_mut() = tree_of_column(alloc, column)?;
+    let inner = tree_of_column(alloc, column)?;
+    drop(mem::replace(tree.resolve_inner_mut(), inner));
     let mut line = Text::empty();
     add_tree_column(alloc, &mut line, tree)?;
     Ok(line)

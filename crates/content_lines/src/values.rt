@@ -36,7 +36,9 @@ fn of_tree(alloc: Global, column: &str) -> Result<Content, anyhow::Error> {
 }
 
 fn made_of(alloc: Global, tree: Content) -> Result<Content, OutOfMemory> {
-    made(alloc, &tree)
+    let copy = made(alloc, &tree);
+    drop(tree);
+    copy
 }
 
 fn of_text(alloc: Global, kind: &str, column: &str) -> Result<Content, OutOfMemory> {

@@ -15,9 +15,11 @@ pub(crate) fn tree_line(alloc: Global, words: &str) -> Result<Text, OutOfMemory>
     }
 }
 
-/// What is printed of a tree, which ends here. A tree that is alive at an early return makes that dear to prove.
+/// What is printed of a tree, which ends in a call: a tree that is alive at an early return makes that dear to prove.
 fn printed_line(alloc: Global, tree: Content) -> Result<Text, OutOfMemory> {
-    line_of_tree(alloc, &tree)
+    let line = line_of_tree(alloc, &tree);
+    drop(tree);
+    line
 }
 
 fn line_of_tree(alloc: Global, tree: &Content) -> Result<Text, OutOfMemory> {

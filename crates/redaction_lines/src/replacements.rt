@@ -39,7 +39,9 @@ fn redact(
     selector: &Selector<'_>,
     redaction: Redaction,
 ) -> Result<(), OutOfMemory> {
-    redact_by(alloc, tree, selector, &redaction)
+    let done = redact_by(alloc, tree, selector, &redaction);
+    drop(redaction);
+    done
 }
 
 fn redact_by(
@@ -49,7 +51,7 @@ fn redact_by(
     redaction: &Redaction,
 ) -> Result<(), OutOfMemory> {
     let whole = mem::replace(tree, Content::Unit);
-    *tree = selector.redact(alloc, whole, redaction)?;
+    drop(mem::replace(tree, selector.redact(alloc, whole, redaction)?));
     Ok(())
 }
 
@@ -79,9 +81,10 @@ impl Redactor for Depth {
     fn redact(
         &self,
         _alloc: Global,
-        _value: Content,
+        value: Content,
         path: ContentPath<'_>,
     ) -> Result<Content, OutOfMemory> {
+        drop(value);
         Ok(Content::U64(path.items().len() as u64))
     }
 }

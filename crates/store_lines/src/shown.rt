@@ -116,7 +116,9 @@ pub(crate) fn metadata_shown(alloc: Global, metadata: &MetaData) -> Result<Text,
 
 /// The same of metadata that end here.
 pub(crate) fn metadata_into_line(alloc: Global, metadata: MetaData) -> Result<Text, OutOfMemory> {
-    metadata_shown(alloc, &metadata)
+    let line = metadata_shown(alloc, &metadata);
+    drop(metadata);
+    line
 }
 
 /// What a snapshot tells.
@@ -128,5 +130,7 @@ pub(crate) fn snapshot_shown(alloc: Global, snapshot: &Snapshot) -> Result<Text,
 
 /// The same of a snapshot that ends here.
 pub(crate) fn snapshot_into_line(alloc: Global, snapshot: Snapshot) -> Result<Text, OutOfMemory> {
-    snapshot_shown(alloc, &snapshot)
+    let line = snapshot_shown(alloc, &snapshot);
+    drop(snapshot);
+    line
 }

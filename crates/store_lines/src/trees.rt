@@ -67,7 +67,9 @@ fn read_of(alloc: Global, column: &str) -> Result<MetaData, Error> {
 }
 
 fn made_of(alloc: Global, metadata: MetaData) -> Result<Text, OutOfMemory> {
-    pairs_of_metadata(alloc, &metadata)
+    let line = pairs_of_metadata(alloc, &metadata);
+    drop(metadata);
+    line
 }
 
 fn pairs_of_metadata(alloc: Global, metadata: &MetaData) -> Result<Text, OutOfMemory> {

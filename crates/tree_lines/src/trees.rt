@@ -123,10 +123,16 @@ fn name(held: &mut Vec<Content>) -> Result<Text, LineError> {
     text_of_tree(last_tree(held)?)
 }
 
+/// Ends a tree that is of another kind, in a call: where an arm ends it, the arm is dear to prove.
+fn no_tree_in<T>(other: Content) -> Result<T, LineError> {
+    drop(other);
+    Err(LineError::NoTree)
+}
+
 fn text_of_tree(tree: Content) -> Result<Text, LineError> {
     match tree {
         Content::String(text) => Ok(text),
-        _ => Err(LineError::NoTree),
+        other => no_tree_in(other),
     }
 }
 
@@ -134,7 +140,7 @@ fn text_of_tree(tree: Content) -> Result<Text, LineError> {
 fn names(held: &mut Vec<Content>) -> Result<(Text, u32, Text), LineError> {
     match last_tree(held)? {
         Content::UnitVariant(of, index, variant) => Ok((of, index, variant)),
-        _ => Err(LineError::NoTree),
+        other => no_tree_in(other),
     }
 }
 
