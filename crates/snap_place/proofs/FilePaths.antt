@@ -1,5 +1,5 @@
 -- The path of a snapshot is that of a file.
-use Rattle.snap_place.proofs.Prelude.{◌≡◌, ◌==◌, ℕ, List, [], ◌∷◌, ◌++◌, Bool, true, false, cond, Some, refl, sym, ap, ◌∙◌, subst, append_assoc, codes, IsSome, filter, All-append, between_slashes, is_component, components, is_absolute, path_of_parts, joined, last_of, name_of, parent_of, IsName, joined-normal, parts-components, components-names, PlaceView, file_prefix, flat_name, file_name, path_of, IsFilePath}
+use Rattle.snap_place.proofs.Prelude.{◌≡◌, ◌==◌, ℕ, List, [], ◌∷◌, ◌++◌, Bool, true, false, cond, refl, sym, ap, ◌∙◌, subst, append_assoc, codes, IsSome, filter, All-append, between_slashes, is_component, components, is_absolute, path_of_parts, joined, last_of, name_of, parent_of, IsName, joined-normal, parts-components, components-names, PlaceView, file_prefix, flat_name, file_name, path_of, IsFilePath}
 use Rattle.snap_str.specs.Lines.{onto}
 use Rattle.snap_settings.specs.Settings.{SettingsView}
 use Rattle.snap_path.proofs.Parts.{last_of-push}

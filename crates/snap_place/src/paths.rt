@@ -174,9 +174,10 @@ pub fn new_metadata(
         ≡ new_meta (settings_of settings.now) (place_of place.now)) }
 {
     let source = seen_below(alloc, place.workspace(), place.file())?;
+    let expression = place.expr().try_clone(alloc)?;
     let mut metadata = MetaData::empty();
     metadata.set_source(Some(source));
     metadata.set_assertion_line(Some(place.line()));
-    metadata.set_expression(Some(place.expr().try_clone(alloc)?));
+    metadata.set_expression(Some(expression));
     Ok(metadata)
 }

@@ -171,10 +171,13 @@ fn request_of_content(alloc: Global, content: Content) -> Result<Option<Request>
     ensures { (plain : Plain) → tree content ≡ content_of plain
         → IfOk result (λ found. option_map request_of found ≡ request_in plain) }
 {
-    let Content::Map(pairs) = content else {
-        return Ok(None);
-    };
-    request_of_pairs(alloc, pairs.into_vec())
+    match content {
+        Content::Map(pairs) => request_of_pairs(alloc, pairs.into_vec()),
+        other => {
+            drop(other);
+            Ok(None)
+        }
+    }
 }
 
 /// Reads a document. One that is the printed text of a request is never refused, and it is read as that request.

@@ -5,6 +5,7 @@ ghost use Rattle.snap_content.specs.View.{tree};
 ghost use Rattle.snap_select.specs.Grammar.{IsSelector};
 ghost use Rattle.snap_select.specs.Parts.{Parts};
 ghost use Rattle.snap_select.specs.Refusal.{IsRefused};
+ghost use Rattle.snap_select.specs.Selectors.{parts_of};
 ghost use Rattle.snap_settings.specs.Redactions.{AreRedactions, AreRefused, RedactedBy, redaction_at, redaction_of};
 ghost use Rattle.snap_settings.specs.Replaced.{redaction_for};
 
@@ -77,9 +78,13 @@ impl Redactions {
         ensures refused { IfErr result (λ e. IsRefused (chars selector.now) e) }
         ensures err { OnErr result (redactions_of self.new ≡ redactions_of self.old) }
     {
-        let selector = Selector::parse(alloc, selector)?.make_static(alloc)?;
-        self.push(selector, redaction)?;
-        Ok(())
+        match owned_selector(alloc, selector) {
+            Ok(selector) => Ok(self.push(selector, redaction)?),
+            Err(error) => {
+                drop(redaction);
+                Err(error)
+            }
+        }
     }
 
     /// Adds a redaction at the end. After want of memory the redactions are as they were.
@@ -112,4 +117,13 @@ impl Redactions {
     pub(crate) fn allocator(&self) -> Global {
         *self.items.allocator()
     }
+}
+
+/// The selector of this text, with names of its own.
+fn owned_selector(alloc: Global, selector: &str) -> Result<Selector<'static>, SelectError>
+    ensures ok { IfOk result (λ made. IsSelector (chars selector.now) (parts_of made)) }
+    ensures refused { IfErr result (λ e. IsRefused (chars selector.now) e) }
+{
+    let selector = Selector::parse(alloc, selector)?;
+    Ok(selector.make_static(alloc)?)
 }

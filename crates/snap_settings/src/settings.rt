@@ -220,6 +220,11 @@ fn sorted_where(is_set: bool, alloc: Global, content: Content) -> Result<Content
         return Ok(content);
     }
     let mut sorted = content;
-    sorted.sort_maps(alloc)?;
-    Ok(sorted)
+    match sorted.sort_maps(alloc) {
+        Ok(()) => Ok(sorted),
+        Err(error) => {
+            drop(sorted);
+            Err(error)
+        }
+    }
 }

@@ -1,5 +1,5 @@
 -- The pairs of a header, one by one, and their plain form.
-use Rattle.snap_store.proofs.Prelude.{◌≡◌, ℕ, List, [], ◌∷◌, ◌++◌, Option, None, Some, refl, ap, sym, ◌∙◌, rules, pos, codes, plain, text, int, dict, Entries, entry, no_entries, pair_entries, tree, pair_list, pair_trees, Pairs, Content, String, U32, Map, the_lemmas, tree-Map, in_front, Meta, text_field, line_field, info_field, kind_fields, header_tree, text_pair, line_pair, info_pair, kind_pairs, meta_tree, SnapshotKind, Text, Binary}
+use Rattle.snap_store.proofs.Prelude.{◌≡◌, ℕ, List, [], ◌∷◌, ◌++◌, Option, None, Some, refl, ap, sym, ◌∙◌, rules, pos, codes, plain, text, int, dict, Entries, entry, pair_entries, tree, pair_list, pair_trees, Pairs, Content, String, U32, Map, the_lemmas, tree-Map, in_front, Meta, text_field, line_field, info_field, kind_fields, header_tree, text_pair, line_pair, info_pair, kind_pairs, meta_tree, SnapshotKind, Text, Binary}
 use Rattle.snap_content.specs.Tree as t
 
 pub tree-String : (s : List ℕ) → tree (String s) ≡ t.string s

@@ -1,5 +1,5 @@
 -- The fields of pairs that a reader made.
-use Rattle.snap_store.proofs.Prelude.{◌≡◌, ℕ, ◌^◌, ℤ, pos, negsuc, Bool, true, false, not, ◌&&◌, cond, nat_lt, List, Option, None, Some, refl, ap, sym, ◌∙◌, option_or, option_map, option_and_then, codes, if◌then◌else◌, is_text, is_named, later_or, last_value, is_filled, last_filled, text_value, line_value, is_binary, binary_kind, kind_in, fields, Meta, tree_text, tree_line, line_number, is_nil, is_key, last_in, last_filled_in, text_at, line_at, kind_told, fields_told, SnapshotKind, Text}
+use Rattle.snap_store.proofs.Prelude.{◌≡◌, ℕ, ◌^◌, ℤ, pos, negsuc, Bool, true, false, not, ◌&&◌, cond, nat_lt, List, Option, None, Some, refl, ap, ◌∙◌, option_or, option_map, option_and_then, codes, if◌then◌else◌, is_text, is_named, later_or, last_value, is_filled, last_filled, text_value, line_value, is_binary, binary_kind, kind_in, fields, Meta, tree_text, tree_line, line_number, is_nil, is_key, last_in, last_filled_in, text_at, line_at, kind_told, fields_told, SnapshotKind, Text}
 use Rattle.snap_content.specs.Plain as p
 use Rattle.snap_content.specs.Tree as t
 use Rattle.snap_content.specs.Access.{resolved, whole_number_in}

@@ -48,9 +48,13 @@ pub fn push_field(
         → in_front (pair_list pairs.new) rest
         ≡ in_front (pair_list pairs.old) (pair (string name.now) (tree value) rest)) }
 {
-    let key = Content::String(Text::from_ascii(alloc, name)?);
-    pairs.push((key, value))?;
-    Ok(())
+    match Text::from_ascii(alloc, name) {
+        Ok(key) => Ok(pairs.push((Content::String(key), value))?),
+        Err(error) => {
+            drop(value);
+            Err(error)
+        }
+    }
 }
 
 fn push_text(

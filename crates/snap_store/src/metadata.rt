@@ -5,6 +5,7 @@ ghost use Rattle.snap_content.specs.View.{tree};
 
 use snap_content::{Content, OutOfMemory, Text};
 use std::alloc::Global;
+use std::mem;
 
 /// What a snapshot's contents are.
 #[derive(Debug, PartialEq, Eq, Drop)]
@@ -138,7 +139,7 @@ impl MetaData {
     pub fn set_info(&mut self, value: Option<Content>)
         ensures { meta_of self.new ≡ record (meta_of self.old) { info = option_map tree value } }
     {
-        self.info = value;
+        drop(mem::replace(&mut self.info, value));
     }
 
     pub fn set_input_file(&mut self, value: Option<Text>)
@@ -162,9 +163,9 @@ impl MetaData {
             assertion_line: self.assertion_line,
             description: clone_text(alloc, &self.description)?,
             expression: clone_text(alloc, &self.expression)?,
-            info: clone_info(alloc, &self.info)?,
             input_file: clone_text(alloc, &self.input_file)?,
             kind: self.kind.try_clone(alloc)?,
+            info: clone_info(alloc, &self.info)?,
         })
     }
 }

@@ -54,8 +54,8 @@ fn read_fields(
         assertion_line: line_told(pairs, "assertion_line"),
         description: read_text(alloc, pairs, "description")?,
         expression: read_text(alloc, pairs, "expression")?,
-        info: read_info(alloc, pairs)?,
         input_file: read_text(alloc, pairs, "input_file")?,
+        info: read_info(alloc, pairs)?,
         kind,
     })
 }

@@ -60,17 +60,15 @@ fn value_if_named(pair: (Content, Content), name: &str) -> Option<Content>
     ensures { option_map tree result
         ≡ (if is_key name.now (tree pair.0) then Some (tree pair.1) else None) }
 {
-    if is_named(&pair.0, name) {
-        Some(into_value(pair))
+    let (key, value) = pair;
+    let is_named = is_named(&key, name);
+    drop(key);
+    if is_named {
+        Some(value)
     } else {
+        drop(value);
         None
     }
-}
-
-fn into_value(pair: (Content, Content)) -> Content
-    ensures { result ≡ pair.1 }
-{
-    pair.1
 }
 
 /// The same, where a pair with a nil value is as if it were not there.

@@ -72,13 +72,16 @@ fn headed_snapshot(alloc: Global, headed: Headed, path: Text) -> Result<Snapshot
     ensures names { IfOk result (λ snapshot. HasNames path snapshot) }
     ensures no_fault { (count : ℕ) → Counted is_file_fault count count result }
 {
+    let (name, module) = names_of_path(alloc, &path)?;
     let Headed { header, body } = headed;
     let header = parse_header(alloc, header.as_str(), &path)?;
-    let metadata = MetaData::from_content(alloc, &header.content)?;
+    let number_as_text = header.number_as_text;
+    let metadata = MetaData::from_content(alloc, &header.content);
+    drop(header);
+    let metadata = metadata?;
     let contents = contents_of(metadata.kind(), body);
-    let (name, module) = names_of_path(alloc, &path)?;
     let snapshot = Snapshot::from_components(module, Some(name), metadata, contents);
-    Ok(snapshot.with_number_text(header.number_as_text))
+    Ok(snapshot.with_number_text(number_as_text))
 }
 
 /// The snapshot of a file without a header. The one error is want of memory.
@@ -88,9 +91,10 @@ fn legacy_snapshot(alloc: Global, text: &str, path: &Text) -> Result<Snapshot, O
         → IfOk result (λ snapshot. IsReadAs file snapshot) }
     ensures names { IfOk result (λ snapshot. HasNames path.now snapshot) }
 {
-    let metadata = legacy_metadata(alloc, text)?;
-    let contents = contents_of(&SnapshotKind::Text, legacy_text(alloc, text)?);
     let (name, module) = names_of_path(alloc, path)?;
+    let body = legacy_text(alloc, text)?;
+    let metadata = legacy_metadata(alloc, text)?;
+    let contents = contents_of(&SnapshotKind::Text, body);
     Ok(Snapshot::from_components(module, Some(name), metadata, contents).without_header())
 }
 

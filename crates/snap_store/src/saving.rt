@@ -95,7 +95,9 @@ fn header_text(alloc: Global, metadata: &MetaData, line: Option<u32>) -> Result<
         (header_tree (record (meta_of metadata.now) { assertion_line = line }))) }
 {
     let header = header_content(alloc, metadata, line)?;
-    yaml::to_string(alloc, &header, false)
+    let text = yaml::to_string(alloc, &header, false);
+    drop(header);
+    text
 }
 
 /// The text of the file of a text snapshot. The line of the assertion is the one given.

@@ -134,8 +134,8 @@ impl Snapshot {
         Ok(Snapshot {
             module_name: self.module_name.try_clone(alloc)?,
             snapshot_name: clone_text(alloc, &self.snapshot_name)?,
-            metadata: self.metadata.try_clone(alloc)?,
             contents: self.contents.try_clone(alloc)?,
+            metadata: self.metadata.try_clone(alloc)?,
             was_legacy: self.was_legacy,
             number_as_text: self.number_as_text,
         })

@@ -2,5 +2,5 @@ use Rattle.snap_store.proofs.Prelude.{refl}
 use Rattle.snap_store.proofs.Headers.{in_front-named}
 use Rattle.snap_store.proofs.header.push_field.Goals as goal
 
-pub returns : goal.returns
-returns c = λ rest. in_front-named _ _ _ _ _ _ rest c.in_ok-push.ensures.ok refl c.in_ok-from_ascii.ensures
+pub returns-in_ok-push-in-Ok : goal.returns-in_ok-push-in-Ok
+returns-in_ok-push-in-Ok c = λ rest. in_front-named _ _ _ _ _ _ rest c.in_ok-push-in-Ok.ensures.ok refl c.in-Ok.ensures
