@@ -103,11 +103,13 @@ fn assert_printed<S: Store>(
     ensures cause { AssertCause (S.faults store.old) (S.faults store.new) result }
 {
     let prepared = prepare(alloc, settings, place, name, printed)?;
-    let judged = assert_prepared(alloc, store, config, &prepared)?;
+    let judged = assert_prepared(alloc, store, config, &prepared);
+    let path = prepared.into_path();
+    let judged = judged?;
     let verdict = verdict(config.update, judged.passed);
     Ok(Outcome {
         verdict,
-        path: prepared.path,
+        path,
         warnings: judged.warnings,
         fails: fails(verdict, config.force_pass),
     })
@@ -136,7 +138,11 @@ fn assert_named<S: Store>(
     ensures cause { AssertCause (S.faults store.old) (S.faults store.new) result }
 {
     match settings.printed_tree(alloc, content) {
-        Ok(printed) => assert_printed(alloc, store, config, settings, place, name, &printed),
+        Ok(printed) => {
+            let outcome = assert_printed(alloc, store, config, settings, place, name, &printed);
+            drop(printed);
+            outcome
+        }
         Err(_) => Err(AssertError::OutOfMemory),
     }
 }
@@ -178,6 +184,9 @@ pub fn assert_content<S: Store>(
 {
     match name {
         Some(name) => assert_named(alloc, store, config, settings, place, name, content),
-        None => Err(AssertError::DoctestNeedsName),
+        None => {
+            drop(content);
+            Err(AssertError::DoctestNeedsName)
+        }
     }
 }

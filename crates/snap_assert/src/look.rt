@@ -153,18 +153,20 @@ fn judge<S: Store>(alloc: Global, store: &mut S, prepared: &Prepared) -> Result<
     ensures named { NamesOnly prepared.now.path result }
     ensures cause { AssertCause (S.faults store.old) (S.faults store.new) result }
 {
-    let old = match Snapshot::from_file(alloc, store, &prepared.path) {
-        Ok(old) => old,
-        Err(error) => return refused(alloc, error),
-    };
-    let judged = compare(
-        alloc,
-        old.was_legacy(),
-        old.has_number_text(),
-        old.contents(),
-        prepared.snapshot.contents(),
-    )?;
-    Ok(judged)
+    match Snapshot::from_file(alloc, store, &prepared.path) {
+        Ok(old) => {
+            let judged = compare(
+                alloc,
+                old.was_legacy(),
+                old.has_number_text(),
+                old.contents(),
+                prepared.snapshot.contents(),
+            );
+            drop(old);
+            Ok(judged?)
+        }
+        Err(error) => refused(alloc, error),
+    }
 }
 
 /// Reads the file of the snapshot, compares, and lists its folder. Nothing is changed.

@@ -29,6 +29,22 @@ pub struct Prepared {
     pub snapshot: Snapshot,
 }
 
+impl Prepared {
+    /// The path of the snapshot.
+    pub fn into_path(self) -> Text
+        ensures { result ≡ self.path }
+    {
+        let Prepared {
+            path,
+            pending,
+            snapshot,
+        } = self;
+        drop(pending);
+        drop(snapshot);
+        path
+    }
+}
+
 fn new_snapshot(
     alloc: Global,
     settings: &Settings,
@@ -47,10 +63,10 @@ fn new_snapshot(
     ensures name { IfOk result (λ snapshot. name_in snapshot ≡ Some name.now) }
 {
     let text = body_to_string(alloc, content)?;
-    let contents = TextSnapshotContents::new(text, TextSnapshotKind::File);
-    let metadata = new_metadata(alloc, settings, place)?;
     let module_name = module_text(alloc, place)?;
     let name = name.try_clone(alloc)?;
+    let metadata = new_metadata(alloc, settings, place)?;
+    let contents = TextSnapshotContents::new(text, TextSnapshotKind::File);
     Ok(Snapshot::from_components(
         module_name,
         Some(name),

@@ -20,7 +20,6 @@ use snap_outside::{Sink, Store};
 use snap_place::place::Place;
 use snap_request::cut::first_document_end;
 use snap_request::request::{Request, read_request};
-use snap_settings::redactions::Redactions;
 use snap_settings::settings::Settings;
 use snap_stream::streams::write_all;
 use std::alloc::Global;
@@ -88,9 +87,15 @@ fn assert_document<F: Store>(
         redactions,
         sort,
     } = request;
-    let place = place_of_request(alloc, runner, module_name, file, line, expr)?;
-    let redactions = Redactions::from_replacements(alloc, redactions)?;
-    let settings = Settings::of_parts(alloc, sort, redactions)?;
+    let Ok(settings) = Settings::from_replacements(alloc, sort, redactions) else {
+        drop(value);
+        return Err(DocumentError::OutOfMemory);
+    };
+    let Ok(place) = place_of_request(alloc, runner, module_name, file, line, expr) else {
+        drop(settings);
+        drop(value);
+        return Err(DocumentError::OutOfMemory);
+    };
     let outcome = assert_content(
         alloc,
         session,
@@ -100,8 +105,11 @@ fn assert_document<F: Store>(
         &place,
         Some(&name),
         value,
-    )?;
-    Ok(outcome)
+    );
+    drop(settings);
+    drop(place);
+    drop(name);
+    Ok(outcome?)
 }
 
 /// Reads one document, makes its assertion and writes its line. Whether the answer fails.

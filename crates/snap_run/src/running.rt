@@ -38,14 +38,14 @@ fn run_words<S: Source, K: Sink, F: Store>(
     let Some(said) = said_in(words) else {
         return Status::BadWords;
     };
-    let Ok(runner) = Runner::new(alloc, said.workspace, said.update, said.flags) else {
-        return Status::OutOfMemory;
-    };
     let input = match read_all(alloc, source) {
         Ok(input) => input,
         Err(ReadError::Fault) => return Status::ReadFault,
         Err(ReadError::TooLong) => return Status::InputTooLong,
         Err(ReadError::OutOfMemory) => return Status::OutOfMemory,
+    };
+    let Ok(runner) = Runner::new(alloc, said.workspace, said.update, said.flags) else {
+        return Status::OutOfMemory;
     };
     let mut session = Session::new(alloc);
     match run_documents(alloc, &runner, &mut session, &input, sink, store) {

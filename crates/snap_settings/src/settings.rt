@@ -1,13 +1,14 @@
 //! The settings of an assertion.
-ghost use Rattle.std.specs.Prelude.{◌≡◌, [], ◌∷◌, ◌++◌, IfOk, IfErr, OnOk, OnErr, is_some, option_map};
+ghost use Rattle.std.specs.Prelude.{◌≡◌, [], ◌∷◌, ◌++◌, IfOk, IfErr, OnOk, OnErr, is_some, map, option_map};
 ghost use Rattle.std.specs.Str.{chars};
 ghost use Rattle.snap_content.specs.View.{tree};
 ghost use Rattle.snap_select.specs.Grammar.{IsSelector};
 ghost use Rattle.snap_select.specs.Parts.{Parts};
+ghost use Rattle.snap_settings.specs.Replaced.{redaction_for};
 ghost use Rattle.snap_settings.specs.Settings.{sorted_where};
 ghost use Rattle.snap_store.specs.Meta.{shown_text};
 
-use crate::redactions::Redactions;
+use crate::redactions::{Redactions, Replacements};
 use snap_content::{Content, OutOfMemory, Text};
 use snap_select::{FnRedactor, Redaction, Redactor, SelectError};
 use std::alloc::Global;
@@ -202,6 +203,21 @@ impl Settings {
             snapshot_path,
             redactions,
         })
+    }
+
+    /// New settings but for sorting, with the redactions that a document asks for.
+    pub fn from_replacements(
+        alloc: Global,
+        sort_maps: bool,
+        replacements: Replacements,
+    ) -> Result<Settings, OutOfMemory>
+        ensures settings { IfOk result (λ settings. settings_of settings
+            ≡ record new_settings { sort_maps = sort_maps }) }
+        ensures redactions { IfOk result (λ settings. redactions_in settings
+            ≡ map redaction_for replacements.entry.items) }
+    {
+        let redactions = Redactions::from_replacements(alloc, replacements)?;
+        Settings::of_parts(alloc, sort_maps, redactions)
     }
 
     /// The same as a text.

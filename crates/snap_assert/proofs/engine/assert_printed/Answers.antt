@@ -3,8 +3,8 @@ use Rattle.snap_assert.proofs.Answering.{answered}
 use Rattle.snap_assert.proofs.Settling.{has_text, kept_unwritten, own_refused}
 use Rattle.snap_assert.proofs.engine.assert_printed.Goals as goal
 
-pub assert_prepared-requires : goal.assert_prepared-requires
-assert_prepared-requires g c = has_text _ c.in_ok-prepared.prepared c.in_ok-prepared.ensures
+pub assert_prepared-judged-requires : goal.assert_prepared-judged-requires
+assert_prepared-judged-requires g c = has_text _ c.in_ok-prepared.prepared c.in_ok-prepared.ensures
 
 pub returns-in_err-prepared-clause-kept : goal.returns-in_err-prepared-clause-kept
 returns-in_err-prepared-clause-kept g c = kept_unwritten _ _ _ _ refl
@@ -20,4 +20,4 @@ returns-clause-kept g c = c.in_ok-judged.ensures.kept _ c.in_ok-prepared.ensures
 
 pub returns-clause-answered : goal.returns-clause-answered
 returns-clause-answered g c =
-    answered c.args.config.now _ c.in_ok-prepared.prepared c.in_ok-judged.judged _ _ _ _ c.in_ok-prepared.ensures c.verdict-verdict.ensures c.fails.ensures c.in_ok-judged.ensures.settled
+    rw c.into_path-path.ensures (answered c.args.config.now _ c.in_ok-prepared.prepared c.in_ok-judged.judged _ _ _ _ c.in_ok-prepared.ensures c.verdict-verdict.ensures c.fails.ensures c.in_ok-judged.ensures.settled)

@@ -1,10 +1,10 @@
 use Rattle.snap_assert.proofs.Looking.{judge_read, judge_refused, all_judged, refused_at}
 use Rattle.snap_assert.proofs.look.judge.Goals as goal
 
-pub returns-clause-judged : goal.returns-clause-judged
-returns-clause-judged g c = λ asked m prepared told.
-    judge_read asked m c.args.prepared.now _ c.in-Ok.old c.was_legacy.result c.has_number_text.result c.contents.result.now c.contents-2.result.now c.in_ok-judged.judged prepared told
-    c.in-Ok.ensures.end c.was_legacy.ensures c.has_number_text.ensures c.contents.ensures c.contents-2.ensures c.in_ok-judged.ensures
+pub returns-in_ok-judged-in-Ok-clause-judged : goal.returns-in_ok-judged-in-Ok-clause-judged
+returns-in_ok-judged-in-Ok-clause-judged g c = λ asked m prepared told.
+    judge_read asked m c.args.prepared.now _ c.in-Ok.old c.was_legacy.result c.has_number_text.result c.contents.result.now c.contents-in-Ok.result.now c.in_ok-judged-in-Ok.field-0 prepared told
+    c.in-Ok.ensures.end c.was_legacy.ensures c.has_number_text.ensures c.contents.ensures c.contents-in-Ok.ensures c.in_ok-judged-in-Ok.ensures
 
 pub returns-in-Err-clause-judged : goal.returns-in-Err-clause-judged
 returns-in-Err-clause-judged g c = all_judged c.args.prepared.now _ c.refused.result (λ asked m prepared told.

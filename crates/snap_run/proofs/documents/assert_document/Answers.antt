@@ -1,7 +1,7 @@
 use Rattle.snap_run.proofs.Prelude.{refl, ap, ◌∙◌, Err, words_of}
 use Rattle.std.proofs.lemmas.Result.{err_from_is_err_and}
 use Rattle.snap_request.proofs.Requesting.{file_named}
-use Rattle.snap_run.proofs.DocumentEnds.{unchanged_before, path_is, printed_is, assertion_is, document_answered, unread_stops, refused_stops, refused_count}
+use Rattle.snap_run.proofs.DocumentEnds.{path_is, printed_is, assertion_is, document_answered, unread_stops, refused_stops, refused_count}
 use Rattle.snap_request.specs.RequestOf.{request_of}
 use Rattle.snap_run.proofs.documents.assert_document.Goals as goal
 
@@ -14,24 +14,15 @@ returns-in_err-request-clause-err g c =
 pub place_of_request-requires : goal.place_of_request-requires
 place_of_request-requires g c = file_named c.in_ok-request.ensures.ok.tree _ c.in_ok-request.ensures.ok.request_is
 
-pub returns-in_err-place-clause-err : goal.returns-in_err-place-clause-err
-returns-in_err-place-clause-err g c = unchanged_before (words_of c.args.runner.now) c.args.document.now _ c.from_residual-in_err-place.result c.from_residual-in_err-place.ensures.1
-
-pub returns-in_err-redactions-clause-err : goal.returns-in_err-redactions-clause-err
-returns-in_err-redactions-clause-err g c = unchanged_before (words_of c.args.runner.now) c.args.document.now _ c.from_residual-in_err-redactions.result c.from_residual-in_err-redactions.ensures.1
-
-pub returns-in_err-settings-clause-err : goal.returns-in_err-settings-clause-err
-returns-in_err-settings-clause-err g c = unchanged_before (words_of c.args.runner.now) c.args.document.now _ c.from_residual-in_err-settings.result c.from_residual-in_err-settings.ensures.1
-
 pub returns-clause-ok : goal.returns-clause-ok
 returns-clause-ok g c =
     let request = request_of c.in_ok-request.request in
-    let settings = c.in_ok-settings.ensures in
+    let made = c.in-Ok.ensures in
     let answered = c.in_ok-outcome.ensures.answered _ refl in
-    let printed = printed_is _ c.in_ok-settings.settings c.in_ok-request.request.redactions.items request answered.0 settings.settings
-    (settings.redactions ∙ c.in_ok-redactions.ensures) refl answered.1 in
+    let printed = printed_is _ c.in-Ok.settings c.in_ok-request.request.redactions.items request answered.0 made.settings
+    made.redactions refl answered.1 in
     document_answered c.args.runner.now c.args.document.now request _ _ _ _ c.in_ok-request.ensures.ok
-    (assertion_is _ _ _ request answered.0 settings.settings c.in_ok-place.ensures printed) answered.2
+    (assertion_is _ _ _ request answered.0 made.settings c.in-Ok-place_of_request.ensures printed) answered.2
 
 pub returns-in_err-outcome-clause-err : goal.returns-in_err-outcome-clause-err
 returns-in_err-outcome-clause-err g c =
@@ -39,7 +30,7 @@ returns-in_err-outcome-clause-err g c =
     rw (told.1, told.2)
     (refused_stops c.args.runner.now c.args.document.now (request_of c.in_ok-request.request) _ _ _ _ _ c.in_err-outcome.field-0.0
     c.in_err-outcome.ensures.cause (c.in_err-outcome.ensures.named _ refl) c.in_ok-request.ensures.ok
-    (path_is _ _ _ (request_of c.in_ok-request.request) c.in_ok-settings.ensures.settings c.in_ok-place.ensures)
+    (path_is _ _ _ (request_of c.in_ok-request.request) c.in-Ok.ensures.settings c.in-Ok-place_of_request.ensures)
     (c.in_err-outcome.ensures.kept _ refl))
 
 pub returns-in_err-outcome-clause-store_count : goal.returns-in_err-outcome-clause-store_count
