@@ -1,28 +1,27 @@
 -- What a reading of a file says of a pass.
-use Rattle.snap_assert.proofs.Prelude.{◌≡◌, ◌↔◌, inl, inr, ◌||◌, ◌&&◌, IsTrue, ℕ, Bool, true, false, cond, List, Option, None, Some, refl, sym, ap, ◌∙◌, subst, codes, Plain, dict, Entries, entry, no_entries, text_of, Error, FailedParsingYaml, UnexpectedDataType, MissingField, FileIo, FloatText, JsonKey, NotText, NoFile, OutOfMemory, raw_of, kind_of, compared_as, legacy_as, TextSnapshotKind, File, legacy, Agree, is_headed, body_of, Meta, IsTextFile, HasHeader, HoldsBody, IsReadAs, IsRefused, Tells, meta_in, contents_in, legacy_in, text_in, IsFileText, SnapshotContents, Text, Binary, SnapshotKind, Snapshot, BodyAgrees, HasCanonicalHeader, HasBinaryHeader, IsLegacyFile, IsUnread, says_binary, May, some_same, false_from_ne_true, or_right}
-use Rattle.snap_content.specs.Plain as p
-use Rattle.snap_store.specs.Fields.{is_named, is_text, is_binary, kind_in, binary_kind, last_value, later_or, text_value}
+use Rattle.snap_assert.proofs.Prelude.{◌≡◌, ◌↔◌, inl, inr, ◌||◌, ◌&&◌, IsTrue, ℕ, Bool, true, false, cond, List, Option, None, Some, refl, sym, ap, ◌∙◌, subst, codes, Plain, dict, Entries, entry, no_entries, text_of, Error, FailedParsingYaml, UnexpectedDataType, MissingField, FileIo, FloatText, JsonKey, NotText, NoFile, OutOfMemory, raw_of, kind_of, compared_as, legacy_as, TextSnapshotKind, File, legacy, Agree, is_headed, body_of, Meta, IsTextFile, HasHeader, HoldsBody, IsReadAs, IsRefused, Tells, meta_in, contents_in, legacy_in, text_in, IsFileText, SnapshotContents, Text, Binary, SnapshotKind, Snapshot, BodyAgrees, HasTextHeader, HasBinaryHeader, IsLegacyFile, IsUnread, May, some_same, false_from_ne_true, or_right}
+use Rattle.snap_store.specs.Fields.{is_binary, kind_in, binary_kind, last_value, text_value}
 use Rattle.snap_store.specs.declared.metadata.SnapshotKind.TheVariants as kind
 use Rattle.snap_assert.proofs.Readings.{one_text, no_text_file, text_or_none, one_reading, headed_or_not, entries_same}
 use Rattle.snap_assert.proofs.Saved.{against_saved}
 
 -- a pass that is decided by three facts and three refusals
 pub judged : (passed : Bool) (file : Option (List ℕ)) (tree : Plain) → (file ≡ None → passed ≡ false)
-    → (passed ≡ true → BodyAgrees file (text_of tree)) → (HasCanonicalHeader file → BodyAgrees file (text_of tree) → passed ≡ true)
+    → (passed ≡ true → BodyAgrees file (text_of tree)) → (HasTextHeader file → BodyAgrees file (text_of tree) → passed ≡ true)
     → (IsLegacyFile file → BodyAgrees file (text_of tree) → passed ≡ true) → (HasBinaryHeader file → passed ≡ false)
     → (IsUnread file → passed ≡ false) → May passed file tree
-judged passed file tree absent agrees canonical legacy binary unread = record {
+judged passed file tree absent agrees headed legacy binary unread = record {
   absent = absent;
   agrees = agrees;
-  canonical = canonical;
+  headed = headed;
   legacy = legacy;
   binary = binary;
   unread = unread;
-  saved = against_saved passed file tree agrees canonical;
+  saved = against_saved passed file tree agrees headed;
 }
 
--- no pass, where the file has a header that isn't canonical
-pub no_pass : (file : Option (List ℕ)) (tree : Plain) → (HasCanonicalHeader file → ⊥) → (IsLegacyFile file → ⊥) → May false file tree
+-- no pass, where the file has not the header of a text
+pub no_pass : (file : Option (List ℕ)) (tree : Plain) → (HasTextHeader file → ⊥) → (IsLegacyFile file → ⊥) → May false file tree
 no_pass file tree none headed = judged false file tree (λ e. refl) (λ e. cc) (λ h b. absurd (none h)) (λ h b. absurd (headed h)) (λ h. refl) (λ h. refl)
 
 pub no_file : (file : Option (List ℕ)) (tree : Plain) → file ≡ None → May false file tree
@@ -32,37 +31,11 @@ no_file file tree none = no_pass file tree (λ h. no_text_file file h.whole none
 has_header : (file : Option (List ℕ)) (text : List ℕ) → IsTextFile file text → is_headed text ≡ true → IsLegacyFile file → ⊥
 has_header file text there headed h = headed_or_not file text h.whole there h.there headed h.unheaded
 
-named_binary : (value : Plain) → is_text (codes "binary") (text_value (Some value)) ≡ is_named (codes "binary") value
-named_binary p.null = refl
-named_binary (p.bool b) = refl
-named_binary (p.int z) = refl
-named_binary (p.text s) = refl
-named_binary (p.list items) = refl
-named_binary (p.dict entries) = refl
-
-last_says : (found : Option Plain) (here : Bool) (value : Plain) (more : Bool) → (is_text (codes "binary") (text_value found) ≡ true → more ≡ true)
-    → is_text (codes "binary") (text_value (later_or found here value)) ≡ true → ((here && is_named (codes "binary") value) || more) ≡ true
-last_says (Some later) here value more rest h = or_right (here && is_named (codes "binary") value) more (rest h)
-last_says None true value more rest h = ap (λ b. b || more) (sym (named_binary value) ∙ h)
-last_says None false value more rest h = absurd (cc)
-
-pub binary_says : (entries : Entries) → is_binary entries ≡ true → says_binary entries ≡ true
-binary_says no_entries h = absurd (cc)
-binary_says (entry key value more) h =
-    last_says (last_value (codes "snapshot_kind") more) (is_named (codes "snapshot_kind") key) value (says_binary more) (binary_says more) h
-
-canonical_text : (entries : Entries) → says_binary entries ≡ false → is_binary entries ≡ false
-canonical_text entries h = by (is_binary entries) refl
-  where
-    by : (b : Bool) → is_binary entries ≡ b → is_binary entries ≡ false
-    by true e = absurd (let t = binary_says entries e in cc (t, h))
-    by false e = e
-
 kind_of_text : (b : Bool) (extension : Option (List ℕ)) → b ≡ false → cond b (binary_kind extension) (Some kind.Text) ≡ Some kind.Text
 kind_of_text b extension h = ap (λ c. cond c (binary_kind extension) (Some kind.Text)) h
 
-pub canonical_kind : (entries : Entries) → says_binary entries ≡ false → kind_in entries ≡ Some kind.Text
-canonical_kind entries h = kind_of_text (is_binary entries) (text_value (last_value (codes "extension") entries)) (canonical_text entries h)
+text_kind : (entries : Entries) → is_binary entries ≡ false → kind_in entries ≡ Some kind.Text
+text_kind entries h = kind_of_text (is_binary entries) (text_value (last_value (codes "extension") entries)) h
 
 -- a refusal of the file is no pass
 pub refused_no_pass : (path : List ℕ) (file : Option (List ℕ)) (tree : Plain) (error : Error) → IsRefused path file error
@@ -70,7 +43,7 @@ pub refused_no_pass : (path : List ℕ) (file : Option (List ℕ)) (tree : Plain
 refused_no_pass path file tree (NoFile named) h io memory = no_file file tree h.1
 refused_no_pass path file tree (NotText named) h io memory = no_pass file tree (λ k. text_or_none file k.whole h.1 k.there) (λ k. text_or_none file k.whole h.1 k.there)
 refused_no_pass path file tree (FailedParsingYaml named) h io memory =
-    no_pass file tree (λ k. h.1.unprinted (dict k.entries) (subst (λ t. HasHeader t (dict k.entries)) (one_text file k.whole h.1.text k.there h.1.there) k.header))
+    no_pass file tree (λ k. h.1.unspelled (dict k.entries) (subst (λ t. HasHeader t (dict k.entries)) (one_text file k.whole h.1.text k.there h.1.there) k.header))
     (has_header file h.1.text h.1.there h.1.headed)
 refused_no_pass path file tree UnexpectedDataType h io memory =
     no_pass file tree (λ k. h.other k.entries (one_reading file h.text k.whole h.tree (dict k.entries) h.there h.header k.there k.header).tree)
@@ -78,7 +51,7 @@ refused_no_pass path file tree UnexpectedDataType h io memory =
 refused_no_pass path file tree MissingField h io memory =
     no_pass file tree (λ k.
     let same : h.entries ≡ k.entries = entries_same h.entries k.entries (one_reading file h.text k.whole (dict h.entries) (dict k.entries) h.there h.header k.there k.header).tree in
-    let text = canonical_kind k.entries k.not_binary in
+    let text = text_kind k.entries k.not_binary in
     let lacking = h.lacking in
     clash h.entries k.entries same lacking text)
     (has_header file h.text h.there h.header.headed)
@@ -137,12 +110,12 @@ same_kind : (a b : SnapshotKind) → Some a ≡ Some b → a ≡ b
 same_kind a b e = cc
 
 -- the kind that was read, by what the file is
-kind_canonical : (file : Option (List ℕ)) (was : Bool) (text : List ℕ) (meta : Meta) → IsTextFile file text → Tells was text meta → HasCanonicalHeader file → meta.kind ≡ kind.Text
-kind_canonical file false text meta there t h =
+kind_headed : (file : Option (List ℕ)) (was : Bool) (text : List ℕ) (meta : Meta) → IsTextFile file text → Tells was text meta → HasTextHeader file → meta.kind ≡ kind.Text
+kind_headed file false text meta there t h =
     let one = one_reading file text h.whole (dict t.entries) (dict h.entries) there t.header h.there h.header in
     let entries : t.entries ≡ h.entries = entries_same t.entries h.entries one.tree in
-    ap (λ m. m.kind) t.meta_is ∙ same_kind t.kind kind.Text (sym t.kind_is ∙ ap kind_in entries ∙ canonical_kind h.entries h.not_binary)
-kind_canonical file true text meta there t h = absurd (headed_or_not file h.whole text h.there there h.header.headed t.unheaded)
+    ap (λ m. m.kind) t.meta_is ∙ same_kind t.kind kind.Text (sym t.kind_is ∙ ap kind_in entries ∙ text_kind h.entries h.not_binary)
+kind_headed file true text meta there t h = absurd (headed_or_not file h.whole text h.there there h.header.headed t.unheaded)
 
 kind_legacy : (file : Option (List ℕ)) (was : Bool) (text : List ℕ) (meta : Meta) → IsTextFile file text → Tells was text meta → IsLegacyFile file → meta.kind ≡ kind.Text
 kind_legacy file false text meta there t h = absurd (headed_or_not file text h.whole there h.there t.header.headed h.unheaded)
@@ -188,7 +161,7 @@ read_judged file tree snapshot new passed r c =
       there = r.there;
       same = held_agrees meta.kind (body_of r.text) (text_of tree) (contents_in snapshot) new r.contents c.printed_is c.in_file (c.tells.0 yes);
     })
-    (λ h b. agreement_passes file tree snapshot new passed r c (kind_canonical file was r.text meta r.there r.metadata h) b)
+    (λ h b. agreement_passes file tree snapshot new passed r c (kind_headed file was r.text meta r.there r.metadata h) b)
     (λ h b. agreement_passes file tree snapshot new passed r c (kind_legacy file was r.text meta r.there r.metadata h) b)
     (λ h.
     let found = kind_binary file was r.text meta r.there r.metadata h in

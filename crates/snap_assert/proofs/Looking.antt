@@ -1,6 +1,7 @@
 -- What was seen of a file, and of what is asked.
-use Rattle.snap_assert.proofs.Prelude.{◌≡◌, ℕ, Bool, true, false, List, [], ◌∷◌, Option, Some, Result, Ok, Err, refl, sym, ap, ◌∙◌, subst, inl, inr, IfOk, get, text_of, Error, FailedParsingYaml, UnexpectedDataType, MissingField, FileIo, FloatText, JsonKey, NotText, NoFile, OutOfMemory, Files, Agree, raw_of, kind_of, compared_as, compared_of, TextSnapshotKind, File, normal, body_of, Meta, IsTextFile, HasUnprintedHeader, IsReadAs, IsReadFrom, IsRefused, HoldsBody, Tells, meta_in, contents_in, legacy_in, number_text_in, text_in, IsFileText, SnapshotContents, Text, Binary, SnapshotKind, Snapshot, May, Asked, AreWarnings, PassWarns, IsHeadedFile, IsNotUnderstood, IsPrepared, IsJudged, TextsMatch, TextsDiffer, OlderAs, NoPass, RefusedEnd, IsCompared, said_if, said, NamesOnly, AssertError, Judged, Prepared, some_same}
+use Rattle.snap_assert.proofs.Prelude.{◌≡◌, ℕ, Bool, true, false, List, [], ◌∷◌, Option, Some, Result, Ok, Err, refl, sym, ap, ◌∙◌, subst, inl, inr, IfOk, get, text_of, Error, FailedParsingYaml, UnexpectedDataType, MissingField, FileIo, FloatText, JsonKey, NotText, NoFile, OutOfMemory, Files, Agree, raw_of, kind_of, compared_as, compared_of, TextSnapshotKind, File, normal, body_of, Meta, IsTextFile, IsReadAs, IsReadFrom, IsRefused, HoldsBody, Tells, meta_in, contents_in, legacy_in, number_text_in, text_in, IsFileText, SnapshotContents, Text, Binary, SnapshotKind, Snapshot, May, Asked, AreWarnings, PassWarns, IsHeadedFile, IsNotUnderstood, IsPrepared, IsJudged, TextsMatch, TextsDiffer, OlderAs, NoPass, RefusedEnd, IsCompared, said_if, said, NamesOnly, AssertError, Judged, Prepared, some_same}
 use Rattle.snap_content.specs.List.{items_of}
+use Rattle.snap_store.specs.Reading.{KeepsNumberIn}
 use Rattle.snap_store.specs.declared.metadata.SnapshotKind.TheVariants as kind
 use Rattle.snap_assert.specs.declared.error.AssertError.TheVariants as stop
 use Rattle.snap_assert.specs.declared.outcome.Warning.{Warning}
@@ -54,18 +55,19 @@ warned_pass file snapshot new passed true printed r e agrees how = (
       (ap (λ t. normal (body_of t)) (one_text file r.text b.whole r.there b.there) ∙ b.same),
 )
 
-headed_file : (file : Option (List ℕ)) (text : List ℕ) (meta : Meta) → IsTextFile file text → Tells false text meta → IsHeadedFile file
-headed_file file text meta there t = record { whole = text; there = there; entries = t.entries; header = t.header; kind = t.kind; kind_is = t.kind_is }
+headed_file : (file : Option (List ℕ)) (text : List ℕ) (meta : Meta) (kept : Bool) → IsTextFile file text → Tells false text meta → KeepsNumberIn text kept → IsHeadedFile file kept
+headed_file file text meta kept there t numbers =
+    record { whole = text; there = there; entries = t.entries; header = t.header; kind = t.kind; kind_is = t.kind_is; numbers = numbers.0 t.header.headed }
 
 -- what is said of a file that was read; one without a header keeps no number as a text
 warned_file : (path : List ℕ) (file : Option (List ℕ)) (was number older passed : Bool) (text printed : List ℕ) (meta : Meta) → IsTextFile file text → Tells was text meta
-    → (number ≡ true → HasUnprintedHeader file) → PassWarns file passed printed (said_if older LegacyContents) → AreWarnings path file passed printed (said was number older)
+    → KeepsNumberIn text number → PassWarns file passed printed (said_if older LegacyContents) → AreWarnings path file passed printed (said was number older)
 warned_file path file true true older passed text printed meta there t kept h =
-    let u = kept refl in absurd (headed_or_not file u.text text u.there there u.headed t.unheaded)
+    absurd (let clash = kept.1 t.unheaded in cc clash)
 warned_file path file true false older passed text printed meta there t kept h = (record { whole = text; there = there; unheaded = t.unheaded }, h)
-warned_file path file false true older passed text printed meta there t kept h = (headed_file file text meta there t, kept refl, h)
-warned_file path file false false false passed text printed meta there t kept h = inr (headed_file file text meta there t, h)
-warned_file path file false false true passed text printed meta there t kept h = inr (headed_file file text meta there t, h)
+warned_file path file false true older passed text printed meta there t kept h = (headed_file file text meta true there t kept, h)
+warned_file path file false false false passed text printed meta there t kept h = inr (headed_file file text meta false there t kept, h)
+warned_file path file false false true passed text printed meta there t kept h = inr (headed_file file text meta false there t kept, h)
 
 -- a file that was read is judged by the comparison
 read_compared : (asked : Asked) (m : Files) (file : Option (List ℕ)) (snapshot : Snapshot) (new : SnapshotContents) (judged : Judged)

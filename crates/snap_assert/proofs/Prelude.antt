@@ -25,7 +25,7 @@ pub use Rattle.snap_store.specs.Agreement.{Agree}
 pub use Rattle.snap_store.specs.FileSplit.{FallsInto, is_headed, body_of, header_of}
 pub use Rattle.snap_store.specs.Image.{file_of, text_under, saved_text}
 pub use Rattle.snap_store.specs.Meta.{Meta, header_tree, without_line}
-pub use Rattle.snap_store.specs.Reading.{IsTextFile, HasHeader, HoldsBody, IsReadAs, IsRefused, Tells, HasUnprintedHeader, IsReadFrom, ReadsHeader, IsNoText}
+pub use Rattle.snap_store.specs.Reading.{IsTextFile, HasHeader, HoldsBody, IsReadAs, IsRefused, Tells, IsReadFrom, ReadsHeader, IsNoText}
 pub use Rattle.snap_store.specs.Views.{meta_in, contents_in, legacy_in, text_in, IsFileText, number_text_in}
 pub use Rattle.snap_store.specs.declared.contents.SnapshotContents.{SnapshotContents}
 pub use Rattle.snap_store.specs.declared.contents.SnapshotContents.TheVariants.{Text, Binary}
@@ -37,7 +37,7 @@ pub use Rattle.snap_text.specs.Normal.{normal, unreturned}
 pub use Rattle.snap_text.specs.declared.contents.TextSnapshotKind.{TextSnapshotKind}
 pub use Rattle.snap_text.specs.declared.contents.TextSnapshotKind.TheVariants.{File}
 pub use Rattle.snap_assert.specs.Assertions.{Assertion, asked_in, Left, key_in, new_contents, goes_on, is_refused, in_block, by_blocks, assertion_step, assertion_of}
-pub use Rattle.snap_assert.specs.Judging.{BodyAgrees, HasCanonicalHeader, HasBinaryHeader, IsLegacyFile, IsUnread, says_binary, May, IsSavedFor}
+pub use Rattle.snap_assert.specs.Judging.{BodyAgrees, HasTextHeader, HasBinaryHeader, IsLegacyFile, IsUnread, May, IsSavedFor}
 pub use Rattle.snap_assert.specs.Kept.{is_written, may_change, Keeps, IsKeptOrGone, is_none, is_waiting, NamesOnly, KeptBy, IsWrittenAlone, IsTakenAlone, IsOwn, FaultIsOwn, FaultIsAt, NamesOwn}
 pub use Rattle.snap_assert.specs.Outcomes.{IsAnswered, AreWarnings, PassWarns, IsHeadedFile, IsNotUnderstood}
 pub use Rattle.snap_assert.specs.Prepared.{IsPrepared, IsSettled, IsJudged, TextsMatch, TextsDiffer, OlderAs, NoPass, RefusedEnd, IsCompared, said_if, said}

@@ -1,5 +1,6 @@
 -- One file is read in one way.
 use Rattle.snap_assert.proofs.Prelude.{◌≡◌, ℕ, true, false, List, Option, None, sym, ap, ◌∙◌, subst, chars, IsUtf8, Plain, dict, Entries, is_headed, header_of, IsTextFile, HasHeader, ReadsHeader, IsNoText, some_same}
+use Rattle.snap_emit.specs.Spelled.{IsHeaderOf}
 
 pub one_text : (file : Option (List ℕ)) (a b : List ℕ) → IsTextFile file a → IsTextFile file b → a ≡ b
 one_text file a b p q =
@@ -15,7 +16,7 @@ text_or_none file a n p = n.broken (subst IsUtf8 (some_same p.bytes n.bytes (sym
 pub entries_same : (a b : Entries) → dict a ≡ dict b → a ≡ b
 entries_same a b e = cc
 
--- a printed header, and the tree that it is read as
+-- the header of a tree, and the tree that it is read as
 pub record AreOne (file : Option (List ℕ)) (x y : List ℕ) (a b : Plain) : Type 0 where
   pub text : x ≡ y
   pub tree : a ≡ b
@@ -23,7 +24,7 @@ pub record AreOne (file : Option (List ℕ)) (x y : List ℕ) (a b : Plain) : Ty
 pub one_reading : (file : Option (List ℕ)) (x y : List ℕ) (a b : Plain) → IsTextFile file x → ReadsHeader x a → IsTextFile file y → HasHeader y b → AreOne file x y a b
 one_reading file x y a b p h q k =
     let same = one_text file x y p q in
-    record { text = same; tree = h.read b k.within (ap header_of same ∙ k.header) }
+    record { text = same; tree = h.read b k.within (subst (λ t. IsHeaderOf (header_of t) b) (sym same) k.header) }
 
 -- a file has a header or none
 pub headed_or_not : (file : Option (List ℕ)) (x y : List ℕ) → IsTextFile file x → IsTextFile file y → is_headed x ≡ true → is_headed y ≡ false → ⊥

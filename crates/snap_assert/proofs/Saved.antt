@@ -1,5 +1,5 @@
 -- A tree against a file that was saved for another.
-use Rattle.snap_assert.proofs.Prelude.{◌≡◌, ◌↔◌, ℕ, Bool, true, List, [], ◌∷◌, ◌++◌, Option, sym, ap, ◌∙◌, Plain, dict, text_of, IsWithin, without_breaks, without_fence, legacy, normal, body_of, file_of, BodyAgrees, HasCanonicalHeader, IsSavedFor}
+use Rattle.snap_assert.proofs.Prelude.{◌≡◌, ◌↔◌, inl, ℕ, Bool, true, List, [], ◌∷◌, ◌++◌, Option, sym, ap, ◌∙◌, Plain, dict, text_of, IsWithin, without_breaks, without_fence, legacy, normal, body_of, file_of, BodyAgrees, HasTextHeader, IsSavedFor}
 use Rattle.snap_emit.proofs.OneText.{texts_same}
 use Rattle.snap_assert.proofs.Below.{normal-text_of, legacy-text_of, splits-file_of, normal-ended}
 use Rattle.snap_assert.proofs.Readings.{one_text}
@@ -20,7 +20,7 @@ body_normal file q s =
     let d = dict s.entries in
     sym (normal-ended (body_of (file_of d q))) ∙ ap normal (splits-file_of d q s.header s.within).body_is
 
-pub saved_header : (file : Option (List ℕ)) (q : Plain) → IsSavedFor file q → HasCanonicalHeader file
+pub saved_header : (file : Option (List ℕ)) (q : Plain) → IsSavedFor file q → HasTextHeader file
 saved_header file q s = record {
   whole = file_of (dict s.entries) q;
   there = s.there;
@@ -28,7 +28,7 @@ saved_header file q s = record {
   header = record {
     headed = (splits-file_of (dict s.entries) q s.header s.within).headed;
     within = s.header;
-    header = (splits-file_of (dict s.entries) q s.header s.within).header_is;
+    header = inl (splits-file_of (dict s.entries) q s.header s.within).header_is;
   };
   not_binary = s.not_binary;
 }
@@ -48,7 +48,7 @@ saved_tree file q tree s h b =
 
 -- what a pass says and where it must come decide it against a saved file
 pub against_saved : (passed : Bool) (file : Option (List ℕ)) (tree : Plain)
-    → (passed ≡ true → BodyAgrees file (text_of tree)) → (HasCanonicalHeader file → BodyAgrees file (text_of tree) → passed ≡ true)
+    → (passed ≡ true → BodyAgrees file (text_of tree)) → (HasTextHeader file → BodyAgrees file (text_of tree) → passed ≡ true)
     → (q : Plain) → IsSavedFor file q → IsWithin tree → (passed ≡ true) ↔ (q ≡ tree)
-against_saved passed file tree agrees canonical q s h =
-    (λ p. saved_tree file q tree s h (agrees p), λ e. canonical (saved_header file q s) (saved_body file q tree s e))
+against_saved passed file tree agrees headed q s h =
+    (λ p. saved_tree file q tree s h (agrees p), λ e. headed (saved_header file q s) (saved_body file q tree s e))

@@ -1,12 +1,12 @@
 -- When a tree passes against a file.
-use Rattle.std.specs.Prelude.{◌≡◌, ◌↔◌, ◌⊎◌, ◌||◌, ◌&&◌, ℕ, Bool, true, false, List, Option, None, codes}
-use Rattle.snap_content.specs.Plain.{Plain, dict, Entries, entry, no_entries}
+use Rattle.std.specs.Prelude.{◌≡◌, ◌↔◌, ◌⊎◌, ℕ, Bool, true, false, List, Option, None}
+use Rattle.snap_content.specs.Plain.{Plain, dict, Entries}
 use Rattle.snap_content.specs.Lines.{text_of}
 use Rattle.snap_content.specs.Readable.{IsWithin}
 use Rattle.snap_text.specs.Legacy.{legacy}
 use Rattle.snap_text.specs.Normal.{normal}
 use Rattle.snap_store.specs.FileSplit.{is_headed, body_of}
-use Rattle.snap_store.specs.Fields.{is_named, is_binary, kind_in}
+use Rattle.snap_store.specs.Fields.{is_binary, kind_in}
 use Rattle.snap_store.specs.Image.{file_of}
 use Rattle.snap_store.specs.Reading.{IsTextFile, HasHeader, IsNoText}
 
@@ -22,20 +22,15 @@ pub record BodyMatches (file : Option (List ℕ)) (printed : List ℕ) : Type 0 
   pub there : IsTextFile file whole
   pub same : normal (body_of whole) ≡ normal printed
 
--- one of the pairs says `snapshot_kind: binary`
-abbrev pub says_binary : Entries → Bool
-says_binary no_entries = false
-says_binary (entry key value more) = (is_named (codes "snapshot_kind") key && is_named (codes "binary") value) || says_binary more
-
--- the header is a printed dict, and no pair of it says binary
-pub record HasCanonicalHeader (file : Option (List ℕ)) : Type 0 where
+-- the header is printed of a dict or spells one, whose last pair named `snapshot_kind` doesn't say binary
+pub record HasTextHeader (file : Option (List ℕ)) : Type 0 where
   pub whole : List ℕ
   pub there : IsTextFile file whole
   pub entries : Entries
   pub header : HasHeader whole (dict entries)
-  pub not_binary : says_binary entries ≡ false
+  pub not_binary : is_binary entries ≡ false
 
--- the same, but the last pair of that name says binary
+-- the same, but that pair says binary
 pub record HasBinaryHeader (file : Option (List ℕ)) : Type 0 where
   pub whole : List ℕ
   pub there : IsTextFile file whole
@@ -49,7 +44,7 @@ pub record IsLegacyFile (file : Option (List ℕ)) : Type 0 where
   pub there : IsTextFile file whole
   pub unheaded : is_headed whole ≡ false
 
--- the header is a printed tree that is no dict
+-- the header is printed of a tree that is no dict, or spells one
 pub record HasNoDict (file : Option (List ℕ)) : Type 0 where
   pub whole : List ℕ
   pub there : IsTextFile file whole
@@ -57,7 +52,7 @@ pub record HasNoDict (file : Option (List ℕ)) : Type 0 where
   pub header : HasHeader whole tree
   pub other : (entries : Entries) → tree ≡ dict entries → ⊥
 
--- the header is a printed dict that says binary, without a text `extension`
+-- the header is printed of a dict that says binary, without a text `extension`, or spells one
 pub record HasNoKind (file : Option (List ℕ)) : Type 0 where
   pub whole : List ℕ
   pub there : IsTextFile file whole
@@ -65,15 +60,15 @@ pub record HasNoKind (file : Option (List ℕ)) : Type 0 where
   pub header : HasHeader whole (dict entries)
   pub lacking : kind_in entries ≡ None
 
--- the file isn't understood: it is no text, or its header is printed, and is not that of a snapshot
+-- the file isn't understood: it is no text, or the tree that its header is printed of or spells is not that of a snapshot
 abbrev pub IsUnread : Option (List ℕ) → Type 0
 IsUnread file = IsNoText file ⊎ (HasNoDict file ⊎ HasNoKind file)
 
--- the file was saved for a tree, under a canonical header
+-- the file was saved for a tree, under the header of a text
 pub record IsSavedFor (file : Option (List ℕ)) (tree : Plain) : Type 0 where
   pub entries : Entries
   pub header : IsWithin (dict entries)
-  pub not_binary : says_binary entries ≡ false
+  pub not_binary : is_binary entries ≡ false
   pub within : IsWithin tree
   pub there : IsTextFile file (file_of (dict entries) tree)
 
@@ -83,8 +78,8 @@ pub record May (passed : Bool) (file : Option (List ℕ)) (tree : Plain) : Type 
   pub absent : file ≡ None → passed ≡ false
   -- only where the stored body agrees with the tree's text
   pub agrees : passed ≡ true → BodyAgrees file (text_of tree)
-  -- always there under a canonical header
-  pub canonical : HasCanonicalHeader file → BodyAgrees file (text_of tree) → passed ≡ true
+  -- always there under the header of a text
+  pub headed : HasTextHeader file → BodyAgrees file (text_of tree) → passed ≡ true
   -- and without a header
   pub legacy : IsLegacyFile file → BodyAgrees file (text_of tree) → passed ≡ true
   -- never where the header says binary

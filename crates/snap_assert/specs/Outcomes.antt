@@ -1,15 +1,17 @@
 -- What an assertion answers.
-use Rattle.std.specs.Prelude.{◌≡◌, ◌⊎◌, ◌&&◌, ℕ, Bool, true, not, List, [], ◌∷◌, Option, None, Some, Result, Ok, Err}
+use Rattle.std.specs.Prelude.{◌≡◌, ◌⊎◌, ◌&&◌, ℕ, Bool, true, false, not, List, [], ◌∷◌, Option, None, Some, Result, Ok, Err}
 use Rattle.std.specs.FinMap.{get}
 use Rattle.snap_content.specs.List.{items_of}
 use Rattle.snap_content.specs.Lines.{text_of}
 use Rattle.snap_content.specs.Plain.{dict, Entries}
 use Rattle.snap_content.specs.declared.error.Error.{Error}
 use Rattle.snap_content.specs.declared.error.Error.TheVariants.{FailedParsingYaml, UnexpectedDataType, MissingField, NotText}
+use Rattle.snap_emit.specs.Spelled.{KeepsNumber}
 use Rattle.snap_outside.specs.Causes.{Rose}
 use Rattle.snap_outside.specs.Files.{Files}
 use Rattle.snap_store.specs.Fields.{kind_in}
-use Rattle.snap_store.specs.Reading.{IsTextFile, ReadsHeader, HasUnprintedHeader, IsRefused}
+use Rattle.snap_store.specs.FileSplit.{header_of}
+use Rattle.snap_store.specs.Reading.{IsTextFile, ReadsHeader, IsRefused}
 use Rattle.snap_store.specs.declared.metadata.SnapshotKind.{SnapshotKind}
 use Rattle.snap_assert.specs.Judging.{BodyMatches, IsLegacyFile, May}
 use Rattle.snap_assert.specs.Assertions.{Assertion, Left, asked_in, assertion_step}
@@ -22,14 +24,15 @@ use Rattle.snap_assert.specs.declared.outcome.Outcome.{Outcome}
 use Rattle.snap_assert.specs.declared.outcome.Warning.{Warning}
 use Rattle.snap_assert.specs.declared.outcome.Warning.TheVariants.{LegacyFile, NumberAsText, Unreadable, LegacyContents}
 
--- the file has a header, which is read as that of a snapshot
-pub record IsHeadedFile (file : Option (List ℕ)) : Type 0 where
+-- the file has a header, which is read as that of a snapshot, and a number in it is kept as its text or not
+pub record IsHeadedFile (file : Option (List ℕ)) (kept : Bool) : Type 0 where
   pub whole : List ℕ
   pub there : IsTextFile file whole
   pub entries : Entries
   pub header : ReadsHeader whole (dict entries)
   pub kind : SnapshotKind
   pub kind_is : kind_in entries ≡ Some kind
+  pub numbers : KeepsNumber (header_of whole) kept
 
 -- a file that is there and isn't understood is refused with this error
 abbrev pub IsNotUnderstood : List ℕ → Option (List ℕ) → Error → Type 0
@@ -45,13 +48,13 @@ PassWarns file passed printed [] = passed ≡ true → BodyMatches file printed
 PassWarns file passed printed (LegacyContents ∷ []) = (passed ≡ true) × (BodyMatches file printed → ⊥)
 PassWarns file passed printed _ = ⊥
 
--- that a file isn't understood is said alone; that it is of the oldest format, or that its header, which is no printed one,
--- kept a number as a text, is said first
+-- that a file isn't understood is said alone; that it is of the oldest format, or that its header keeps a number as its text,
+-- is said first
 abbrev pub AreWarnings : List ℕ → Option (List ℕ) → Bool → List ℕ → List Warning → Type 0
 AreWarnings path file passed printed (Unreadable error ∷ []) = IsNotUnderstood path file error
 AreWarnings path file passed printed (LegacyFile ∷ more) = IsLegacyFile file × PassWarns file passed printed more
-AreWarnings path file passed printed (NumberAsText ∷ more) = IsHeadedFile file × HasUnprintedHeader file × PassWarns file passed printed more
-AreWarnings path file passed printed warnings = ((file ≡ None) × (warnings ≡ [])) ⊎ (IsHeadedFile file × PassWarns file passed printed warnings)
+AreWarnings path file passed printed (NumberAsText ∷ more) = IsHeadedFile file true × PassWarns file passed printed more
+AreWarnings path file passed printed warnings = ((file ≡ None) × (warnings ≡ [])) ⊎ (IsHeadedFile file false × PassWarns file passed printed warnings)
 
 -- what the step leaves of these files and of what is remembered
 abbrev pub left_by : Config → Assertion → Bool → Files → SessionView → Left

@@ -4,6 +4,7 @@ mod Printing
 mod Magnitudes
 mod PlainRead
 mod ReadBack
+mod LaidTrees
 mod Parsing
 mod NumberPieces
 pub mod OneText

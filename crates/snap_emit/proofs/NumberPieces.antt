@@ -1,5 +1,5 @@
 -- A text as its pieces.
-use Rattle.snap_emit.proofs.Prelude.{◌≡◌, ◌<◌, ℕ, List, [], ◌∷◌, ◌++◌, Bool, true, false, cond, ◌||◌, refl, sym, ap, ◌∙◌, append_assoc, list_any, or_left, or_right, or_nothing, ends_piece, pieces, IsPieceThen, is_number_piece, has_number_piece, or_from}
+use Rattle.snap_emit.proofs.Prelude.{◌≡◌, ℕ, List, [], ◌∷◌, ◌++◌, Bool, true, false, cond, ◌||◌, refl, sym, ap, ◌∙◌, append_assoc, list_any, or_left, or_right, or_nothing, ends_piece, pieces, IsPieceThen, is_number_piece, has_number_piece, or_from}
 use Rattle.snap_str.specs.Lines.{onto}
 
 -- what was passed of a text, and ends no piece

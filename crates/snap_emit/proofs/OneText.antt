@@ -1,12 +1,48 @@
--- Trees that are printed as one text are one tree.
-use Rattle.snap_emit.proofs.Prelude.{◌≡◌, ◌++◌, Some, ap, sym, ◌∙◌, codes, text_of, Plain, IsWithin, read_value, document-read, plain_read}
-use Rattle.snap_parse.proofs.OneText.{documents-same}
+-- Trees that have a text in common are one tree.
+use Rattle.snap_emit.proofs.Prelude.{◌≡◌, ◌++◌, ℕ, List, Some, refl, ap, sym, subst, ◌∙◌, codes, text_of, document_of, Plain, IsWithin, read_value, plain_read}
+use Rattle.std.proofs.Common.{inl, inr}
+use Rattle.snap_owed.proofs.FreeLayouts.{free-is-laid}
+use Rattle.snap_yaml.specs.Value.{Value}
+use Rattle.snap_parse.specs.LaidValues.{layout_value}
+use Rattle.snap_parse.proofs.OneText.{HasValue, printed-value, laid-one-value, values-same}
+use Rattle.snap_emit.specs.Spelled.{IsTextOf, IsHeaderOf}
+use Rattle.snap_emit.proofs.LaidTrees.{layout-reads}
 use Rattle.snap_emit.proofs.ReadBack.{read-back}
 
 some-same : (a b : Plain) → Some a ≡ Some b → a ≡ b
 some-same a b same = cc
 
+-- the one document of the text is read as this tree
+record Given (text : List ℕ) (t : Plain) : Type 0 where
+  value : Value
+  has : HasValue text value
+  plainly : plain_read value ≡ Some t
+
+given : (text : List ℕ) (t : Plain) → IsWithin t → IsHeaderOf text t → Given text t
+given text t within (inl is) =
+    let P : List ℕ → Type 0 = λ x. HasValue x (read_value t) in
+    record { value = read_value t; has = subst P (sym is) (printed-value t within); plainly = read-back t within }
+given text t within (inr s) =
+    let P : List ℕ → Type 0 = λ x. HasValue x (layout_value s.layout.tree) in
+    record {
+      value = layout_value s.layout.tree;
+      has = subst P (sym s.text_is) (laid-one-value s.layout (free-is-laid s.layout s.free));
+      plainly = (layout-reads s.layout.tree).plainly ∙ ap Some s.tree_is;
+    }
+
+pub headers_same : (text : List ℕ) (a b : Plain) → IsWithin a → IsWithin b → IsHeaderOf text a → IsHeaderOf text b → a ≡ b
+headers_same text a b h k one other =
+    let x = given text a h one in
+    let y = given text b k other in
+    some-same a b (sym x.plainly ∙ ap plain_read (values-same text x.value y.value x.has y.has) ∙ y.plainly)
+
+-- the text of a tree is a header of it
+pub as-header : (text : List ℕ) (t : Plain) → IsTextOf text t → IsHeaderOf text t
+as-header text t (inl is) = inl is
+as-header text t (inr s) = inr s.header
+
+pub one_tree : (text : List ℕ) (a b : Plain) → IsWithin a → IsWithin b → IsTextOf text a → IsTextOf text b → a ≡ b
+one_tree text a b h k one other = headers_same text a b h k (as-header text a one) (as-header text b other)
+
 pub texts_same : (a b : Plain) → IsWithin a → IsWithin b → text_of a ≡ text_of b → a ≡ b
-texts_same a b h k same =
-    let read : read_value a ≡ read_value b = sym (document-read a h) ∙ documents-same a b (ap (λ text. codes "---\n" ++ text) same) ∙ document-read b k in
-    some-same a b (sym (read-back a h) ∙ ap plain_read read ∙ read-back b k)
+texts_same a b h k same = headers_same (document_of a) a b h k (inl refl) (inl (ap (λ text. codes "---\n" ++ text) same))

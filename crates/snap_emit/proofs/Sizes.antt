@@ -1,6 +1,6 @@
 -- How large a value is: to read it as a tree comes to its end, since each part of it is smaller.
-use Rattle.snap_emit.proofs.Prelude.{◌≡◌, ℕ, List, [], ◌∷◌, refl, sym, ap, ◌∙◌, arith, rules, value_of, array_values, hash_values}
-use Rattle.std.proofs.Common.{suc, ◌+◌, ◌<◌, ◌≤◌, subst}
+use Rattle.snap_emit.proofs.Prelude.{◌≡◌, ℕ, List, ◌∷◌, ap, ◌∙◌, arith, rules, value_of, array_values, hash_values}
+use Rattle.std.proofs.Common.{suc, ◌+◌, ◌<◌, ◌≤◌}
 use Rattle.snap_yaml.specs.Value as v
 use Rattle.snap_yaml.specs.View.{Array, Hash, array_list, hash_list}
 use Rattle.snap_yaml.specs.declared.yaml.Yaml.{Yaml}

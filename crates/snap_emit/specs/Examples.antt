@@ -1,7 +1,9 @@
 -- Bare words whose meaning was worked out by hand. `negsuc n` is the number -(n + 1).
-use Rattle.std.specs.Prelude.{◌≡◌, pos, negsuc, [], true, false, codes}
-use Rattle.snap_content.specs.Plain.{null, bool, int, text}
+use Rattle.std.specs.Prelude.{◌≡◌, pos, negsuc, [], ◌∷◌, true, false, codes}
+use Rattle.snap_content.specs.Plain.{null, bool, int, text, list, dict, item, no_items, entry, no_entries}
 use Rattle.snap_content.specs.Typed.{typed, value, real}
+use Rattle.snap_owed.specs.LayoutExamples.{hand_header, hand_request, hand_list}
+use Rattle.snap_emit.specs.LayoutTrees.{layout_plain, layout_keeps}
 
 -- a number in base 16 or 8, or behind a plus: its digits may have a sign of their own, and it has 64 bits
 pub record AreMarkedNumbers : Type 0 where
@@ -74,3 +76,21 @@ pub record AreTexts : Type 0 where
   pub exponent_alone : typed (codes "e3") ≡ value (text (codes "e3"))
   pub no_number_below_zero : typed (codes "-.nan") ≡ value (text (codes "-.nan"))
   pub underscore : typed (codes "1_000") ≡ value (text (codes "1_000"))
+
+-- the trees that layouts spell which were worked out by hand, and whether a number is kept as its text
+pub record AreSpelled : Type 0 where
+  pub header : layout_plain hand_header.tree ≡ dict (entry (text (codes "source")) (text (codes "src/a.rs"))
+      (entry (text (codes "expression")) (text (codes "x"))
+      (entry (text (codes "info")) (list (item (int (pos 1)) (item (dict (entry (text (codes "b")) (int (pos 2)) no_entries)) no_items))) no_entries)))
+  pub header_keeps : layout_keeps hand_header.tree ≡ false
+  pub request : layout_plain hand_request.tree ≡ dict (entry (text (codes "module")) (text (codes "m"))
+      (entry (text (codes "file")) (text (codes "src/a.rs"))
+      (entry (text (codes "line")) (int (pos 7))
+      (entry (text (codes "name")) (text (codes "one"))
+      (entry (text (codes "expr")) (text (codes "x"))
+      (entry (text (codes "value")) (dict (entry (text (codes "a")) (int (pos 1)) no_entries)) no_entries))))))
+  pub request_keeps : layout_keeps hand_request.tree ≡ false
+  pub nested : layout_plain hand_list.tree ≡ dict (entry (text (9 ∷ 74 ∷ 233 ∷ 128512 ∷ []))
+      (list (item (dict (entry null (list no_items) no_entries)) (item (text (codes "-.inf")) no_items)))
+      (entry (int (pos 7)) (text (codes "x y")) no_entries))
+  pub nested_keeps : layout_keeps hand_list.tree ≡ true

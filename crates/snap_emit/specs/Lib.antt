@@ -2,3 +2,5 @@ pub mod PlainRead
 pub mod Pieces
 pub mod Parsed
 pub mod Examples
+pub mod LayoutTrees
+pub mod Spelled

@@ -1,21 +1,24 @@
 //! Laws of printed texts.
-ghost use Rattle.std.specs.Prelude.{◌≡◌, true};
+ghost use Rattle.std.specs.Prelude.{◌≡◌, true, ℕ, List};
 ghost use Rattle.snap_content.specs.Lines.{lines_of, text_of};
 ghost use Rattle.snap_content.specs.Plain.{Plain};
 ghost use Rattle.snap_content.specs.Printed.{AreLines};
 ghost use Rattle.snap_content.specs.Readable.{IsWithin, is_word};
 ghost use Rattle.snap_content.specs.Spell.{spelling};
 ghost use Rattle.snap_content.specs.Typed.{typed, value};
-ghost use Rattle.snap_emit.specs.Examples.{AreMarkedNumbers, AreWords, AreWholeNumbers, AreReal, AreTexts};
+ghost use Rattle.snap_emit.specs.Spelled.{IsHeaderOf};
+ghost use Rattle.snap_emit.specs.Examples.{AreMarkedNumbers, AreWords, AreWholeNumbers, AreReal, AreTexts, AreSpelled};
 
 /// No line of a printed text is empty, holds a line's end, ends in white space or begins with two dashes.
 pub const fn printed_lines_are_lines()
     ensures { (p : Plain) → IsWithin p → AreLines (lines_of p) }
 {}
 
-/// Trees whose numbers have 128 bits are one tree where they are printed as one text.
+/// Trees whose numbers have 128 bits are one tree where they have a text in common, whether it is printed of them or spells them.
 pub const fn one_text_is_one_tree()
-    ensures { (a b : Plain) → IsWithin a → IsWithin b → text_of a ≡ text_of b → a ≡ b }
+    ensures printed { (a b : Plain) → IsWithin a → IsWithin b → text_of a ≡ text_of b → a ≡ b }
+    ensures spelled { (text : List ℕ) (a b : Plain) → IsWithin a → IsWithin b
+        → IsHeaderOf text a → IsHeaderOf text b → a ≡ b }
 {}
 
 /// A scalar that is written without double quotes is what a reader takes its spelling for.
@@ -23,11 +26,12 @@ pub const fn words_are_typed()
     ensures { (t : Plain) → is_word t ≡ true → IsWithin t → typed (spelling t) ≡ value t }
 {}
 
-/// What a reader takes bare words for, worked out by hand.
+/// What a reader takes bare words for, and the trees that layouts spell, worked out by hand.
 pub const fn worked_examples()
     ensures marked { AreMarkedNumbers }
     ensures words { AreWords }
     ensures whole { AreWholeNumbers }
     ensures real { AreReal }
     ensures texts { AreTexts }
+    ensures spelled { AreSpelled }
 {}

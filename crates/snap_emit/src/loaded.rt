@@ -5,13 +5,18 @@ ghost use Rattle.snap_content.specs.Lines.{document_of};
 ghost use Rattle.snap_content.specs.Plain.{Plain, content_of};
 ghost use Rattle.snap_content.specs.Readable.{IsWithin};
 ghost use Rattle.snap_content.specs.View.{tree};
+ghost use Rattle.snap_owed.specs.LayoutRules.{IsDocument};
+ghost use Rattle.snap_owed.specs.LayoutTexts.{document_text};
+ghost use Rattle.snap_owed.specs.Layouts.{Document};
 ghost use Rattle.snap_owed_json.specs.Bounded.{IsJsonOf};
 ghost use Rattle.snap_owed_json.specs.Nodes.{json_node};
 ghost use Rattle.snap_yaml.specs.Value.{Value};
 ghost use Rattle.snap_yaml.specs.View.{value_of, array_list};
 ghost use Rattle.snap_parse.specs.Documents.{document_value};
+ghost use Rattle.snap_parse.specs.LaidValues.{layout_value};
 ghost use Rattle.snap_parse.specs.PrintedEvents.{node_of};
 ghost use Rattle.snap_emit.specs.PlainRead.{IsPlain, plain_read, has_number_text};
+ghost use Rattle.snap_emit.specs.Spelled.{IsTextOf, IsHeaderOf, KeepsNumber};
 
 use crate::from_value::tree_of;
 use snap_content::{Content, OutOfMemory};
@@ -46,6 +51,8 @@ fn only_document(alloc: Global, text: &str) -> Result<Option<Yaml>, OutOfMemory>
     ensures json { (p : Plain) → IsJsonOf p (chars text.now)
         → IfOk result (λ found. IsSomeAnd found
         (λ document. value_of document ≡ document_value (json_node p))) }
+    ensures laid { (d : Document) → IsDocument d → chars text.now ≡ document_text d
+        → IfOk result (λ found. IsSomeAnd found (λ document. value_of document ≡ layout_value d.tree)) }
 {
     match YamlLoader::load_from_str(alloc, text) {
         Ok(documents) => Ok(only(documents)),
@@ -69,13 +76,16 @@ fn document_tree(alloc: Global, document: Yaml) -> Result<Loaded, OutOfMemory>
     })
 }
 
-/// What the text's one document is as a tree: of a printed text the tree that was printed, and of the JSON text of a bounded
-/// tree that tree; in neither a number stands as its text.
+/// What the text's one document is as a tree: of a printed text the tree that was printed, of a text that spells a tree that
+/// one, and of the JSON text of a bounded tree that tree. Only where a text spells a tree a number may stand in it as its text.
 pub(crate) fn load_tree(alloc: Global, text: &str) -> Result<Loaded, OutOfMemory>
     ensures plain { IfOk result (λ found. IfSome found.content (λ made. IsPlain made)) }
-    ensures printed { (p : Plain) → IsWithin p → chars text.now ≡ document_of p
-        → IfOk result (λ found. IsSomeAnd found.content (λ made. tree made ≡ content_of p)) }
-    ensures numbers { (p : Plain) → IsWithin p → chars text.now ≡ document_of p
+    ensures header { (t : Plain) → IsWithin t → IsHeaderOf (chars text.now) t
+        → IfOk result (λ found. IsSomeAnd found.content (λ made. tree made ≡ content_of t)) }
+    ensures numbers { IfOk result (λ found. KeepsNumber (chars text.now) found.has_number_text) }
+    ensures read { (t : Plain) → IsWithin t → IsTextOf (chars text.now) t
+        → IfOk result (λ found. IsSomeAnd found.content (λ made. tree made ≡ content_of t)) }
+    ensures whole { (t : Plain) → IsWithin t → IsTextOf (chars text.now) t
         → IfOk result (λ found. found.has_number_text ≡ false) }
     ensures json { (p : Plain) → IsWithin p → IsJsonOf p (chars text.now)
         → IfOk result (λ found. IsSomeAnd found.content (λ made. tree made ≡ content_of p)) }

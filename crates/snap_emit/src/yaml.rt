@@ -8,6 +8,7 @@ ghost use Rattle.snap_content.specs.Readable.{IsWithin};
 ghost use Rattle.snap_content.specs.View.{tree};
 ghost use Rattle.snap_owed_json.specs.Bounded.{IsJsonOf};
 ghost use Rattle.snap_emit.specs.Parsed.{ParseEnd, HeaderEnd};
+ghost use Rattle.snap_emit.specs.Spelled.{IsTextOf, IsHeaderOf, KeepsNumber};
 
 use crate::loaded::{Loaded, load_tree};
 use crate::pieces::number_refusal;
@@ -45,13 +46,13 @@ pub fn body_to_string(alloc: Global, content: &Content) -> Result<Text, OutOfMem
     Ok(text)
 }
 
-/// The tree of a YAML text that is one document: of a printed text the tree that was printed, and of the JSON text of a bounded
-/// tree, whose numbers have 128 bits, that tree. A number that is no whole number
-/// of 128 bits refuses it with `FloatText`, and all else that is no tree with `FailedParsingYaml`, whichever stands first, with
-/// the path. Where a text is refused with `FloatText`, such a number is a piece of it.
+/// The tree of a YAML text that is one document: of a printed text the tree that was printed, of a text in the free layout the
+/// tree that it spells, and of the JSON text of a bounded tree that tree, where its numbers have 128 bits. A number that is no
+/// whole number of 128 bits refuses it with `FloatText`, and all else that is no tree with `FailedParsingYaml`, whichever stands
+/// first, with the path. Where a text is refused with `FloatText`, such a number is a piece of it.
 pub fn parse_str(alloc: Global, text: &str, path: &Text) -> Result<Content, Error>
     ensures end { ParseEnd (chars text.now) path.now result }
-    ensures read { (t : Plain) → IsWithin t → chars text.now ≡ document_of t
+    ensures read { (t : Plain) → IsWithin t → IsTextOf (chars text.now) t
         → IfOk result (λ made. tree made ≡ content_of t) }
     ensures json { (t : Plain) → IsWithin t → IsJsonOf t (chars text.now)
         → IfOk result (λ made. tree made ≡ content_of t) }
@@ -71,11 +72,13 @@ pub fn parse_str(alloc: Global, text: &str, path: &Text) -> Result<Content, Erro
     }
 }
 
-/// The same for the header of a snapshot file, in which such a number is kept as its text.
+/// The same for the header of a snapshot file, in which such a number is kept as its text. Whether one was is told: in a printed
+/// header none is, and in one that spells a tree exactly where one stands bare in it.
 pub fn parse_header(alloc: Global, text: &str, path: &Text) -> Result<Header, Error>
     ensures end { HeaderEnd (chars text.now) path.now result }
-    ensures read { (t : Plain) → IsWithin t → chars text.now ≡ document_of t
+    ensures read { (t : Plain) → IsWithin t → IsHeaderOf (chars text.now) t
         → IfOk result (λ header. tree header.content ≡ content_of t) }
+    ensures numbers { IfOk result (λ header. KeepsNumber (chars text.now) header.number_as_text) }
     ensures json { (t : Plain) → IsWithin t → IsJsonOf t (chars text.now)
         → IfOk result (λ header. tree header.content ≡ content_of t) }
     ensures json_numbers { (t : Plain) → IsWithin t → IsJsonOf t (chars text.now)

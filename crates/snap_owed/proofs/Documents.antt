@@ -1,16 +1,32 @@
--- A printed document owes its tokens.
-use Rattle.snap_owed.proofs.Prelude.{◌≡◌, ℕ, List, [], ◌∷◌, ◌++◌, Bool, true, false, refl, sym, ap, ◌∙◌, append-nil, append_assoc, Some, None, Option, map, subst, inl, map-append, if◌then◌else◌, slice_index, flat_map, Mark, before_nul, mark_of, Token, TokenType, closed, State, start_state, kept, ends, is_right_of, at, pushed, unrolled, document_of, Form, IsPrintable, text_at, tokens_of, document_at, form_of, fetched, none_more, one_more, type_of, Owes, here, calm, Settles, closing, document_with, document_tokens}
-use Rattle.snap_content.specs.Lines as l
-use Rattle.snap_content.specs.Plain.{Plain}
+-- A document in any layout owes its tokens, and a printed one is such a document.
+use Rattle.snap_owed.proofs.Prelude.{is_right_of, start_state, flat_map, document_at, form_of, document_tokens, ◌≡◌, ℕ, List, [], ◌∷◌, ◌++◌, Bool, true, false, refl, sym, ap, ◌∙◌, append-nil, append_assoc, Some, None, Option, map, subst, inl, map-append, if◌then◌else◌, slice_index, Mark, before_nul, mark_of, Token, TokenType, closed, done, refused, State, kept, ends, at, pushed, unrolled, fetched, left_by, none_more, one_more, type_of, Owes, here, calm, Settles, closing, blanks}
+use Rattle.snap_token.specs.Place.{forced}
+use Rattle.snap_token.specs.declared.info.ScanInfo.TheVariants as info
 use Rattle.snap_token.specs.declared.token.TEncoding.TheVariants.{Utf8}
 use Rattle.snap_token.specs.declared.token.TokenType.TheVariants as k
+use Rattle.snap_scan.specs.Keys.{is_required}
 use Rattle.snap_scan.specs.Scan.{start_scan}
-use Rattle.snap_owed.proofs.Forms.{node, begins, steps-append, at_end}
+use Rattle.snap_scan.specs.declared.keys.SimpleKey.{SimpleKey}
+use Rattle.snap_owed.specs.LayoutTokens.{layout_tokens}
+use Rattle.snap_owed.specs.Layouts as w
+use Rattle.snap_owed.specs.LayoutTexts as laid
+use Rattle.snap_owed.specs.LayoutRules as rule
+use Rattle.snap_owed.specs.Tokens.{document_with}
+use Rattle.snap_owed.proofs.Arrivals.{Goes}
+use Rattle.snap_owed.proofs.Forms.{steps-append, at_end}
+use Rattle.snap_owed.proofs.Gaps.{standing, settles-gap}
+use Rattle.snap_owed.proofs.Laid.{collection, begins-leaf, begins-collection}
+use Rattle.snap_owed.proofs.LaidNuls.{document-nul}
+use Rattle.snap_owed.proofs.Leaves.{leaf, leaf-goes}
+use Rattle.snap_owed.proofs.Nuls.{without-nul}
+use Rattle.snap_owed.proofs.Pieces.{fetch-settled, types-ends}
+use Rattle.snap_owed.proofs.Skips.{stops_at}
+use Rattle.snap_content.specs.Lines as l
+use Rattle.snap_content.specs.Plain.{Plain}
+use Rattle.snap_owed.specs.PrintedLayouts.{printed_document}
 use Rattle.snap_owed.proofs.LaidOut.{lines-text}
-use Rattle.snap_owed.proofs.Nuls.{without-nul, form-nul}
-use Rattle.snap_owed.proofs.Pieces.{step-at, types-ends}
+use Rattle.snap_owed.proofs.PrintedLayouts as form
 use Rattle.snap_owed.proofs.Printables.{printable, same-lines, same-tokens}
-use Rattle.snap_owed.proofs.Skips.{stops_at, to_next-stops, settles-by}
 
 -- blocks closed in two goes
 closing-rest : (b : Bool) (x : TokenType) (xs all : List TokenType) (rest some : List ℕ)
@@ -22,7 +38,7 @@ same_either : (b : Bool) (x : List TokenType) → (if b then x else x) ≡ x
 same_either true x = refl
 same_either false x = refl
 
-closing-all : (c : Option ℕ) (os : List ℕ) → closing c os ++ closing None (kept c os) ≡ closing None os
+pub closing-all : (c : Option ℕ) (os : List ℕ) → closing c os ++ closing None (kept c os) ≡ closing None os
 closing-all c [] = refl
 closing-all c (o ∷ os) =
     closing-rest (is_right_of c o) k.BlockEnd (closing c os) (closing None os) (kept c os) (o ∷ os) (closing-all c os)
@@ -31,77 +47,94 @@ closing-all c (o ∷ os) =
 abbrev pub start_mark : Mark
 start_mark = record { index = 0; line = 1; col = 0 }
 
-abbrev held_at_start : List Token
+abbrev pub held_at_start : List Token
 held_at_start = at start_mark (k.StreamStart Utf8) ∷ at start_mark k.DocumentStart ∷ []
 
 -- the state once StreamStart was made
-abbrev begun : List ℕ → State
+abbrev pub begun : List ℕ → State
 begun cs = record (start_state cs) { started = true; held = at start_mark (k.StreamStart Utf8) ∷ [] }
 
--- the state behind the first line of a document
+-- the state behind `---`
 abbrev behind_start : List ℕ → State
-behind_start x = calm false 0 (here (10 ∷ x) 3 1 3) held_at_start []
+behind_start x = calm false 0 (here x 3 1 3) held_at_start []
 
-finish : (h : List Token) (columns : List ℕ) (m n : Mark) (e : Token) (before toks : List TokenType)
-    → map type_of h ++ closing None columns ≡ before ++ toks ++ []
-    → map type_of (h ++ ends m (Some 0) columns ++ ends n None (kept (Some 0) columns) ++ e ∷ []) ≡ before ++ (toks ++ type_of e ∷ [])
-finish h columns m n e before toks given =
-    let all : map type_of h ++ (closing (Some 0) columns ++ closing None (kept (Some 0) columns)) ≡ before ++ toks =
-    rw (closing-all (Some 0) columns) (given ∙ append-nil (before ++ toks)) in
-    let after : List TokenType → List TokenType = λ x. x ++ type_of e ∷ [] in
-    let split : map type_of (h ++ ends m (Some 0) columns ++ ends n None (kept (Some 0) columns) ++ e ∷ [])
-    ≡ map type_of h ++ (map type_of (ends m (Some 0) columns) ++ map type_of (ends n None (kept (Some 0) columns))) ++ type_of e ∷ [] =
-    simp (map-append, append_assoc) in
-    split ∙ rw (types-ends m (Some 0) columns, types-ends n None (kept (Some 0) columns)) (ap after all) ∙ append_assoc before toks (type_of e ∷ [])
+started : (e : w.Break) (x : List ℕ) → fetched (begun (45 ∷ 45 ∷ 45 ∷ laid.break_onto e x)) ≡ Some (behind_start (laid.break_onto e x))
+started w.feed x = refl
+started w.return_feed x = refl
 
--- the state behind the end, where it was fetched in column 0
+begins-layout : (t : w.Layout) (j : ℕ) (e : rule.Position) (rest : List ℕ) → rule.IsLayout e t → stops_at (slice_index (laid.layout_onto j t rest) 0) ≡ false
+begins-layout (w.leaf v) j e rest is = begins-leaf v j e rest is
+begins-layout (w.collection t) j e rest is = begins-collection t j e rest is
+
+layout-goes : (t : w.Layout) → rule.IsLayout rule.ending t → (j : ℕ) (s : State) (i l : ℕ) (h : List Token) → Settles true s (here (laid.layout_onto j t []) i l j) h []
+    → Goes s (map type_of h) (layout_tokens t) None [] []
+layout-goes (w.leaf v) is j s i l h stands = leaf-goes s (map type_of h) (layout_tokens (w.leaf v)) None [] [] (leaf v j rule.ending is true j [] refl None 0 [] at_end tt refl (inl refl) s i l h stands)
+layout-goes (w.collection t) is j s i l h stands = collection t rule.ending is j [] refl None 0 [] at_end tt refl refl s i l h stands
+
+-- the state behind the end
+abbrev before_end : Bool → Option SimpleKey → ℕ → ℕ → ℕ → ℕ → List Token → List ℕ → State
+before_end b key a i l j h os = unrolled (Some j) (standing b key a (here [] i l j) h os)
+
 abbrev stopped : State → State
-stopped s = record (pushed (at (mark_of s.place) k.StreamEnd) (closed s)) { ended = true }
+stopped s = record (pushed (at (mark_of (forced s.place)) k.StreamEnd) (closed (record s { place = forced s.place }))) { ended = true }
 
-form_by_columns : (t : Form) → IsPrintable t → Owes (start_state (document_at t)) (document_with (tokens_of t))
-form_by_columns t is =
-    let x : List ℕ = text_at 0 t in
-    let cs : List ℕ = 45 ∷ 45 ∷ 45 ∷ 10 ∷ x in
+not-required : (b : Bool) (m : Mark) (x : State) → b ≡ false → left_by (if b then refused m info.S2 else done x) ≡ Some x
+not-required b m x h = rw h refl
+
+finish : (c : Option ℕ) (h : List Token) (columns : List ℕ) (m n : Mark) (e : Token) (before toks : List TokenType)
+    → map type_of h ++ closing None columns ≡ before ++ toks ++ []
+    → map type_of (h ++ ends m c columns ++ ends n None (kept c columns) ++ e ∷ []) ≡ before ++ (toks ++ type_of e ∷ [])
+finish c h columns m n e before toks given =
+    let all : map type_of h ++ (closing c columns ++ closing None (kept c columns)) ≡ before ++ toks =
+    rw (closing-all c columns) (given ∙ append-nil (before ++ toks)) in
+    let after : List TokenType → List TokenType = λ x. x ++ type_of e ∷ [] in
+    let split : map type_of (h ++ ends m c columns ++ ends n None (kept c columns) ++ e ∷ [])
+    ≡ map type_of h ++ (map type_of (ends m c columns) ++ map type_of (ends n None (kept c columns))) ++ type_of e ∷ [] =
+    simp (map-append, append_assoc) in
+    split ∙ rw (types-ends m c columns, types-ends n None (kept c columns)) (ap after all) ∙ append_assoc before toks (type_of e ∷ [])
+
+pub laid-document : (d : w.Document) → rule.IsDocument d → Owes (start_state (laid.document_text d)) (document_with (layout_tokens d.tree))
+laid-document d is =
+    let x : List ℕ = blanks d.column ++ laid.layout_onto d.column d.tree [] in
+    let cs : List ℕ = 45 ∷ 45 ∷ 45 ∷ laid.gap_onto d.gap x in
     let s0 : State = start_state cs in
     let s1 : State = begun cs in
-    let s2 : State = behind_start x in
-    let P : List ℕ → Type 0 = λ y. Settles true s2 (here y 4 2 0) held_at_start [] in
-    let Q : List ℕ → Bool = λ y. stops_at (slice_index y 0) in
-    let stop : stops_at (slice_index x 0) ≡ false = ap Q (sym (append-nil x)) ∙ begins t 0 [] is in
-    let q : State = calm true 0 (here x 4 2 0) held_at_start [] in
-    let stands : Settles true s2 (here x 4 2 0) held_at_start [] = settles-by true 0 s2 q (here x 4 2 0) held_at_start [] refl refl (to_next-stops x q stop) refl refl in
-    let tree = node t is true tt 0 [] refl None 0 [] at_end refl refl (inl refl) s2 4 2 held_at_start (subst P (sym (append-nil x)) stands) in
-    let u : State = unrolled (Some 0) (calm true tree.settles.adjacent (here [] tree.index tree.line 0) tree.held tree.columns) in
-    let last : fetched tree.to ≡ Some (stopped u) = step-at true tree.to (here [] tree.index tree.line 0) tree.held tree.columns tree.settles in
+    let s2 : State = behind_start (laid.gap_onto d.gap x) in
+    let there = settles-gap d.gap false 0 d.column 3 1 3 (laid.layout_onto d.column d.tree []) held_at_start [] is.0 (begins-layout d.tree d.column rule.ending [] is.1) in
+    let tree = layout-goes d.tree is.1 d.column s2 there.index there.line held_at_start there.settles in
+    let end = tree.arrives in
+    let u : State = before_end end.allowed end.key end.adjacent end.index end.line end.column tree.held tree.columns in
+    let m : Mark = mark_of (here [] end.index end.line end.column) in
+    let n : Mark = mark_of (forced (here [] end.index end.line end.column)) in
+    let last : fetched tree.to ≡ Some (stopped u) =
+    fetch-settled tree.to (standing end.allowed end.key end.adjacent (here [] end.index end.line end.column) tree.held tree.columns) end.started end.ended end.timely end.stands
+    ∙ not-required (is_required end.key) n (stopped u) end.free in
     record {
       end = stopped u;
-      steps = one_more s0 s1 (stopped u) refl refl (one_more s1 s2 (stopped u) refl refl
-          (steps-append s2 tree.to (stopped u) tree.steps (one_more tree.to (stopped u) (stopped u) tree.settles.ended last (none_more (stopped u)))));
+      steps = one_more s0 s1 (stopped u) refl refl (one_more s1 s2 (stopped u) refl (started d.gap.end (laid.fillers_onto d.gap.fillers x))
+          (steps-append s2 tree.to (stopped u) tree.steps (one_more tree.to (stopped u) (stopped u) end.ended last (none_more (stopped u)))));
       ended = refl;
       timely = refl;
-      given = finish tree.held tree.columns (mark_of (here [] tree.index tree.line 0)) (mark_of (here [] tree.index tree.line 0))
-          (at (mark_of (here [] tree.index tree.line 0)) k.StreamEnd) (k.StreamStart Utf8 ∷ k.DocumentStart ∷ []) (tokens_of t) tree.given;
+      given = finish (Some end.column) tree.held tree.columns m n (at n k.StreamEnd) (k.StreamStart Utf8 ∷ k.DocumentStart ∷ []) (layout_tokens d.tree) tree.given;
     }
 
-pub form-document : (t : Form) → IsPrintable t → Owes (start_state (document_of t)) (document_with (tokens_of t))
-form-document t is =
-    let P : List ℕ → Type 0 = λ x. Owes (start_state (45 ∷ 45 ∷ 45 ∷ 10 ∷ x)) (document_with (tokens_of t)) in
-    subst P (sym (lines-text t)) (form_by_columns t is)
+-- it ends at no NUL
+pub laid-source : (d : w.Document) → rule.IsDocument d → Owes (start_scan (before_nul (laid.document_text d))).state (document_with (layout_tokens d.tree))
+laid-source d is =
+    let whole : before_nul (laid.document_text d) ≡ laid.document_text d = without-nul (laid.document_text d) (document-nul d is) in
+    let Q : List ℕ → Type 0 = λ x. Owes (start_scan x).state (document_with (layout_tokens d.tree)) in
+    subst Q (sym whole) (laid-document d is)
 
-pub plain-document : (p : Plain) → Owes (start_state (l.document_of p)) (document_tokens p)
-plain-document p =
-    let text : List (List ℕ) → List ℕ = λ x. 45 ∷ 45 ∷ 45 ∷ 10 ∷ flat_map l.ended x in
-    let P : List ℕ → Type 0 = λ x. Owes (start_state x) (document_tokens p) in
-    let Q : List TokenType → Type 0 = λ x. Owes (start_state (document_of (form_of p))) (document_with x) in
-    subst P (sym (ap text (same-lines p))) (subst Q (same-tokens p) (form-document (form_of p) (printable p)))
+pub plain-text : (p : Plain) → l.document_of p ≡ laid.document_text (printed_document (form_of p))
+plain-text p =
+    let join : List (List ℕ) → List ℕ = λ x. 45 ∷ 45 ∷ 45 ∷ 10 ∷ flat_map l.ended x in
+    let after : List ℕ → List ℕ = λ x. 45 ∷ 45 ∷ 45 ∷ 10 ∷ x in
+    let same : l.document_of p ≡ document_at (form_of p) = ap join (same-lines p) ∙ ap after (lines-text (form_of p)) in
+    same ∙ sym (form.printed-text (form_of p))
 
--- a printed text ends at no NUL, and owes its tokens
 pub plain-source : (p : Plain) → Owes (start_scan (before_nul (l.document_of p))).state (document_tokens p)
 plain-source p =
-    let text : List (List ℕ) → List ℕ = λ x. 45 ∷ 45 ∷ 45 ∷ 10 ∷ flat_map l.ended x in
-    let same : l.document_of p ≡ 45 ∷ 45 ∷ 45 ∷ 10 ∷ text_at 0 (form_of p) =
-    ap text (same-lines p) ∙ ap (λ (x : List ℕ). 45 ∷ 45 ∷ 45 ∷ 10 ∷ x) (lines-text (form_of p)) in
-    let P : List ℕ → Type 0 = λ x. before_nul x ≡ x in
-    let whole : before_nul (l.document_of p) ≡ l.document_of p = subst P (sym same) (ap (λ (x : List ℕ). 45 ∷ 45 ∷ 45 ∷ 10 ∷ x) (without-nul (text_at 0 (form_of p)) (form-nul (form_of p) 0 (printable p)))) in
-    let Q : List ℕ → Type 0 = λ x. Owes (start_scan x).state (document_tokens p) in
-    subst Q (sym whole) (plain-document p)
+    let d : w.Document = printed_document (form_of p) in
+    let P : List ℕ → Type 0 = λ x. Owes (start_scan (before_nul x)).state (document_tokens p) in
+    let Q : List TokenType → Type 0 = λ x. Owes (start_scan (before_nul (laid.document_text d))).state (document_with x) in
+    subst P (sym (plain-text p)) (subst Q (form.same-tokens (form_of p) ∙ same-tokens p) (laid-source d (form.printed-is-laid (form_of p) (printable p))))

@@ -3,3 +3,10 @@ pub mod FormLines
 pub mod Stands
 pub mod PlainForms
 pub mod Tokens
+pub mod Layouts
+pub mod LayoutTexts
+pub mod LayoutRules
+pub mod LayoutTokens
+pub mod PrintedLayouts
+pub mod FreeLayouts
+pub mod LayoutExamples

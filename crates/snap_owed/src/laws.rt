@@ -4,10 +4,33 @@ ghost use Rattle.snap_content.specs.Plain.{Plain};
 ghost use Rattle.snap_token.specs.Place.{before_nul};
 ghost use Rattle.snap_scan.specs.Owed.{Owes};
 ghost use Rattle.snap_scan.specs.Scan.{start_scan};
-ghost use Rattle.snap_owed.specs.Tokens.{document_tokens};
+ghost use Rattle.snap_owed.specs.FreeLayouts.{IsFree};
+ghost use Rattle.snap_owed.specs.LayoutExamples.{AreLaid};
+ghost use Rattle.snap_owed.specs.LayoutTokens.{layout_tokens};
+ghost use Rattle.snap_owed.specs.Layouts.{Document};
+ghost use Rattle.snap_owed.specs.LayoutTexts.{document_text};
+ghost use Rattle.snap_owed.specs.LayoutRules.{IsDocument};
+ghost use Rattle.snap_owed.specs.Tokens.{document_tokens, document_with};
 
 /// A new scanner of the text that is printed for a plain tree owes the tree's tokens, whatever tree it is: so `next` gives them
 /// one after the other, and nothing is refused.
 pub const fn printed_texts_owe_their_tokens()
     ensures { (p : Plain) → Owes (start_scan (before_nul (document_of p))).state (document_tokens p) }
+{}
+
+/// A new scanner of a text in any free layout owes the tokens of its tree.
+pub const fn laid_texts_owe_their_tokens()
+    ensures { (d : Document) → IsDocument d
+        → Owes (start_scan (before_nul (document_text d))).state (document_with (layout_tokens d.tree)) }
+{}
+
+/// A new scanner of a text that a hand wrote in the free layout owes the tokens of its tree.
+pub const fn free_layouts_owe_their_tokens()
+    ensures { (d : Document) → IsFree d
+        → Owes (start_scan (before_nul (document_text d))).state (document_with (layout_tokens d.tree)) }
+{}
+
+/// Layouts and their texts, worked out by hand.
+pub const fn worked_examples()
+    ensures { AreLaid }
 {}

@@ -4,6 +4,17 @@ use Rattle.snap_owed_json.specs.Bounded.{IsJsonOf}
 use Rattle.snap_owed_json.specs.Tokens.{json_stream_tokens}
 use Rattle.snap_owed_json.proofs.Events.{json-events}
 use Rattle.snap_owed_json.proofs.Texts.{text-source}
+use Rattle.snap_owed.specs.LayoutTokens.{layout_tokens}
+use Rattle.snap_owed.specs.Layouts.{Document, Layout}
+use Rattle.snap_owed.specs.LayoutTexts.{document_text}
+use Rattle.snap_owed.specs.LayoutRules.{IsDocument}
+use Rattle.snap_owed.specs.Tokens.{document_with}
+use Rattle.snap_owed.proofs.Documents.{laid-source}
+use Rattle.snap_parse.specs.LaidEvents.{layout_tree}
+use Rattle.snap_parse.specs.LaidValues.{layout_value}
+use Rattle.snap_parse.specs.TreeNodes.{tree_node}
+use Rattle.snap_parse.proofs.LaidRuns.{laid-events}
+use Rattle.snap_parse.proofs.LaidValues.{laid-value}
 use Rattle.snap_parse.proofs.PrintedRuns.{printed-events}
 use Rattle.snap_event.specs.Streams.{IsStream}
 use Rattle.snap_event.proofs.Documents.{whole-streams}
@@ -59,9 +70,26 @@ json-given source p parser is gives =
     let P : List ℕ → Type 0 = λ v. Owes (start_scan (before_nul v)).state (json_stream_tokens p) in
     gives (json_stream_tokens p) (stream_events (json_node p ∷ [])) (subst P (sym is.2) (text-source p is.0 is.1)) (json-events p is.0)
 
+-- the same of a text in a layout
+pub laid-given : (source : List ℕ) (d : Document) (parser : Parsing) → IsDocument d → source ≡ document_text d
+    → ((tokens : List TokenType) (events : List Event) → Owes (start_scan (before_nul source)).state tokens → Yields start_spot tokens events → WillGive parser events)
+    → WillGive parser (stream_events (tree_node (layout_tree d.tree) ∷ []))
+laid-given source d parser fits is gives =
+    let tokens : List TokenType = document_with (layout_tokens d.tree) in
+    let P : List ℕ → Type 0 = λ v. Owes (start_scan (before_nul v)).state tokens in
+    gives tokens (stream_events (tree_node (layout_tree d.tree) ∷ [])) (subst P (sym is) (laid-source d fits)) (laid-events d.tree)
+
 -- the documents of a loader that got the events of one document
 pub made-one : (l : Loader) (r : Result Array ScanError) (n : Node) → HasLoaded l (stream_events (n ∷ [])) → IfOk r (λ list. HoldsDocuments l list)
     → IfOk r (λ list. map value_of (array_list list) ≡ document_value n ∷ [])
 made-one l r n told h =
     IfOk-weaker r (λ list. HoldsDocuments l list) (λ list. map value_of (array_list list) ≡ document_value n ∷ [])
     (λ list holds. holds (stream_events (n ∷ [])) told ∙ stream-steps (n ∷ [])) h
+
+-- the same of a layout
+pub made-laid : (l : Loader) (r : Result Array ScanError) (t : Layout) → HasLoaded l (stream_events (tree_node (layout_tree t) ∷ [])) → IfOk r (λ list. HoldsDocuments l list)
+    → IfOk r (λ list. map value_of (array_list list) ≡ layout_value t ∷ [])
+made-laid l r t told h =
+    let alone : Value → List Value = λ v. v ∷ [] in
+    IfOk-weaker r (λ list. map value_of (array_list list) ≡ document_value (tree_node (layout_tree t)) ∷ []) (λ list. map value_of (array_list list) ≡ layout_value t ∷ [])
+    (λ list is. is ∙ ap alone (laid-value t)) (made-one l r (tree_node (layout_tree t)) told h)

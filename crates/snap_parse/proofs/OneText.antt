@@ -1,9 +1,21 @@
--- Printed texts that are the same have the same document, whatever trees they are printed of.
-use Rattle.snap_parse.proofs.Prelude.{◌≡◌, ℕ, List, [], ◌∷◌, map, true, false, Some, sym, ap, ◌∙◌, refl, subst, document_of, Plain, document_tokens, plain-source, fetched, Steps, none_more, one_more, type_of, Owes, start_scan, before_nul, TokenType, Event, stream_events, Spot, start_spot, Parsed, parse_step, stage_step, Yields, finished, then_one, Value, document_value, node_of, steps, start}
+-- A text has one document, whether it is printed of a tree or lies in a layout.
+use Rattle.snap_parse.proofs.Prelude.{◌≡◌, ℕ, List, [], ◌∷◌, map, true, false, Some, sym, ap, ◌∙◌, refl, subst, document_of, Plain, document_tokens, plain-source, fetched, Steps, none_more, one_more, type_of, Owes, start_scan, before_nul, TokenType, Event, Node, stream_events, Spot, start_spot, Parsed, parse_step, stage_step, Yields, finished, then_one, Value, document_value, node_of, read_value, IsWithin, steps, start}
+use Rattle.snap_owed.specs.LayoutRules.{IsDocument}
+use Rattle.snap_owed.specs.LayoutTexts.{document_text}
+use Rattle.snap_owed.specs.LayoutTokens.{layout_tokens}
+use Rattle.snap_owed.specs.Layouts.{Document}
+use Rattle.snap_owed.specs.Tokens.{document_with}
+use Rattle.snap_owed.proofs.Documents.{laid-source}
 use Rattle.snap_scan.specs.State.{State}
 use Rattle.snap_parser.specs.declared.state.Stage.TheVariants as g
+use Rattle.snap_parse.specs.LaidEvents.{layout_tree}
+use Rattle.snap_parse.specs.LaidValues.{layout_value}
+use Rattle.snap_parse.specs.TreeNodes.{tree_node}
 use Rattle.snap_parse.proofs.Folds.{stream-steps}
+use Rattle.snap_parse.proofs.LaidRuns.{laid-events}
+use Rattle.snap_parse.proofs.LaidValues.{laid-value}
 use Rattle.snap_parse.proofs.PrintedRuns.{printed-events}
+use Rattle.snap_parse.proofs.PrintedValues.{document-read}
 
 -- fetches lead from a state to one end
 stopped : (s u : State) → s.ended ≡ true → Steps s u → s ≡ u
@@ -55,11 +67,32 @@ yielded-same p ts _ ys (then_one _ _ r es step more) k =
 one-value : (x y : Value) → ◌≡◌ {A = List Value} (x ∷ []) (y ∷ []) → x ≡ y
 one-value x y same = cc
 
-pub documents-same : (a b : Plain) → document_of a ≡ document_of b → document_value (node_of a) ≡ document_value (node_of b)
-documents-same a b same =
-    let P : List ℕ → Type 0 = λ v. Owes (start_scan (before_nul v)).state (document_tokens b) in
-    let tokens = owed-same (start_scan (before_nul (document_of a))).state (document_tokens a) (document_tokens b) (plain-source a) (subst P (sym same) (plain-source b)) in
-    let Q : List TokenType → Type 0 = λ v. Yields start_spot v (stream_events (node_of b ∷ [])) in
-    let events = yielded-same start_spot (document_tokens a) (stream_events (node_of a ∷ [])) (stream_events (node_of b ∷ [])) (printed-events a) (subst Q (sym tokens) (printed-events b)) in
+-- a scanner of the text owes tokens that yield the events of one document, which has this value
+pub record HasValue (text : List ℕ) (value : Value) : Type 0 where
+  pub node : Node
+  pub tokens : List TokenType
+  pub owes : Owes (start_scan (before_nul text)).state tokens
+  pub yields : Yields start_spot tokens (stream_events (node ∷ []))
+  pub value_is : document_value node ≡ value
+
+pub printed-value : (p : Plain) → IsWithin p → HasValue (document_of p) (read_value p)
+printed-value p within = record { node = node_of p; tokens = document_tokens p; owes = plain-source p; yields = printed-events p; value_is = document-read p within }
+
+pub laid-one-value : (d : Document) → IsDocument d → HasValue (document_text d) (layout_value d.tree)
+laid-one-value d is = record {
+  node = tree_node (layout_tree d.tree);
+  tokens = document_with (layout_tokens d.tree);
+  owes = laid-source d is;
+  yields = laid-events d.tree;
+  value_is = laid-value d.tree;
+}
+
+pub values-same : (text : List ℕ) (a b : Value) → HasValue text a → HasValue text b → a ≡ b
+values-same text a b one other =
+    let x : Node = one.node in
+    let y : Node = other.node in
+    let tokens = owed-same (start_scan (before_nul text)).state one.tokens other.tokens one.owes other.owes in
+    let Q : List TokenType → Type 0 = λ v. Yields start_spot v (stream_events (y ∷ [])) in
+    let events = yielded-same start_spot one.tokens (stream_events (x ∷ [])) (stream_events (y ∷ [])) one.yields (subst Q (sym tokens) other.yields) in
     let f : List Event → List Value = λ es. (steps es start).documents in
-    one-value (document_value (node_of a)) (document_value (node_of b)) (sym (stream-steps (node_of a ∷ [])) ∙ ap f events ∙ stream-steps (node_of b ∷ []))
+    sym one.value_is ∙ one-value (document_value x) (document_value y) (sym (stream-steps (x ∷ [])) ∙ ap f events ∙ stream-steps (y ∷ [])) ∙ other.value_is

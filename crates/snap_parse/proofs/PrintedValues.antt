@@ -1,6 +1,5 @@
 -- The value of the node of a printed tree.
-use Rattle.snap_parse.proofs.Prelude.{◌≡◌, ℕ, ℤ, List, [], ◌∷◌, Bool, true, false, ◌==◌, ◌||◌, ◌&&◌, nat_lt, if◌then◌else◌, Option, None, Some, unwrap_or, refl, sym, ap, ◌∙◌, arith, codes, bytes_eq, needs_quotes, IsNumber, IsWithin, AreWithin, AreEntriesWithin, is_bad, paired, and_some, scalar_value, node_value, values_in, values_in_pairs, document_value, node_of, nodes_of, pairs_of, read_number, read_value, read_values, read_pairs}
-use Rattle.std.proofs.lemmas.Bool.Decides.{nat_tests}
+use Rattle.snap_parse.proofs.Prelude.{◌≡◌, ℕ, ℤ, List, [], ◌∷◌, Bool, true, false, ◌==◌, ◌||◌, ◌&&◌, nat_lt, if◌then◌else◌, Option, None, Some, unwrap_or, refl, sym, ap, ◌∙◌, codes, bytes_eq, needs_quotes, IsNumber, IsWithin, AreWithin, AreEntriesWithin, is_bad, paired, and_some, scalar_value, node_value, values_in, values_in_pairs, document_value, node_of, nodes_of, pairs_of, read_number, read_value, read_values, read_pairs}
 use Rattle.std.specs.Char.{digit_value, is_ascii_digit}
 use Rattle.std.specs.Fmt.{signed_decimal}
 use Rattle.std.specs.List.{list_all}

@@ -4,3 +4,6 @@ pub mod Loader
 pub mod Loaded
 pub mod PrintedEvents
 pub mod PrintedValues
+pub mod TreeNodes
+pub mod LaidEvents
+pub mod LaidValues

@@ -5,10 +5,14 @@ ghost use Rattle.snap_content.specs.Lines.{document_of};
 ghost use Rattle.snap_content.specs.Plain.{Plain};
 ghost use Rattle.snap_token.specs.Place.{before_nul};
 ghost use Rattle.snap_scan.specs.Sound.{IsFounded};
+ghost use Rattle.snap_owed.specs.Layouts.{Document};
+ghost use Rattle.snap_owed.specs.LayoutTexts.{document_text};
+ghost use Rattle.snap_owed.specs.LayoutRules.{IsDocument};
 ghost use Rattle.snap_owed_json.specs.Bounded.{IsJsonOf};
 ghost use Rattle.snap_owed_json.specs.Nodes.{json_node};
 ghost use Rattle.snap_yaml.specs.View.{value_of, array_list};
 ghost use Rattle.snap_parse.specs.Documents.{document_value};
+ghost use Rattle.snap_parse.specs.LaidValues.{layout_value};
 ghost use Rattle.snap_parse.specs.Loaded.{AreLoaded, scan_error};
 ghost use Rattle.snap_parse.specs.PrintedEvents.{node_of};
 
@@ -35,6 +39,11 @@ impl YamlLoader {
             → IfOk result (λ made. map value_of (array_list made)
             ≡ document_value (json_node p) ∷ []) }
         ensures json_memory { (p : Plain) → IsJsonOf p (chars source.now)
+            → IfErr result (λ e. e ≡ ScanError.OutOfMemory) }
+        ensures laid { (d : Document) → IsDocument d → chars source.now ≡ document_text d
+            → IfOk result (λ made. map value_of (array_list made)
+            ≡ layout_value d.tree ∷ []) }
+        ensures laid_memory { (d : Document) → IsDocument d → chars source.now ≡ document_text d
             → IfErr result (λ e. e ≡ ScanError.OutOfMemory) }
         ensures cause { IfErr result (λ e. IsFounded (before_nul (chars source.now)) e) }
     {

@@ -1,10 +1,11 @@
 -- The lines of a file, read one by one.
 use Rattle.snap_pending.proofs.Prelude.{◌≡◌, ℕ, zero, suc, ◌/◌, ◌%◌, ◌==◌, ℤ, pos, negsuc, Bool, true, false, List, [], ◌∷◌, ◌++◌, Option, Result, Ok, Err, ap, sym, ◌∙◌, subst, append_assoc, IsErrAnd, append-nil, if◌then◌else◌, Error, FailedParsingYaml, UnexpectedDataType, MissingField, FileIo, FloatText, JsonKey, NotText, NoFile, OutOfMemory, Pending, Plain, null, bool, int, text, list, dict, no_items, item, no_entries, entry, content_of, plain, Tree, text_at, Condensed, IsJsonOf, tree, LineTells, LineRefused, LineEnd, RecordEnd, MayBeJsonOf, IsNoJson, parsing_refusal, PendingInlineSnapshot, Tell, Refuse, LoadRefused, LoadEnd, lines}
+use Rattle.std.proofs.Common.{inl, inr}
 use Rattle.std.specs.Fmt.{decimal, signed_decimal, digits, digits_onto, digit_glyph}
 use Rattle.snap_content.specs.Readable.{IsWithin}
 use Rattle.snap_content.proofs.PlainMade.{plain_made}
 use Rattle.snap_content.specs.declared.content.Content.{Content}
-use Rattle.snap_emit.specs.Parsed.{MayBeReadAs, IsUnprinted, IsReadFrom, RefusalEnd}
+use Rattle.snap_emit.specs.Parsed.{MayBeReadAs, IsUnspelled, IsReadFrom, RefusalEnd}
 use Rattle.snap_pending.specs.declared.batch.Batch.{Batch}
 
 -- what the lines that are left tell, the whole tells behind what was read
@@ -36,8 +37,9 @@ no_memory path file (Err e) is = let P : Error → Type 0 = λ x. LoadRefused pa
 nothing : (c : ℕ) (rest : List ℕ) → [] ≡ c ∷ rest → ⊥
 nothing c rest e = cc
 
-pub empty_is_unprinted : (line : List ℕ) → line ≡ [] → IsUnprinted line
-empty_is_unprinted line none = λ t within is. nothing _ _ (sym none ∙ is)
+pub empty_is_unspelled : (line : List ℕ) → line ≡ [] → IsUnspelled line
+empty_is_unspelled line none t within (inl is) = nothing _ _ (sym none ∙ is)
+empty_is_unspelled line none t within (inr s) = nothing _ _ (sym none ∙ s.header.text_is)
 
 -- the JSON text of a tree is not empty
 
@@ -114,4 +116,4 @@ tree_end path line plain (Err (NoFile named)) filled read json h = absurd h
 pub line_end : (path line : List ℕ) (made : Content) (result : Result PendingInlineSnapshot Error) → (line ≡ [] → ⊥) → IsReadFrom made line
     → ((t : Plain) → IsWithin t → IsJsonOf t line → tree made ≡ content_of t) → ((plain : Plain) → tree made ≡ content_of plain → RecordEnd plain result) → LineEnd path line result
 line_end path line made result filled read json comes_to =
-    tree_end path line read.plain result filled read.printed (λ t within is. one_plain read.plain t (tree made) read.tree_is (json t within is)) (comes_to read.plain read.tree_is)
+    tree_end path line read.plain result filled read.read (λ t within is. one_plain read.plain t (tree made) read.tree_is (json t within is)) (comes_to read.plain read.tree_is)

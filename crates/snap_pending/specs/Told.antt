@@ -4,7 +4,7 @@ use Rattle.snap_content.specs.Plain.{Plain, text, dict, Entries}
 use Rattle.snap_content.specs.declared.error.Error.{Error}
 use Rattle.snap_content.specs.declared.error.Error.TheVariants.{FailedParsingYaml, UnexpectedDataType, MissingField, FileIo, FloatText, JsonKey, NotText, NoFile, OutOfMemory}
 use Rattle.snap_content.specs.Readable.{IsWithin}
-use Rattle.snap_emit.specs.Parsed.{MayBeReadAs, IsUnprinted}
+use Rattle.snap_emit.specs.Parsed.{MayBeReadAs, IsUnspelled}
 use Rattle.snap_owed_json.specs.Bounded.{IsJsonOf}
 use Rattle.snap_store.specs.Fields.{last_value, last_filled, text_value, line_value, kind_in, fields}
 use Rattle.snap_store.specs.Header.{HasNoExtension}
@@ -163,7 +163,7 @@ parsing_refusal error = error
 
 -- why a line is refused
 abbrev pub LineRefused : List ℕ → List ℕ → Error → Type 0
-LineRefused path line (FailedParsingYaml named) = (named ≡ path) × IsUnprinted line × IsNoJson line
+LineRefused path line (FailedParsingYaml named) = (named ≡ path) × IsUnspelled line × IsNoJson line
 LineRefused path line UnexpectedDataType = IsReadAsNone line UnexpectedDataType
 LineRefused path line MissingField = IsReadAsNone line MissingField
 LineRefused path line OutOfMemory = Unit {0}

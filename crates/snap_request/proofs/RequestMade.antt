@@ -1,9 +1,11 @@
 -- The request that the pairs of a map are.
 use Rattle.snap_request.proofs.Prelude.{IsErrOf, Err, ◌≡◌, ℕ, Bool, true, cond, List, [], ◌∷◌, length, Option, None, Some, option_map, refl, ap, sym, ◌∙◌, codes, arith, Plain, Entries, dict, pair_trees, Content, last_value, text_value, line_value, names_file, IsUtf8, chars, IsReadFrom, MayBeReadAs, RefusalEnd, ReplacementView, RequestView, Spells, ReadsAs, needed, pair_count, request_keys, redactions_from, sort_from, request_from, request_in, is_keyed}
+use Rattle.std.proofs.Common.{subst}
 use Rattle.snap_content.specs.Plain as p
 use Rattle.snap_content.specs.Tree as t
 use Rattle.snap_content.specs.declared.error.Error.{Error}
 use Rattle.snap_content.specs.declared.error.Error.TheVariants.{FailedParsingYaml, UnexpectedDataType, MissingField, FileIo, FloatText, JsonKey, NotText, NoFile, OutOfMemory}
+use Rattle.snap_emit.specs.Spelled.{IsTextOf}
 use Rattle.snap_request.specs.Refused.{refusal_of}
 use Rattle.snap_request.specs.declared.request.Request.{Request}
 use Rattle.snap_request.specs.declared.request.RequestError.TheVariants.{NoRequest}
@@ -58,27 +60,27 @@ request_made es module_name file name expr line made redactions sort keyed at_mo
 
 -- a document and its text are read as the same trees
 read_too : (document text : List ℕ) (tree : Plain) → text ≡ document → MayBeReadAs (chars text) tree → MayBeReadAs (chars document) tree
-read_too document text tree same read = λ t within printed. read t within (ap chars same ∙ printed)
+read_too document text tree same read = subst (λ x. MayBeReadAs (chars x) tree) same read
 
 -- the document is read as the request in the tree that was read
 pub spelled : (document text : List ℕ) (content : Content) (request : RequestView) → text ≡ document → IsUtf8 document → (read : IsReadFrom content (chars text))
     → Some request ≡ request_in read.plain → ReadsAs document request
 spelled document text content request same utf8 read held =
-    record { utf8 = utf8; tree = read.plain; read = read_too document text read.plain same read.printed; request_is = sym held }
+    record { utf8 = utf8; tree = read.plain; read = read_too document text read.plain same read.read; request_is = sym held }
 
 -- no request is spelled where none is in the tree that was read
 pub none_spelled : (document text : List ℕ) (content : Content) → text ≡ document → (read : IsReadFrom content (chars text))
     → None ≡ request_in read.plain → (r : RequestView) → Spells document r → ⊥
-none_spelled document text content same read held = no_request_read document read.plain (read_too document text read.plain same read.printed) (sym held)
+none_spelled document text content same read held = no_request_read document read.plain (read_too document text read.plain same read.read) (sym held)
 
 -- nor where no tree was read
 pub none_parsed : (document text path : List ℕ) (error : Error) → text ≡ document → RefusalEnd (chars text) path error → IsErrOf {T = Request} (Err (refusal_of error)) NoRequest
     → (r : RequestView) → Spells document r → ⊥
-none_parsed document text path (FailedParsingYaml named) same end refused r s = end.1 s.tree s.within (ap chars same ∙ s.printed)
+none_parsed document text path (FailedParsingYaml named) same end refused r s = end.1 s.tree s.within (subst (λ x. IsTextOf (chars x) s.tree) (sym same) s.text)
 none_parsed document text path UnexpectedDataType same end refused r s = end
 none_parsed document text path MissingField same end refused r s = end
 none_parsed document text path (FileIo named) same end refused r s = end
-none_parsed document text path (FloatText named) same end refused r s = end.1 s.tree s.within (ap chars same ∙ s.printed)
+none_parsed document text path (FloatText named) same end refused r s = end.1 s.tree s.within (subst (λ x. IsTextOf (chars x) s.tree) (sym same) s.text)
 none_parsed document text path JsonKey same end refused r s = end
 none_parsed document text path (NotText named) same end refused r s = end
 none_parsed document text path (NoFile named) same end refused r s = end

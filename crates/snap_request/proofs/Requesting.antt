@@ -1,9 +1,9 @@
 -- What makes a tree a request.
 use Rattle.snap_request.proofs.Prelude.{◌≡◌, ℕ, List, Bool, true, false, cond, drop, Option, None, Some, refl, sym, ap, ◌∙◌, codes, Plain, dict, Entries, MayBeReadAs, chars, last_value, text_value, line_value, names_file, RequestView, Spells, ReadsAs, needed, request_keys, redactions_from, sort_from, request_from, request_in, is_keyed}
 use Rattle.snap_content.specs.Plain as p
-use Rattle.snap_content.specs.Lines.{document_of}
 use Rattle.snap_content.specs.Readable.{IsWithin}
-use Rattle.snap_emit.proofs.OneText.{texts_same}
+use Rattle.snap_emit.proofs.OneText.{one_tree}
+use Rattle.snap_emit.specs.Spelled.{IsTextOf}
 
 pub record IsNeeded {A B : Type 0} (held : Option A) (made : A → Option B) (answer : B) : Type 0 where
   pub value : A
@@ -51,19 +51,19 @@ pub reads_as : (document : List ℕ) (r : RequestView) → Spells document r →
 reads_as document r s = record {
   utf8 = s.utf8;
   tree = s.tree;
-  read = λ t within printed. texts_same s.tree t s.within within (ap (drop 4) (sym s.printed ∙ printed));
+  read = λ t within text. one_tree (chars document) s.tree t s.within within s.text text;
   request_is = s.request_is;
 }
 
--- a printed document is read only as the request that its tree is
-pub printed_read : (document : List ℕ) (r : RequestView) (t : Plain) → ReadsAs document r → IsWithin t → chars document ≡ document_of t → request_in t ≡ Some r
-printed_read document r t h within printed = ap request_in (sym (h.read t within printed)) ∙ h.request_is
+-- a text of a tree is read only as the request that the tree is
+pub text_read : (document : List ℕ) (r : RequestView) (t : Plain) → ReadsAs document r → IsWithin t → IsTextOf (chars document) t → request_in t ≡ Some r
+text_read document r t h within text = ap request_in (sym (h.read t within text)) ∙ h.request_is
 
 pub only_spelled : (document : List ℕ) (r other : RequestView) → Spells document r → ReadsAs document other → other ≡ r
-only_spelled document r other s h = same_request other r (sym (printed_read document other s.tree h s.within s.printed) ∙ s.request_is)
+only_spelled document r other s h = same_request other r (sym (text_read document other s.tree h s.within s.text) ∙ s.request_is)
 
 -- where no request is in the tree that was read, no request is spelled
 pub no_request_read : (document : List ℕ) (tree : Plain) → MayBeReadAs (chars document) tree → request_in tree ≡ None → (r : RequestView) → Spells document r → ⊥
 no_request_read document tree read none r s =
-    let clash = sym s.request_is ∙ ap request_in (sym (read s.tree s.within s.printed)) ∙ none in
+    let clash = sym s.request_is ∙ ap request_in (sym (read s.tree s.within s.text)) ∙ none in
     cc clash

@@ -5,9 +5,9 @@ use Rattle.snap_content.specs.Plain.{Plain, bool, list, dict, Plains, item, no_i
 use Rattle.snap_content.specs.Tree.{Tree}
 use Rattle.snap_select.specs.InOrder.{in_order}
 use Rattle.snap_select.specs.Selected.{selected}
-use Rattle.snap_content.specs.Lines.{document_of}
 use Rattle.snap_content.specs.Readable.{IsWithin}
 use Rattle.snap_emit.specs.Parsed.{MayBeReadAs}
+use Rattle.snap_emit.specs.Spelled.{IsTextOf}
 use Rattle.snap_store.specs.Fields.{last_value, text_value, line_value}
 use Rattle.snap_place.specs.Place.{names_file}
 use Rattle.snap_settings.specs.Replaced.{ReplacementView}
@@ -98,15 +98,15 @@ abbrev pub request_in : Plain → Option RequestView
 request_in (dict entries) = if is_keyed request_keys entries then request_from entries else None
 request_in _ = None
 
--- the document is the printed text of a request
+-- the document is a text of a request: it is printed of its tree, or spells it
 pub record Spells (document : List ℕ) (request : RequestView) : Type 0 where
   pub utf8 : IsUtf8 document
   pub tree : Plain
   pub within : IsWithin tree
-  pub printed : chars document ≡ document_of tree
+  pub text : IsTextOf (chars document) tree
   pub request_is : request_in tree ≡ Some request
 
--- a document may be read as a tree that is this request: where it is a printed text, only as the tree that was printed
+-- a document may be read as a tree that is this request: where it is a text of a tree, only as that one
 pub record ReadsAs (document : List ℕ) (request : RequestView) : Type 0 where
   pub utf8 : IsUtf8 document
   pub tree : Plain

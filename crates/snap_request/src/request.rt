@@ -180,7 +180,8 @@ fn request_of_content(alloc: Global, content: Content) -> Result<Option<Request>
     }
 }
 
-/// Reads a document. One that is the printed text of a request is never refused, and it is read as that request.
+/// Reads a document. One that is printed of a request, or spells it in the free layout, is never refused, and it is read as that
+/// request.
 pub fn read_request(alloc: Global, document: &[u8]) -> Result<Request, RequestError>
     ensures ok { IfOk result (λ request. ReadsAs document.now (request_of request)) }
     ensures refused { IsErrOf result RequestError.NoRequest → (r : RequestView)

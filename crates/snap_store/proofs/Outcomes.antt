@@ -1,10 +1,11 @@
 -- What reading a file comes to, exit by exit.
-use Rattle.snap_store.proofs.Prelude.{◌≡◌, ℕ, Bool, true, false, List, Option, Result, Ok, Err, refl, ap, sym, ◌∙◌, subst, IsErrAnd, document_of, Plain, dict, Entries, content_of, IsWithin, tree, Content, Error, headed_body, body_of, FieldsEnd, HasFields, Meta, meta_of, meta_in, contents_in, legacy_in, number_text_in, SnapshotContents, SnapshotKind}
+use Rattle.snap_store.proofs.Prelude.{◌≡◌, ℕ, Bool, true, false, List, Option, Result, Ok, Err, refl, ap, sym, ◌∙◌, subst, IsErrAnd, Plain, dict, Entries, content_of, IsWithin, tree, Content, Error, headed_body, is_headed, body_of, FieldsEnd, HasFields, Meta, meta_of, meta_in, contents_in, legacy_in, number_text_in, SnapshotContents, SnapshotKind}
 use Rattle.snap_content.specs.declared.error.Error.TheVariants.{FailedParsingYaml, UnexpectedDataType, MissingField, FileIo, FloatText, JsonKey, NotText, NoFile, OutOfMemory}
-use Rattle.snap_emit.specs.Parsed.{IsReadFrom}
+use Rattle.snap_emit.specs.Parsed.{IsHeaderReadFrom, MayBeHeaderOf}
+use Rattle.snap_emit.specs.Spelled.{KeepsNumber}
 use Rattle.snap_outside.specs.Causes.{CountedIf}
 use Rattle.snap_store.specs.Causes.{is_file_fault}
-use Rattle.snap_store.specs.Reading.{IsTextFile, ReadsHeader, HasUnprintedHeader, HoldsBody, IsRefused, FileEnd, IsReadAs, Tells}
+use Rattle.snap_store.specs.Reading.{IsTextFile, ReadsHeader, HoldsBody, KeepsNumberIn, IsRefused, FileEnd, IsReadAs, Tells}
 use Rattle.snap_store.specs.Split.{IsSplit}
 use Rattle.snap_store.specs.declared.metadata.MetaData.{MetaData}
 use Rattle.snap_store.specs.declared.snapshot.Snapshot.{Snapshot}
@@ -17,22 +18,23 @@ pub record HasTree (text : List ℕ) (made : Content) : Type 0 where
   pub tree_is : tree made ≡ content_of plain
   pub header : ReadsHeader text plain
 
-pub header_read : (text shown : List ℕ) (headed : Headed) (made : Content) → IsSplit headed text → shown ≡ headed.header → IsReadFrom made shown → HasTree text made
+pub header_read : (text shown : List ℕ) (headed : Headed) (made : Content) → IsSplit headed text → shown ≡ headed.header → IsHeaderReadFrom made shown → HasTree text made
 header_read text shown headed made split same read = record {
   plain = read.plain;
   tree_is = read.tree_is;
-  header = record { headed = split.headed_is; read = λ t within is. read.printed t within (same ∙ split.header_is ∙ is) };
+  header = record { headed = split.headed_is; read = subst (λ x. MayBeHeaderOf x read.plain) (same ∙ split.header_is) read.read };
 }
 
--- where a number was kept as a text, the header is no printed one
-pub number_kept : (text shown : List ℕ) (headed : Headed) (file : Option (List ℕ)) (kept told : Bool) → IsTextFile file text → IsSplit headed text → shown ≡ headed.header
-    → ((t : Plain) → IsWithin t → shown ≡ document_of t → kept ≡ false) → told ≡ kept → told ≡ true → HasUnprintedHeader file
-number_kept text shown headed file kept told there split same none is kept_one = record {
-  text = text;
-  there = there;
-  headed = split.headed_is;
-  unprinted = λ tree h. let clash = sym kept_one ∙ is ∙ none tree h.within (same ∙ split.header_is ∙ h.header) in cc clash;
-}
+-- a number is kept where the header keeps one
+pub number_kept : (text shown : List ℕ) (headed : Headed) (kept told : Bool) → IsSplit headed text → shown ≡ headed.header → KeepsNumber shown kept → told ≡ kept → KeepsNumberIn text told
+number_kept text shown headed kept told split same keeps is =
+    let P : List ℕ → Type 0 = λ x. KeepsNumber x told in
+    let Q : Bool → Type 0 = λ b. KeepsNumber shown b in
+    (λ opens. subst P (same ∙ split.header_is) (subst Q (sym is) keeps), λ closed. absurd (let clash = sym split.headed_is ∙ closed in cc clash))
+
+-- none without a header
+pub none_kept : (text : List ℕ) (kept : Bool) → is_headed text ≡ false → kept ≡ false → KeepsNumberIn text kept
+none_kept text kept closed none = (λ opens. absurd (let clash = sym opens ∙ closed in cc clash), λ _. none)
 
 other_header : (text : List ℕ) (file : Option (List ℕ)) (plain : Plain) (held : Entries) → ReadsHeader text plain → plain ≡ dict held → ReadsHeader text (dict held)
 other_header text file plain held has is = let P : Plain → Type 0 = λ t. ReadsHeader text t in subst P is has
@@ -75,7 +77,7 @@ as_told legacy was text meta is tells = let P : Bool → Type 0 = λ b. Tells b 
 pub read_as : (text body : List ℕ) (file : Option (List ℕ)) (plain : Plain) (metadata : MetaData) (snapshot : Snapshot) (kind : SnapshotKind) (contents : SnapshotContents)
     → IsTextFile file text → ReadsHeader text plain → HasFields plain metadata → kind ≡ (meta_of metadata).kind → body ≡ headed_body text
     → meta_in snapshot ≡ meta_of metadata → false ≡ legacy_in snapshot → contents ≡ contents_in snapshot → HoldsBody kind body contents
-    → (number_text_in snapshot ≡ true → HasUnprintedHeader file) → IsReadAs file snapshot
+    → KeepsNumberIn text (number_text_in snapshot) → IsReadAs file snapshot
 read_as text body file plain metadata snapshot kind contents there has read kind_is body_is metadata_is headed contents_are holds numbers = record {
   text = text;
   there = there;

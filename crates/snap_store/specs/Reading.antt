@@ -3,11 +3,11 @@ use Rattle.std.specs.Prelude.{◌≡◌, ℕ, Bool, true, false, List, Option, N
 use Rattle.std.specs.Str.{IsUtf8, chars}
 use Rattle.std.specs.FinMap.{get}
 use Rattle.snap_content.specs.Plain.{Plain, dict, Entries}
-use Rattle.snap_content.specs.Lines.{document_of}
 use Rattle.snap_content.specs.Readable.{IsWithin}
 use Rattle.snap_content.specs.declared.error.Error.{Error}
 use Rattle.snap_content.specs.declared.error.Error.TheVariants.{FailedParsingYaml, UnexpectedDataType, MissingField, FileIo, FloatText, JsonKey, NotText, NoFile, OutOfMemory}
-use Rattle.snap_emit.specs.Parsed.{MayBeReadAs}
+use Rattle.snap_emit.specs.Parsed.{MayBeHeaderOf}
+use Rattle.snap_emit.specs.Spelled.{IsHeaderOf, KeepsNumber}
 use Rattle.snap_text.specs.Contents.{raw_of, kind_of}
 use Rattle.snap_text.specs.declared.contents.TextSnapshotKind.TheVariants.{File}
 use Rattle.snap_outside.specs.Files.{Files}
@@ -28,16 +28,16 @@ pub record IsTextFile (file : Option (List ℕ)) (text : List ℕ) : Type 0 wher
   pub utf8 : IsUtf8 bytes
   pub characters : text ≡ chars bytes
 
--- the text is headed, and its header is this tree as it is printed
+-- the text is headed, and its header is printed of this tree or spells it
 pub record HasHeader (text : List ℕ) (tree : Plain) : Type 0 where
   pub headed : is_headed text ≡ true
   pub within : IsWithin tree
-  pub header : header_of text ≡ document_of tree
+  pub header : IsHeaderOf (header_of text) tree
 
--- the text is headed, and its header is read as this tree: where it is a printed one, as that which was printed
+-- the text is headed, and its header is read as this tree: where it is printed of a tree or spells one, as that one
 pub record ReadsHeader (text : List ℕ) (tree : Plain) : Type 0 where
   pub headed : is_headed text ≡ true
-  pub read : MayBeReadAs (header_of text) tree
+  pub read : MayBeHeaderOf (header_of text) tree
 
 -- a text holds the body as it stands, and a payload is not read
 abbrev pub HoldsBody : SnapshotKind → List ℕ → SnapshotContents → Type 0
@@ -68,12 +68,16 @@ pub record IsNoText (file : Option (List ℕ)) : Type 0 where
   pub there : file ≡ Some bytes
   pub broken : IsUtf8 bytes → ⊥
 
--- a header opens, and is no printed tree
-pub record HasUnprintedHeader (file : Option (List ℕ)) : Type 0 where
+-- a header opens, which is printed of no tree and spells none
+pub record HasUnspelledHeader (file : Option (List ℕ)) : Type 0 where
   pub text : List ℕ
   pub there : IsTextFile file text
   pub headed : is_headed text ≡ true
-  pub unprinted : (tree : Plain) → HasHeader text tree → ⊥
+  pub unspelled : (tree : Plain) → HasHeader text tree → ⊥
+
+-- whether the text's header keeps a number as its text; without a header none is kept
+abbrev pub KeepsNumberIn : List ℕ → Bool → Type 0
+KeepsNumberIn text kept = (is_headed text ≡ true → KeepsNumber (header_of text) kept) × (is_headed text ≡ false → kept ≡ false)
 
 -- the header is read as a tree that is no map
 pub record HasOtherHeader (file : Option (List ℕ)) : Type 0 where
@@ -91,19 +95,19 @@ pub record LacksExtension (file : Option (List ℕ)) : Type 0 where
   pub header : ReadsHeader text (dict entries)
   pub lacking : kind_in entries ≡ None
 
--- the file was read as this snapshot, and only a header that is no printed one has a number kept as a text
+-- the file was read as this snapshot
 pub record IsReadAs (file : Option (List ℕ)) (snapshot : Snapshot) : Type 0 where
   pub text : List ℕ
   pub there : IsTextFile file text
   pub metadata : Tells (legacy_in snapshot) text (meta_in snapshot)
   pub contents : HoldsBody (meta_in snapshot).kind (body_of text) (contents_in snapshot)
-  pub numbers : number_text_in snapshot ≡ true → HasUnprintedHeader file
+  pub numbers : KeepsNumberIn text (number_text_in snapshot)
 
 -- why the file at the path is refused
 abbrev pub IsRefused : List ℕ → Option (List ℕ) → Error → Type 0
 IsRefused path file (NoFile named) = (named ≡ path) × (file ≡ None)
 IsRefused path file (NotText named) = (named ≡ path) × IsNoText file
-IsRefused path file (FailedParsingYaml named) = (named ≡ path) × HasUnprintedHeader file
+IsRefused path file (FailedParsingYaml named) = (named ≡ path) × HasUnspelledHeader file
 IsRefused path file UnexpectedDataType = HasOtherHeader file
 IsRefused path file MissingField = LacksExtension file
 IsRefused path file (FileIo named) = named ≡ path

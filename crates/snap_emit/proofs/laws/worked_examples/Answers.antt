@@ -78,3 +78,13 @@ returns-clause-texts c = record {
   no_number_below_zero = refl;
   underscore = refl;
 }
+
+pub returns-clause-spelled : goal.returns-clause-spelled
+returns-clause-spelled c = record {
+  header = refl;
+  header_keeps = refl;
+  request = refl;
+  request_keeps = refl;
+  nested = refl;
+  nested_keeps = refl;
+}

@@ -5,4 +5,4 @@ use Rattle.snap_emit.proofs.yaml.parse_str.Goals as goal
 pub returns-in-Some-clause-end : goal.returns-in-Some-clause-end
 returns-in-Some-clause-end c =
     let is : c.in_ok-content.field-0.content ≡ Some c.in-Some.content = cc in
-    read-from c.in-Some.content (chars c.args.text.now) (rw is at c.in_ok-content.ensures.plain) (λ t within printed. rw is at (c.in_ok-content.ensures.printed t within printed))
+    read-from c.in-Some.content (chars c.args.text.now) (rw is at c.in_ok-content.ensures.plain) (λ t within text. rw is at (c.in_ok-content.ensures.read t within text))

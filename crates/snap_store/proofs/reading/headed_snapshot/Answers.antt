@@ -6,22 +6,22 @@ use Rattle.snap_store.proofs.reading.headed_snapshot.Goals as goal
 pub returns-in_err-metadata-clause-end : goal.returns-in_err-metadata-clause-end
 returns-in_err-metadata-clause-end c = λ file text there split.
     let told = err_from_is_err_and c.from_residual-in_err-metadata.result c.from_residual-in_err-metadata.ensures.1 in
-    let read = header_read text _ c.args.headed c.in_ok-header.header.content split c.as_str.ensures c.in_ok-header.ensures.end.0 in
+    let read = header_read text _ c.args.headed c.in_ok-header.header.content split c.as_str.ensures c.in_ok-header.ensures.end in
     rw (told.1, told.2) (refused_fields text c.args.path file read.plain c.in_err-metadata.field-0.0 there read.header (c.in_err-metadata.ensures.read read.plain read.tree_is))
 
 pub returns-in_err-metadata-clause-no_fault : goal.returns-in_err-metadata-clause-no_fault
 returns-in_err-metadata-clause-no_fault c =
     let told = err_from_is_err_and c.from_residual-in_err-metadata.result c.from_residual-in_err-metadata.ensures.1 in
-    let read = c.in_ok-header.ensures.end.0 in
+    let read = c.in_ok-header.ensures.end in
     λ count. rw (told.1, told.2) (fields_no_fault read.plain c.in_err-metadata.field-0.0 count (c.in_err-metadata.ensures.read read.plain read.tree_is))
 
 pub returns-clause-end : goal.returns-clause-end
 returns-clause-end c = λ file text there split.
-    let read = header_read text _ c.args.headed c.in_ok-header.header.content split c.as_str.ensures c.in_ok-header.ensures.end.0 in
+    let read = header_read text _ c.args.headed c.in_ok-header.header.content split c.as_str.ensures c.in_ok-header.ensures.end in
     let gives = c.in_ok-metadata.ensures.read read.plain read.tree_is in
     let kept = c.with_number_text.ensures in
     let made = c.from_components-snapshot.ensures in
     read_as text c.args.headed.body file read.plain c.in_ok-metadata.metadata c.with_number_text.result _ c.contents_of-contents.result there read.header gives
     c.kind.ensures split.body_is (kept.metadata ∙ made.metadata) (sym (kept.legacy ∙ made.legacy)) (sym (kept.contents ∙ made.contents))
     c.contents_of-contents.ensures
-    (number_kept text _ c.args.headed file c.in_ok-header.header.number_as_text _ there split c.as_str.ensures c.in_ok-header.ensures.end.1 kept.number)
+    (number_kept text _ c.args.headed c.in_ok-header.header.number_as_text _ split c.as_str.ensures c.in_ok-header.ensures.numbers kept.number)

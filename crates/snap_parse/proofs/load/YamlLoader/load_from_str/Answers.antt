@@ -1,7 +1,7 @@
 use Rattle.snap_parse.proofs.Prelude.{◌≡◌, [], Bool, ap, ◌∙◌, refl, chars, Parsing, meaning, json_node, node_of, scan_error}
 use Rattle.snap_event.specs.Meaning.{ahead, is_inside}
 use Rattle.snap_parser.specs.declared.error.LoadError.TheVariants.{OutOfMemory}
-use Rattle.snap_parse.proofs.Loading.{made, made-one, printed-given, json-given}
+use Rattle.snap_parse.proofs.Loading.{made, made-one, made-laid, printed-given, json-given, laid-given}
 use Rattle.snap_parse.proofs.load.YamlLoader.load_from_str.Goals as goal
 
 pub returns-in-Ok-clause-documents : goal.returns-in-Ok-clause-documents
@@ -34,6 +34,20 @@ pub returns-clause-json_memory : goal.returns-clause-json_memory
 returns-clause-json_memory c =
     λ p is.
     let will = json-given (chars c.args.source.now) p c.new-parser.result is c.new-parser.ensures.gives in
+    let f : Parsing → Bool = λ v. is_inside (meaning v) in
+    let e : c.in-Err.error ≡ OutOfMemory = c.in-Err.ensures.memory _ (ap f c.new-parser.ensures.start) will in
+    c.refusal.ensures ∙ ap scan_error e
+
+pub returns-in-Ok-clause-laid : goal.returns-in-Ok-clause-laid
+returns-in-Ok-clause-laid c =
+    λ d fits is.
+    let will = laid-given (chars c.args.source.now) d c.new-parser.result fits is c.new-parser.ensures.gives in
+    made-laid c.load.new.receiver c.into_documents.result d.tree (c.in-Ok.ensures.gives _ _ refl will [] c.new-loader.ensures) c.into_documents.ensures.ok
+
+pub returns-clause-laid_memory : goal.returns-clause-laid_memory
+returns-clause-laid_memory c =
+    λ d fits is.
+    let will = laid-given (chars c.args.source.now) d c.new-parser.result fits is c.new-parser.ensures.gives in
     let f : Parsing → Bool = λ v. is_inside (meaning v) in
     let e : c.in-Err.error ≡ OutOfMemory = c.in-Err.ensures.memory _ (ap f c.new-parser.ensures.start) will in
     c.refusal.ensures ∙ ap scan_error e

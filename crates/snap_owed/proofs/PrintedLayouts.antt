@@ -1,0 +1,217 @@
+-- A printed form is a layout: the same text, and the same tokens.
+use Rattle.snap_owed.proofs.Prelude.{◌≡◌, ℕ, ◌+◌, ◌*◌, ◌/◌, ◌%◌, ◌<◌, List, [], ◌∷◌, ◌++◌, Bool, true, false, refl, sym, ap, ◌∙◌, arith, add-zero, append_assoc, append-nil, nat_lt, nat_le, length, nat_tests, ◌||◌, ◌==◌, if◌then◌else◌, flat_map, digit_glyph, is_code, escaped, escaped_code, blanks, and_parts, or_parts}
+use Rattle.snap_token.specs.declared.token.TokenType.{TokenType}
+use Rattle.snap_token.specs.declared.token.TokenType.TheVariants as k
+use Rattle.snap_token.specs.declared.token.TScalarStyle.TheVariants as style
+use Rattle.snap_owed.specs.Forms as form
+use Rattle.snap_owed.specs.Layouts as w
+use Rattle.snap_owed.specs.LayoutTexts as laid
+use Rattle.snap_owed.specs.LayoutRules as rule
+use Rattle.snap_owed.specs.LayoutTokens as t
+use Rattle.snap_owed.specs.PrintedLayouts as p
+use Rattle.snap_owed.proofs.Escapes.{glyph}
+use Rattle.snap_owed.proofs.Quotes.{small-code}
+
+-- a letter that stands for c, written as e
+record IsWritten (a : w.Letter) (c : ℕ) (e : List ℕ) : Type 0 where
+  text : laid.letter_text a ≡ e
+  character : laid.character a ≡ c
+  fits : rule.is_letter a ≡ true
+
+-- both chains of tests go the same way
+written-if : (c : ℕ) (b : Bool) (x y : w.Letter) (e f : List ℕ) → (b ≡ true → IsWritten x c e) → (b ≡ false → IsWritten y c f)
+    → IsWritten (if b then x else y) c (if b then e else f)
+written-if c true x y e f yes_ no_ = yes_ refl
+written-if c false x y e f yes_ no_ = no_ refl
+
+same-sign : (c a : ℕ) → (c == a) ≡ true → a ≡ c
+same-sign c a h = grind (arith, nat_tests)
+
+code-value : (c : ℕ) → (0 * 16 + c / 16) * 16 + c % 16 ≡ c
+code-value c = omega arith
+
+known-code : (c : ℕ) → c < 128 → is_code c ≡ true
+known-code c small = let below : nat_lt c 55296 ≡ true = grind (arith, nat_tests) in rw below refl
+
+written-code : (c : ℕ) → c < 128 → IsWritten (w.code 117 (48 ∷ 48 ∷ digit_glyph false (c / 16) ∷ digit_glyph false (c % 16) ∷ [])) c (escaped_code c)
+written-code c small =
+    let high = glyph (c / 16) (omega (arith, small)) in
+    let low = glyph (c % 16) (omega (arith, small)) in
+    let value : (0 * 16 + c / 16) * 16 + c % 16 ≡ c = code-value c in
+    record {
+      text = refl;
+      character = rw (high.value, low.value) value;
+      fits = rw (high.value, low.value, value) (known-code c small);
+    }
+
+written : (c : ℕ) → IsWritten (p.letter_of c) c (escaped c)
+written c =
+    written-if c (c == 34) _ _ _ _ (λ h. record { text = refl; character = same-sign c 34 h; fits = refl }) (λ quotes.
+    written-if c (c == 92) _ _ _ _ (λ h. record { text = refl; character = same-sign c 92 h; fits = refl }) (λ slash.
+    written-if c (c == 8) _ _ _ _ (λ h. record { text = refl; character = same-sign c 8 h; fits = refl }) (λ back.
+    written-if c (c == 9) _ _ _ _ (λ h. record { text = refl; character = same-sign c 9 h; fits = refl }) (λ tab.
+    written-if c (c == 10) _ _ _ _ (λ h. record { text = refl; character = same-sign c 10 h; fits = refl }) (λ feed.
+    written-if c (c == 12) _ _ _ _ (λ h. record { text = refl; character = same-sign c 12 h; fits = refl }) (λ form_feed.
+    written-if c (c == 13) _ _ _ _ (λ h. record { text = refl; character = same-sign c 13 h; fits = refl }) (λ return.
+    written-if c (nat_lt c 32 || c == 127) _ _ _ _ (λ small. written-code c (small-code c small)) (λ large.
+    let above : nat_lt c 32 ≡ false = (or_parts (nat_lt c 32) (c == 127) large).0 in
+    let nul : (c == 0) ≡ false = grind (arith, nat_tests) in
+    record { text = refl; character = refl; fits = rw (quotes, slash, feed, return, nul) refl }))))))))
+
+record AreWritten (s : List ℕ) : Type 0 where
+  text : laid.letters_text (p.letters_of s) ≡ flat_map escaped s ++ 34 ∷ []
+  characters : laid.characters (p.letters_of s) ≡ s
+  fit : rule.are_letters (p.letters_of s) ≡ true
+
+all-written : (s : List ℕ) → AreWritten s
+all-written [] = record { text = refl; characters = refl; fit = refl }
+all-written (c ∷ s) =
+    let one = written c in
+    let rest = all-written s in
+    record {
+      text = rw (one.text, rest.text) (sym (append_assoc (escaped c) (flat_map escaped s) (34 ∷ [])));
+      characters = rw (one.character, rest.characters) refl;
+      fit = rw (one.fits, rest.fit) refl;
+    }
+
+same-spelling : (v : form.Scalar) → laid.spelled (p.scalar_of v) ≡ form.spelled v
+same-spelling (form.bare u) = refl
+same-spelling (form.quote s) = let f : List ℕ → List ℕ = λ x. 34 ∷ x in ap f (all-written s).text
+
+same-token : (v : form.Scalar) → t.scalar_token (p.scalar_of v) ≡ form.scalar_token v
+same-token (form.bare u) = refl
+same-token (form.quote s) = let f : List ℕ → TokenType = λ x. k.Scalar style.DoubleQuoted x in ap f (all-written s).characters
+
+scalar-fits : (v : form.Scalar) → form.is_scalar v ≡ true → rule.is_scalar (p.scalar_of v) ≡ true
+scalar-fits (form.bare u) h = h
+scalar-fits (form.quote s) h = (all-written s).fit
+
+-- the texts
+
+same-word : (v : form.Scalar) (rest : List ℕ) → laid.spelled (p.scalar_of v) ++ (10 ∷ rest) ≡ form.spelled v ++ 10 ∷ [] ++ rest
+same-word v rest = rw (same-spelling v) (sym (append_assoc (form.spelled v) (10 ∷ []) rest))
+
+mutual
+  pub same-text : (f : form.Form) (j : ℕ) (rest : List ℕ) → laid.layout_onto j (p.layout_of f) rest ≡ form.text_at j f ++ rest
+  same-text (form.scalar v) j rest = same-word v rest
+  same-text (form.hollow q) j rest = refl
+  same-text (form.list ts) j rest = let f : List ℕ → List ℕ = λ x. 45 ∷ x in ap f (same-items ts j rest)
+  same-text (form.dict es) j rest = same-entries es j rest
+
+  -- behind a mark
+  same-item : (f : form.Form) (j : ℕ) (rest : List ℕ) → laid.item_onto j (p.item_of f) rest ≡ 32 ∷ (form.text_at (j + 1 + 1) f ++ rest)
+  same-item (form.scalar v) j rest = let f : List ℕ → List ℕ = λ x. 32 ∷ x in ap f (same-word v rest)
+  same-item (form.hollow q) j rest = refl
+  same-item (form.list ts) j rest = let f : List ℕ → List ℕ = λ x. 32 ∷ 45 ∷ x in rw (add-zero (j + 1 + 1)) (ap f (same-items ts (j + 1 + 1) rest))
+  same-item (form.dict es) j rest = let f : List ℕ → List ℕ = λ x. 32 ∷ x in rw (add-zero (j + 1 + 1)) (ap f (same-entries es (j + 1 + 1) rest))
+
+  same-items : (ts : form.Forms) (j : ℕ) (rest : List ℕ) → laid.items_onto j (p.items_of ts) rest ≡ 32 ∷ (form.inside j ts ++ rest)
+  same-items (form.last f) j rest = same-item f j rest
+  same-items (form.item f ts) j rest =
+      let at : List ℕ → List ℕ = λ x. laid.item_onto j (p.item_of f) (blanks j ++ (45 ∷ x)) in
+      ap at (same-items ts j rest) ∙ same-item f j (blanks j ++ (45 ∷ 32 ∷ (form.inside j ts ++ rest))) ∙ simp append_assoc
+
+  same-value : (f : form.Form) (j : ℕ) (rest : List ℕ) → laid.value_onto j (p.value_of f) rest ≡ form.value_block j f (form.text_at (j + 1 + 1) f) ++ rest
+  same-value (form.scalar v) j rest = let f : List ℕ → List ℕ = λ x. 32 ∷ x in ap f (same-word v rest)
+  same-value (form.hollow q) j rest = refl
+  same-value (form.list ts) j rest =
+      let at : List ℕ → List ℕ = λ x. 10 ∷ (blanks (j + 1 + 1) ++ (45 ∷ x)) in ap at (same-items ts (j + 1 + 1) rest) ∙ simp append_assoc
+  same-value (form.dict es) j rest =
+      let at : List ℕ → List ℕ = λ x. 10 ∷ (blanks (j + 1 + 1) ++ x) in ap at (same-entries es (j + 1 + 1) rest) ∙ simp append_assoc
+
+  same-entry : (e : form.Entry) (j : ℕ) (rest : List ℕ) → laid.entry_onto j (p.entry_of e) rest ≡ form.entry_at j e ++ rest
+  same-entry (form.simple v f) j rest =
+      let at : List ℕ → List ℕ = λ x. x ++ (58 ∷ laid.value_onto j (p.value_of f) rest) in
+      let by : List ℕ → List ℕ = λ x. form.spelled v ++ (58 ∷ x) in
+      ap at (same-spelling v) ∙ ap by (same-value f j rest) ∙ simp append_assoc
+  same-entry (form.complex q f) j rest =
+      let at : List ℕ → List ℕ = λ x. 63 ∷ laid.item_onto j (p.item_of q) (blanks j ++ (58 ∷ x)) in
+      let by : List ℕ → List ℕ = λ x. 63 ∷ x in
+      ap at (same-item f j rest) ∙ ap by (same-item q j (blanks j ++ (58 ∷ 32 ∷ (form.text_at (j + 1 + 1) f ++ rest)))) ∙ simp append_assoc
+
+  same-entries : (es : form.Entries) (j : ℕ) (rest : List ℕ) → laid.entries_onto j (p.entries_of es) rest ≡ form.entries_at j es ++ rest
+  same-entries (form.only e) j rest = same-entry e j rest
+  same-entries (form.pair e es) j rest =
+      let at : List ℕ → List ℕ = λ x. laid.entry_onto j (p.entry_of e) (blanks j ++ x) in
+      ap at (same-entries es j rest) ∙ same-entry e j (blanks j ++ (form.entries_at j es ++ rest)) ∙ simp append_assoc
+
+-- the tokens
+
+mutual
+  pub same-tokens : (f : form.Form) → t.layout_tokens (p.layout_of f) ≡ form.tokens_of f
+  same-tokens (form.scalar v) = let f : TokenType → List TokenType = λ x. x ∷ [] in ap f (same-token v)
+  same-tokens (form.hollow q) = refl
+  same-tokens (form.list ts) = let f : List TokenType → List TokenType = λ x. k.BlockSequenceStart ∷ k.BlockEntry ∷ (x ++ k.BlockEnd ∷ []) in ap f (tokens-items ts)
+  same-tokens (form.dict es) = let f : List TokenType → List TokenType = λ x. k.BlockMappingStart ∷ (x ++ k.BlockEnd ∷ []) in ap f (tokens-entries es)
+
+  tokens-item : (f : form.Form) → t.item_tokens (p.item_of f) ≡ form.tokens_of f
+  tokens-item (form.scalar v) = let f : TokenType → List TokenType = λ x. x ∷ [] in ap f (same-token v)
+  tokens-item (form.hollow q) = refl
+  tokens-item (form.list ts) = let f : List TokenType → List TokenType = λ x. k.BlockSequenceStart ∷ k.BlockEntry ∷ (x ++ k.BlockEnd ∷ []) in ap f (tokens-items ts)
+  tokens-item (form.dict es) = let f : List TokenType → List TokenType = λ x. k.BlockMappingStart ∷ (x ++ k.BlockEnd ∷ []) in ap f (tokens-entries es)
+
+  tokens-items : (ts : form.Forms) → t.items_tokens (p.items_of ts) ≡ form.inside_tokens ts
+  tokens-items (form.last f) = tokens-item f
+  tokens-items (form.item f ts) = rw (tokens-item f, tokens-items ts) refl
+
+  tokens-value : (f : form.Form) → t.value_tokens (p.value_of f) ≡ form.tokens_of f
+  tokens-value (form.scalar v) = let f : TokenType → List TokenType = λ x. x ∷ [] in ap f (same-token v)
+  tokens-value (form.hollow q) = refl
+  tokens-value (form.list ts) = let f : List TokenType → List TokenType = λ x. k.BlockSequenceStart ∷ k.BlockEntry ∷ (x ++ k.BlockEnd ∷ []) in ap f (tokens-items ts)
+  tokens-value (form.dict es) = let f : List TokenType → List TokenType = λ x. k.BlockMappingStart ∷ (x ++ k.BlockEnd ∷ []) in ap f (tokens-entries es)
+
+  tokens-entry : (e : form.Entry) → t.entry_tokens (p.entry_of e) ≡ form.entry_tokens e
+  tokens-entry (form.simple v f) = rw (same-token v, tokens-value f) refl
+  tokens-entry (form.complex q f) = rw (tokens-item q, tokens-item f) refl
+
+  tokens-entries : (es : form.Entries) → t.entries_tokens (p.entries_of es) ≡ form.entries_tokens es
+  tokens-entries (form.only e) = tokens-entry e
+  tokens-entries (form.pair e es) = rw (tokens-entry e, tokens-entries es) refl
+
+-- what must hold of it
+
+key-fits : (v : form.Scalar) → form.is_key v ≡ true → rule.is_key (p.scalar_of v) ≡ true
+key-fits v h =
+    let two = and_parts (form.is_scalar v) (nat_le (length (form.spelled v)) 1024) h in
+    let short : nat_le (length (laid.spelled (p.scalar_of v))) 1024 ≡ true = rw (same-spelling v) two.1 in
+    rw (scalar-fits v two.0, short) refl
+
+mutual
+  pub layout-fits : (f : form.Form) (e : rule.Position) → form.IsPrintable f → rule.IsLayout e (p.layout_of f)
+  layout-fits (form.scalar v) e is = (scalar-fits v is, refl)
+  layout-fits (form.hollow q) e is = refl
+  layout-fits (form.list ts) e is = items-fit ts e is
+  layout-fits (form.dict es) e is = entries-fit es e is
+
+  item-fits : (f : form.Form) (e : rule.Position) → form.IsPrintable f → rule.IsItem e (p.item_of f)
+  item-fits (form.scalar v) e is = (scalar-fits v is, refl)
+  item-fits (form.hollow q) e is = refl
+  item-fits (form.list ts) e is = items-fit ts e is
+  item-fits (form.dict es) e is = entries-fit es e is
+
+  items-fit : (ts : form.Forms) (e : rule.Position) → form.ArePrintable ts → rule.AreItems e (p.items_of ts)
+  items-fit (form.last f) e is = item-fits f e is
+  items-fit (form.item f ts) e is = (item-fits f rule.inside is.0, items-fit ts e is.1)
+
+  value-fits : (f : form.Form) (e : rule.Position) → form.IsPrintable f → rule.IsValue e (p.value_of f)
+  value-fits (form.scalar v) e is = (scalar-fits v is, refl)
+  value-fits (form.hollow q) e is = refl
+  value-fits (form.list ts) e is = (refl, items-fit ts e is)
+  value-fits (form.dict es) e is = (refl, entries-fit es e is)
+
+  entry-fits : (t : form.Entry) (e : rule.Position) → form.IsEntry t → rule.IsEntry e (p.entry_of t)
+  entry-fits (form.simple v f) e is = (key-fits v is.0, value-fits f e is.1)
+  entry-fits (form.complex q f) e is = (item-fits q rule.inside is.0, item-fits f e is.1)
+
+  entries-fit : (es : form.Entries) (e : rule.Position) → form.AreEntries es → rule.AreEntries e (p.entries_of es)
+  entries-fit (form.only t) e is = entry-fits t e is
+  entries-fit (form.pair t es) e is = (entry-fits t rule.inside is.0, entries-fit es e is.1)
+
+pub printed-is-laid : (f : form.Form) → form.IsPrintable f → rule.IsDocument (p.printed_document f)
+printed-is-laid f is = (refl, layout-fits f rule.ending is)
+
+-- a printed document is the text of its layout
+pub printed-text : (f : form.Form) → laid.document_text (p.printed_document f) ≡ form.document_at f
+printed-text f =
+    let after : List ℕ → List ℕ = λ x. 45 ∷ 45 ∷ 45 ∷ 10 ∷ x in
+    ap after (same-text f 0 [] ∙ append-nil (form.text_at 0 f))
