@@ -1,5 +1,5 @@
 -- The ends of saving, exit by exit.
-use Rattle.snap_pending.proofs.Prelude.{◌≡◌, ℕ, Bool, false, List, Option, Some, Result, Ok, Err, refl, ap, sym, ◌∙◌, subst, OnOk, OnErr, IsErrOf, encodes-chars, encode_utf8_all, IsUtf8, chars, Error, FailedParsingYaml, UnexpectedDataType, MissingField, FileIo, FloatText, JsonKey, NotText, NoFile, OutOfMemory, Files, SameBut, appended, SaveEnd, SavingEnd}
+use Rattle.snap_pending.proofs.Prelude.{◌≡◌, ℕ, Bool, false, List, Option, Some, Result, Ok, Err, ap, sym, ◌∙◌, subst, OnOk, OnErr, IsErrOf, encodes-chars, encode_utf8_all, IsUtf8, chars, Error, FailedParsingYaml, UnexpectedDataType, MissingField, FileIo, FloatText, JsonKey, NotText, NoFile, OutOfMemory, Files, appended, SaveEnd, SavingEnd}
 
 -- what was printed was written, or failed
 pub saved : {T : Type 0} → (path : List ℕ) (refused : Bool) (result : Result T Error) → refused ≡ false → SaveEnd path result → SavingEnd path refused result

@@ -1,5 +1,5 @@
 -- The lines that records are saved as are read back.
-use Rattle.snap_pending.proofs.Prelude.{◌≡◌, ◌⊎◌, inl, inr, ℕ, nat_lt, Bool, true, false, ◌==◌, ◌||◌, List, [], ◌∷◌, ◌++◌, map, Option, Some, refl, ap, sym, ◌∙◌, subst, append_assoc, arith, if◌then◌else◌, encode_utf8_all, or_parts, encodes-append, chars_from_encodes, All, list_any, flat_map, chars, IsUtf8, Plain, Error, json_plain, json_text, Condensed, IsJsonOf, lines, without_return, lines-line, IsTextFile, IsBack, AreBack, IsReadable, HasTexts, batch_of, Tell, Refuse, IsBatch, HasRefusedLine, Pending, record_of, record_line, TellsRecord, RecordRefused, LineTells, LineRefused}
+use Rattle.snap_pending.proofs.Prelude.{◌≡◌, inl, inr, ℕ, nat_lt, false, ◌==◌, ◌||◌, List, [], ◌∷◌, ◌++◌, map, Some, refl, ap, sym, ◌∙◌, subst, append_assoc, arith, if◌then◌else◌, encode_utf8_all, or_parts, encodes-append, chars_from_encodes, All, list_any, flat_map, Plain, Error, json_plain, json_text, Condensed, IsJsonOf, lines, without_return, lines-line, IsTextFile, IsBack, AreBack, IsReadable, HasTexts, batch_of, Tell, Refuse, IsBatch, HasRefusedLine, Pending, record_of, record_line, TellsRecord, RecordRefused, LineTells, LineRefused}
 use Rattle.std.proofs.lemmas.Bool.Decides.{nat_tests}
 use Rattle.std.proofs.lemmas.List.Elements.{All-head, All-tail}
 use Rattle.snap_content.specs.declared.error.Error.TheVariants as e

@@ -1,9 +1,8 @@
 -- What is read back of the metadata in a record.
-use Rattle.snap_pending.proofs.Prelude.{◌≡◌, ℕ, ◌^◌, ◌<◌, pos, Bool, true, false, cond, not, ◌&&◌, nat_lt, List, Option, None, Some, refl, ap, sym, ◌∙◌, IfSome, codes, option_and_then, option_map, if◌then◌else◌, Tree, string, i64, u32, u64, u128, TreePairs, no_pairs, pair, json_plain, json_pairs, is_text, binary_kind, kind_in, fields, Meta, text_pair, line_pair, info_pair, kind_pairs, meta_pairs, meta_tree, without_nil_info, TellsFields, SnapshotKind, in_json, meta_back, TellsMeta}
+use Rattle.snap_pending.proofs.Prelude.{◌≡◌, ℕ, ◌^◌, ◌<◌, pos, Bool, true, false, cond, not, ◌&&◌, nat_lt, List, Option, None, Some, refl, ap, sym, ◌∙◌, IfSome, codes, option_and_then, option_map, if◌then◌else◌, Tree, string, i64, u32, u64, u128, TreePairs, pair, json_plain, json_pairs, is_text, binary_kind, kind_in, fields, Meta, text_pair, line_pair, info_pair, kind_pairs, meta_pairs, meta_tree, without_nil_info, TellsFields, SnapshotKind, in_json, meta_back, TellsMeta}
 use Rattle.std.specs.Option.{option_or}
 use Rattle.snap_content.specs.Plain as p
-use Rattle.snap_content.specs.Tree.{map}
-use Rattle.snap_store.specs.TreeFields.{tree_text, tree_line, is_key, is_nil, last_by, last_in, last_filled_in, text_at, line_at, kind_told, fields_told}
+use Rattle.snap_store.specs.TreeFields.{tree_text, tree_line, is_key, is_nil, last_by, last_in, text_at, line_at, kind_told, fields_told}
 use Rattle.snap_store.specs.declared.metadata.SnapshotKind.TheVariants.{Text, Binary}
 use Rattle.snap_store.proofs.MetaTrees.{meta_tree-tells}
 use Rattle.snap_store.proofs.TreesMade.{kind-made, fields-made, same_meta}

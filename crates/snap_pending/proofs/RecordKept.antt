@@ -1,8 +1,7 @@
 -- A saved record is not refused.
-use Rattle.snap_pending.proofs.Prelude.{◌≡◌, ℕ, ◌^◌, ◌<◌, pos, true, List, Option, None, Some, refl, ap, sym, ◌∙◌, IfSome, codes, option_map, is_some, Error, json_plain, json_pairs, last_value, last_filled, text_value, line_value, kind_in, meta_pairs, meta_tree, text_in, SnapshotKind, normal, HasShortLine, HasShortLines, HasText, HasTexts, Held, Pending, held_tree, record_of, IsNoMap, IsNoText, IsOtherHeld, no_map, no_metadata, no_text, LacksInHeld, lacks_module, lacks_metadata, lacks_extension, lacks_text, IsOtherRecord, is_no_map, other_new, other_old, LacksInRecord, lacks_run, lacks_line, lacks_in_new, lacks_in_old, RecordRefused}
+use Rattle.snap_pending.proofs.Prelude.{◌≡◌, ℕ, true, List, Option, None, Some, refl, ap, sym, ◌∙◌, IfSome, codes, option_map, is_some, Error, json_plain, json_pairs, last_value, last_filled, text_value, line_value, kind_in, meta_pairs, meta_tree, text_in, normal, HasShortLine, HasShortLines, HasText, HasTexts, Held, Pending, held_tree, record_of, IsOtherHeld, no_map, no_metadata, no_text, LacksInHeld, lacks_module, lacks_metadata, lacks_extension, lacks_text, IsOtherRecord, is_no_map, other_new, other_old, LacksInRecord, lacks_run, lacks_line, lacks_in_new, lacks_in_old, RecordRefused}
 use Rattle.snap_content.specs.Plain as p
 use Rattle.snap_content.specs.declared.error.Error.TheVariants as e
-use Rattle.snap_store.specs.Header.{HasNoExtension}
 use Rattle.snap_pending.proofs.MetaBack.{kind-back}
 use Rattle.snap_pending.proofs.RecordBack.{dict-same, held_pairs_of, module-told, meta-told, text-told, record_entries, filled_tree, new-told, old-told, short-line}
 

@@ -1,11 +1,11 @@
 use Rattle.snap_pending.proofs.Prelude.{length, sym, ◌∙◌, subst, eqb-true, eqb-false, chars, Error, some_bytes, no_bytes, LineRefused}
-use Rattle.snap_pending.proofs.LinesRead.{empty_is_unprinted, empty_is_no_json, parse_refused, line_end}
+use Rattle.snap_pending.proofs.LinesRead.{empty_is_unspelled, empty_is_no_json, parse_refused, line_end}
 use Rattle.snap_pending.proofs.lines.read_line.Goals as goal
 
 pub returns-then-is_empty : goal.returns-then-is_empty
 returns-then-is_empty c =
     let none = no_bytes c.args.line.now (eqb-true (length c.args.line.now) 0 (sym c.is_empty.ensures ∙ c.if-is_empty.true)) in
-    (c.in_ok-try_clone.ensures, empty_is_unprinted (chars c.args.line.now) none, empty_is_no_json (chars c.args.line.now) none)
+    (c.in_ok-try_clone.ensures, empty_is_unspelled (chars c.args.line.now) none, empty_is_no_json (chars c.args.line.now) none)
 
 pub returns-in-Ok : goal.returns-in-Ok
 returns-in-Ok c =
