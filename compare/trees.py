@@ -1,4 +1,4 @@
-"""Trees of values of every kind, for `bench/json`.
+"""Trees of values of every kind, for `compare/json`.
 
 A tree is a list of the name of its variant and what that holds: `["Bool", True]`, `["U64", "7"]`, `["Bytes", [1, 2]]`,
 `["Some", TREE]`, `["UnitVariant", "N", 0, "V"]`, `["Seq", [TREE, ..]]`, `["Map", [[KEY, TREE], ..]]`, `["Struct", "N", [["f", TREE], ..]]`.
