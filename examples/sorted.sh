@@ -1,5 +1,5 @@
 #!/bin/sh
-# Snapshots what a real program prints, here `sort`, and hands on how it compares with what was approved.
+# Snapshots what a real program prints, here `sort`; the exit status tells how it compares with what was approved.
 # Usage: sorted.sh MODE WORKSPACE. The program is $SNAP, or `snap` in the folder above.
 set -u
 snap=${SNAP:-$(dirname "$0")/../snap}
