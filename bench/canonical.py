@@ -50,7 +50,7 @@ def needs_quotes(text):
 
 
 def escaped(character):
-    """A character as it stands between double quotes."""
+    """A character as it is written between double quotes."""
     if character < " " or character == "\x7f":
         return ESCAPES.get(character, f"\\u{ord(character):04x}")
     return ESCAPES.get(character, character)

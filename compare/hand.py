@@ -1,7 +1,7 @@
 """Trees as a hand may write them: random free layouts, by the rules of docs/DEFINITIONS.md.
 
-A tree is one of `canonical`, in which a Kept may stand: a number of a header that is no whole number of 128 bits, and so is kept as
-its text where it stands without quotes. Keys are scalars.
+A tree is one of `canonical`, in which there may be a Kept: a number of a header that is no whole number of 128 bits, and so is kept as
+its text where it is written without quotes. Keys are scalars.
 """
 from collections import Counter
 
@@ -26,7 +26,7 @@ WAYS = [
 
 
 class Kept(str):
-    """A number that a header keeps as its text, where it stands bare."""
+    """A number that a header keeps as its text, where it is bare."""
 
 
 class Hand:
@@ -64,7 +64,7 @@ class Hand:
         return text
 
     def rest(self, ends):
-        """What stands after the last piece of a line; whether the text may end there."""
+        """What comes after the last piece of a line; whether the text may end there."""
         way = self.chosen("next", "unended", "half") if ends else self.took("next")
         if way == "unended":
             return ""
@@ -112,7 +112,7 @@ class Hand:
                 return written
 
     def leaf(self, tree, ends):
-        """A scalar or an empty collection, and what stands after it."""
+        """A scalar or an empty collection, and what comes after it."""
         if isinstance(tree, (list, Dict)):
             self.took("empty")
             self.took("square" if isinstance(tree, list) else "curly")
@@ -133,7 +133,7 @@ class Hand:
         return self.gap() + " " * further + self.collection(further, tree, ends)
 
     def items(self, column, held, ends):
-        """What stands after the first mark of a list at a column."""
+        """What comes after the first mark of a list at a column."""
         written = []
         for place, tree in enumerate(held, 1):
             is_last = place == len(held)
@@ -142,7 +142,7 @@ class Hand:
         return (" " * column + "-").join(written)
 
     def item(self, column, tree, ends):
-        """What stands after a mark at a column."""
+        """What comes after a mark at a column."""
         blanks = " " + self.blanks()
         if is_flat(tree):
             self.took("piece")
@@ -152,7 +152,7 @@ class Hand:
         return self.further_in(column, tree, ends)
 
     def value(self, column, tree, ends):
-        """What stands after the colon of a key at a column."""
+        """What comes after the colon of a key at a column."""
         if is_flat(tree):
             self.took("piece_of")
             return f" {self.blanks()}{self.leaf(tree, ends)}"

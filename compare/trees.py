@@ -11,7 +11,7 @@ WHOLE = {f"{sign}{bits}": (sign, bits) for sign in "UI" for bits in (8, 16, 32, 
 WRAPPERS = ("Some", "NewtypeStruct", "NewtypeVariant")
 LISTS = ("Seq", "Tuple", "TupleStruct", "TupleVariant")
 RECORDS = ("Struct", "StructVariant")
-# Characters that are escaped, that are wide or stand at a bound of their encoding, and that other writers escape.
+# Characters that are escaped, that are wide or at a bound of their encoding, and that other writers escape.
 CHARACTERS = "ab z\"\\/\b\t\n\f\r\0\x01\x1b\x1f\x7f\x80\x85\xa0é中\u2028\u2029\ud7ff\ue000\ufeff\uffff\U00010000\U0001f600\U0010ffff{}[]:,0'<"
 NAMES = ["a", "key", "", "two words", "é", "V\"", "line\nend", "\x02", "中文"]
 ONE = ["U8", "1"]
@@ -130,7 +130,7 @@ def collections():
 
 
 def keys():
-    """Maps with each kind of key, also behind wrappers and twice, and refused ones at each place."""
+    """Maps with each kind of key, also inside wrappers and twice, and refused ones at each place."""
     accepted = [["String", ""], ["String", CHARACTERS], ["UnitVariant", "N", 0, "V\n"], *numbers()]
     yield from (["Map", [[key, ONE]]] for key in accepted)
     for key in (["String", "k"], ["UnitVariant", "N", 0, "V"], ["I8", "-1"], ["U128", "5"]):
@@ -143,7 +143,7 @@ def keys():
 
 
 def deep(levels):
-    """A tree of so many levels, of each kind of collection in turn, with something behind each."""
+    """A tree of so many levels, of each kind of collection in turn, with something after each."""
     tree = ["Seq", []]
     for level in range(levels):
         tree = [
@@ -158,7 +158,7 @@ def deep(levels):
 
 
 def stated():
-    """The trees that stand in each comparison."""
+    """The trees that are in each comparison."""
     return [*lines(), *scalars(), *collections(), *keys(), *map(deep, (2, 3, 4, 7, 30))]
 
 
