@@ -1,5 +1,5 @@
 -- What makes a tree a request.
-use Rattle.snap_request.proofs.Prelude.{◌≡◌, ℕ, List, Bool, true, false, cond, drop, Option, None, Some, refl, sym, ap, ◌∙◌, codes, Plain, dict, Entries, MayBeReadAs, chars, last_value, text_value, line_value, names_file, RequestView, Spells, ReadsAs, needed, request_keys, redactions_from, sort_from, request_from, request_in, is_keyed}
+use Rattle.snap_request.proofs.Prelude.{◌≡◌, ℕ, List, Bool, true, false, cond, Option, None, Some, refl, sym, ap, ◌∙◌, codes, Plain, dict, Entries, MayBeReadAs, chars, last_value, text_value, line_value, names_file, RequestView, Spells, ReadsAs, needed, request_keys, redactions_from, sort_from, request_from, request_in, is_keyed}
 use Rattle.snap_content.specs.Plain as p
 use Rattle.snap_content.specs.Readable.{IsWithin}
 use Rattle.snap_emit.proofs.OneText.{one_tree}

@@ -1,5 +1,5 @@
 -- The parts of a text that a reader was given.
-use Rattle.snap_request.proofs.Prelude.{◌≡◌, ℕ, List, [], None, Some, ap, refl, selector_selects, selects_selector, selector_selected}
+use Rattle.snap_request.proofs.Prelude.{◌≡◌, ℕ, List, [], None, ap, refl, selects_selector}
 use Rattle.snap_select.specs.Grammar.{IsSelector}
 use Rattle.snap_select.specs.Parts.{Parts}
 use Rattle.snap_select.specs.Reading.{Outcome, selects, refuses, outcome, before_part}
