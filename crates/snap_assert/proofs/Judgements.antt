@@ -1,5 +1,5 @@
 -- What a reading of a file says of a pass.
-use Rattle.snap_assert.proofs.Prelude.{◌≡◌, ◌↔◌, inl, inr, ◌||◌, ◌&&◌, IsTrue, ℕ, Bool, true, false, cond, List, Option, None, Some, refl, sym, ap, ◌∙◌, subst, codes, Plain, dict, Entries, entry, no_entries, text_of, Error, FailedParsingYaml, UnexpectedDataType, MissingField, FileIo, FloatText, JsonKey, NotText, NoFile, OutOfMemory, raw_of, kind_of, compared_as, legacy_as, TextSnapshotKind, File, legacy, Agree, is_headed, body_of, Meta, IsTextFile, HasHeader, HoldsBody, IsReadAs, IsRefused, Tells, meta_in, contents_in, legacy_in, text_in, IsFileText, SnapshotContents, Text, Binary, SnapshotKind, Snapshot, BodyAgrees, HasTextHeader, HasBinaryHeader, IsLegacyFile, IsUnread, May, some_same, false_from_ne_true, or_right}
+use Rattle.snap_assert.proofs.Prelude.{◌≡◌, ◌↔◌, inl, inr, IsTrue, ℕ, Bool, true, false, cond, List, Option, None, Some, refl, sym, ap, ◌∙◌, subst, codes, Plain, dict, Entries, text_of, Error, FailedParsingYaml, UnexpectedDataType, MissingField, FileIo, FloatText, JsonKey, NotText, NoFile, OutOfMemory, raw_of, kind_of, compared_as, legacy_as, TextSnapshotKind, File, legacy, Agree, is_headed, body_of, Meta, IsTextFile, HasHeader, HoldsBody, IsReadAs, IsRefused, Tells, meta_in, contents_in, legacy_in, text_in, IsFileText, SnapshotContents, Text, Binary, SnapshotKind, Snapshot, BodyAgrees, HasTextHeader, HasBinaryHeader, IsLegacyFile, IsUnread, May, some_same, false_from_ne_true}
 use Rattle.snap_store.specs.Fields.{is_binary, kind_in, binary_kind, last_value, text_value}
 use Rattle.snap_store.specs.declared.metadata.SnapshotKind.TheVariants as kind
 use Rattle.snap_assert.proofs.Readings.{one_text, no_text_file, text_or_none, one_reading, headed_or_not, entries_same}

@@ -1,5 +1,5 @@
 -- What an assertion leaves: each step, and what it keeps.
-use Rattle.snap_assert.proofs.Prelude.{◌≡◌, inl, inr, ℕ, Bool, true, false, ◌||◌, List, [], ◌∷◌, ◌++◌, Option, None, Some, Result, Ok, Err, refl, sym, ap, ◌∙◌, subst, codes, bytes_eq-Decides, encode_utf8_all, IsSome, insert, remove, bytes_eq, Plain, text_of, document_of, normal, Files, SameBut, MayBeGone, text_under, saved_text, file_of, Meta, header_tree, without_line, meta_in, contents_in, text_in, Keeps, KeptBy, IsWrittenAlone, IsTakenAlone, IsOwn, FaultIsOwn, FaultIsAt, NamesOwn, NamesOnly, is_none, is_written, is_waiting, may_change, Asked, written, cleared, passed_files, is_stray, pending_path, AreStrays, AllStray, remove_each, is_among, FaultIsAmong, IsPrepared, Update, InPlace, NewFile, AssertError, Prepared, or_right}
+use Rattle.snap_assert.proofs.Prelude.{◌≡◌, inl, inr, ℕ, Bool, true, ◌||◌, List, [], ◌∷◌, ◌++◌, Option, None, Some, Result, Ok, Err, refl, sym, ap, ◌∙◌, subst, codes, bytes_eq-Decides, encode_utf8_all, IsSome, insert, remove, bytes_eq, Plain, text_of, document_of, normal, Files, SameBut, MayBeGone, text_under, saved_text, file_of, Meta, header_tree, without_line, meta_in, contents_in, text_in, Keeps, KeptBy, IsWrittenAlone, IsTakenAlone, IsOwn, FaultIsOwn, FaultIsAt, NamesOwn, NamesOnly, is_none, is_written, is_waiting, may_change, Asked, written, cleared, passed_files, is_stray, pending_path, AreStrays, AllStray, remove_each, is_among, FaultIsAmong, IsPrepared, Update, InPlace, NewFile, AssertError, Prepared, or_right}
 use Rattle.std.specs.Result.{IsErrAnd}
 use Rattle.snap_assert.specs.declared.error.AssertError.TheVariants as refusal
 use Rattle.snap_assert.proofs.Below.{normal-lines_of}

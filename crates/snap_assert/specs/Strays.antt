@@ -1,9 +1,8 @@
 -- The stray paths among the files.
-use Rattle.std.specs.Prelude.{◌≡◌, ◌&&◌, true, ℕ, List, is_some, IsSome}
+use Rattle.std.specs.Prelude.{◌≡◌, ◌&&◌, true, ℕ, List, is_some}
 use Rattle.std.specs.List.{list_any}
 use Rattle.std.specs.Str.{bytes_eq}
 use Rattle.std.specs.FinMap.{get}
-use Rattle.snap_path.specs.Paths.{components, is_absolute, path_of_parts, name_of}
 use Rattle.snap_outside.specs.Files.{Files}
 use Rattle.snap_assert.specs.Steps.{is_stray}
 

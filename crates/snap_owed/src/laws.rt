@@ -1,4 +1,4 @@
-//! Laws of printed texts.
+//! Laws of printed texts, and of texts in free layouts.
 ghost use Rattle.snap_content.specs.Lines.{document_of};
 ghost use Rattle.snap_content.specs.Plain.{Plain};
 ghost use Rattle.snap_token.specs.Place.{before_nul};

@@ -1,8 +1,8 @@
-//! What a scanner owes: the tokens of the texts that are printed, for every plain tree.
+//! What a scanner owes: the tokens of the texts that are printed, and of those in free layouts, for every plain tree.
 //!
-//! The one law is in `laws`. Between the text and its tokens stands the form of a tree, in which it is decided what is quoted
-//! and which keys stand before a colon: its lines are those that are printed, its text by columns is that of its lines, and at
-//! each piece of that text one fetch is known.
+//! The laws are in `laws`. Their one induction goes over layouts: a tree together with all that the writer of its text chose. A
+//! printed text is the layout of the tree's form, in which it is decided what is quoted and which keys stand before a colon; at
+//! each piece of a layout's text one fetch is known.
 #![tactic(auto)]
 
 pub mod laws;
