@@ -1,4 +1,4 @@
-//! Prints values and trees as the emitter writes them: for `bench/dump`, which holds this against the original's emitter.
+//! Prints values and trees as the emitter writes them: for `compare/dump`, which holds this against the original's emitter.
 //! Each line of standard input is a value as `value_lines` reads it, and is answered by its dump; or a call's name, and behind a tab
 //! what it is given; or a heading, `# ` and a text, which is answered by itself.
 //!

@@ -1,4 +1,4 @@
-//! Prints trees as JSON, in each layout: for `bench/json`, which holds them against the original's texts.
+//! Prints trees as JSON, in each layout: for `compare/json`, which holds them against the original's texts.
 //! Each line of standard input is a tree as `tree_lines` reads it. For each tree three lines: its condensed, its compact and its pretty
 //! text, in which `\n`, `\r`, `\0`, `\t` and `\\` stand for these characters; `! JsonKey` in place of a text where the tree has a key
 //! that JSON refuses. For a line that is no tree an empty one.

@@ -1,4 +1,4 @@
-//! Prints the documents of texts, as lines: for `bench/load`, which holds them against the original's.
+//! Prints the documents of texts, as lines: for `compare/load`, which holds them against the original's.
 //! Each line of standard input is a text, with `\n`, `\r`, `\0`, `\t` and `\\` for these characters.
 //! For each text the lines of `document_lines`, and an empty one.
 //! The gate runs it on texts of the original's tests, on scalars of every type, and on generated documents,

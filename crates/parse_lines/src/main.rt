@@ -1,4 +1,4 @@
-//! Prints what the parser makes of texts, as lines: for `bench/parse`, which holds them against the original's.
+//! Prints what the parser makes of texts, as lines: for `compare/parse`, which holds them against the original's.
 //! Each line of standard input is a text, with `\n`, `\r`, `\0`, `\t` and `\\` for these characters.
 //! For each text the lines of `event_lines`, and an empty one.
 //! The gate runs it on short texts, on generated documents, and on the smallest text of each refusal,

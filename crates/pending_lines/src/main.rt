@@ -1,4 +1,4 @@
-//! Prints what a file of records is saved as once its batch was loaded: for `bench/pending`, which holds that against the original's
+//! Prints what a file of records is saved as once its batch was loaded: for `compare/pending`, which holds that against the original's
 //! code.
 //! Each line of standard input is the text of such a file, and each answer that of the file that is saved, with `\n`, `\r`, `\0`, `\t`
 //! and `\\` for these characters; or `!` and why the file is refused.

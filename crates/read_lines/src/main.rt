@@ -1,4 +1,4 @@
-//! Prints the trees that texts are read as, as lines: for `bench/read`, which holds them against the original's reading.
+//! Prints the trees that texts are read as, as lines: for `compare/read`, which holds them against the original's reading.
 //! Each line of standard input is a text, with `\n`, `\r`, `\0`, `\t` and `\\` for these characters.
 //! For each text the line of `tree_line`.
 //! The gate runs it on texts of the original's tests, on scalars of every type, and on generated documents,

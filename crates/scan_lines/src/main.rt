@@ -1,4 +1,4 @@
-//! Prints what the scanner makes of texts, as lines: for `bench/scan`, which holds them against the original's.
+//! Prints what the scanner makes of texts, as lines: for `compare/scan`, which holds them against the original's.
 //! Each line of standard input is a text, with `\n`, `\r`, `\0`, `\t` and `\\` for these characters.
 //! For each text the lines of `token_lines`, and an empty one.
 //! The gate runs it on texts of the original's tests, on the smallest text of each refusal, and on keys and levels at their limits,

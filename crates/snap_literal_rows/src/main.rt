@@ -1,5 +1,5 @@
 //! Answers rows on standard input: an operation and its texts, each written as a literal, with a tab between each two.
-//! `bench/literals` compares its answers with those of the original crate's code.
+//! `compare/literals` compares its answers with those of the original crate's code.
 #![tactic(auto)]
 
 mod rows;
