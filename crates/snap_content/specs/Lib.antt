@@ -15,7 +15,6 @@ pub mod Spell
 pub mod Lines
 pub mod Meanings
 pub mod Readable
-pub mod Printed
 pub mod Orders
 pub mod Compared
 pub mod TotalOrder

@@ -46,23 +46,23 @@ opened q b a cs i j h ks =
     let p = here (open_sign q ∷ cs) i 1 j in
     flow_state true a (here cs (i + 1) 1 (j + 1)) (h ++ at (mark_of p) (open_token q) ∷ []) (keys_inside (key_from b p h ks.key) ks.outer)
 
-opened-is : (q : Brackets) (n : ℕ) (b : Bool) (a : ℕ) (cs : List ℕ) (i j : ℕ) (h : List Token) (ks : Keys) → AreFree n ks → nat_lt n 255 ≡ true
+opened-is : (q : Brackets) (n : ℕ) (b : Bool) (a : ℕ) (cs : List ℕ) (i j : ℕ) (h : List Token) (ks : Keys) → AreFree n ks → nat_lt n 1023 ≡ true
     → left_by (kind_step (open_kind q) (flow_state b a (here (open_sign q ∷ cs) i 1 j) h ks)) ≡ Some (opened q b a cs i j h ks)
 opened-is square n b a cs i j h ks free room =
     let p : Place = here (91 ∷ cs) i 1 j in
-    let room_for : nat_lt (length ks.outer) 255 ≡ true = rw free.levels room in
+    let room_for : nat_lt (length ks.outer) 1023 ≡ true = rw free.levels room in
     let with_keys : State → Option State = λ v. Some (sign t.FlowSequenceStart true (record v { keys = deeper v.keys })) in
-    ap left_by (otherwise (b && is_required ks.key) _ _ (and_right b (is_required ks.key) free.key) ∙ so (nat_lt (length ks.outer) 255) _ _ room_for)
+    ap left_by (otherwise (b && is_required ks.key) _ _ (and_right b (is_required ks.key) free.key) ∙ so (nat_lt (length ks.outer) 1023) _ _ room_for)
     ∙ ap with_keys (saved-is b a p h ks)
 opened-is curly n b a cs i j h ks free room =
     let p : Place = here (123 ∷ cs) i 1 j in
-    let room_for : nat_lt (length ks.outer) 255 ≡ true = rw free.levels room in
+    let room_for : nat_lt (length ks.outer) 1023 ≡ true = rw free.levels room in
     let with_keys : State → Option State = λ v. Some (sign t.FlowMappingStart true (record v { keys = deeper v.keys })) in
-    ap left_by (otherwise (b && is_required ks.key) _ _ (and_right b (is_required ks.key) free.key) ∙ so (nat_lt (length ks.outer) 255) _ _ room_for)
+    ap left_by (otherwise (b && is_required ks.key) _ _ (and_right b (is_required ks.key) free.key) ∙ so (nat_lt (length ks.outer) 1023) _ _ room_for)
     ∙ ap with_keys (saved-is b a p h ks)
 
 -- an opening bracket is fetched
-pub step-open : (q : Brackets) (n : ℕ) (b : Bool) (a : ℕ) (cs : List ℕ) (i j : ℕ) (h : List Token) (ks : Keys) → AreFree n ks → nat_lt n 255 ≡ true
+pub step-open : (q : Brackets) (n : ℕ) (b : Bool) (a : ℕ) (cs : List ℕ) (i j : ℕ) (h : List Token) (ks : Keys) → AreFree n ks → nat_lt n 1023 ≡ true
     → let p = here (open_sign q ∷ cs) i 1 j in
     fetched (flow_state b a p h ks) ≡ Some (opened q b a cs i j h (still_fresh (mark_of p) ks))
 step-open q n b a cs i j h ks free room =

@@ -10,8 +10,8 @@ use Rattle.snap_owed.proofs.Documents.{start_mark}
 
 fit-whole : (p : Plain) → has_refused p ≡ false → is_bounded p ≡ true → IsFit 0 p
 fit-whole p accepted bounded =
-    let two = and_parts (nat_le (levels p) 255) (not (has_long p)) bounded in
-    let shallow : nat_le (levels p) 255 ≡ true = two.0 in
+    let two = and_parts (nat_le (levels p) 1023) (not (has_long p)) bounded in
+    let shallow : nat_le (levels p) 1023 ≡ true = two.0 in
     record { accepted = accepted; short = not_true (has_long p) two.1; shallow = grind (arith, nat_tests) }
 
 abbrev start_token : Token

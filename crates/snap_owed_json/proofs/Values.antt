@@ -68,7 +68,7 @@ shut q s before toks n rest r =
     join s before toks (close_token q ∷ []) (suc n) n (close_sign q ∷ rest) rest r (bracket q n false r.adjacent rest r.index r.column r.held r.keys r.free)
 
 -- a list or dict of which the inner part is read
-enclosed : (q : Brackets) (n : ℕ) (b : Bool) (a : ℕ) (cs rest : List ℕ) (i j : ℕ) (h : List Token) (ks : Keys) (toks : List TokenType) → AreFree n ks → nat_lt n 255 ≡ true
+enclosed : (q : Brackets) (n : ℕ) (b : Bool) (a : ℕ) (cs rest : List ℕ) (i j : ℕ) (h : List Token) (ks : Keys) (toks : List TokenType) → AreFree n ks → nat_lt n 1023 ≡ true
     → ((held : List Token) (keys : Keys) → AreFree (suc n) keys → Reads (flow_state true a (here cs (i + 1) 1 (j + 1)) held keys) (map type_of held) toks n rest)
     → Reads (flow_state b a (here (open_sign q ∷ cs) i 1 j) h ks) (map type_of h) (open_token q ∷ toks) n rest
 enclosed q n b a cs rest i j h ks toks free room inner =
@@ -84,7 +84,7 @@ enclosed q n b a cs rest i j h ks toks free room inner =
     (map-append type_of h (at (mark_of p) (open_token q) ∷ [])) inside
 
 -- an empty list or dict
-hollow : (q : Brackets) (n : ℕ) (b : Bool) (a : ℕ) (rest : List ℕ) (i j : ℕ) (h : List Token) (ks : Keys) → AreFree n ks → nat_lt n 255 ≡ true
+hollow : (q : Brackets) (n : ℕ) (b : Bool) (a : ℕ) (rest : List ℕ) (i j : ℕ) (h : List Token) (ks : Keys) → AreFree n ks → nat_lt n 1023 ≡ true
     → Reads (flow_state b a (here (open_sign q ∷ close_sign q ∷ rest) i 1 j) h ks) (map type_of h) (open_token q ∷ close_token q ∷ []) n rest
 hollow q n b a rest i j h ks free room =
     enclosed q n b a (close_sign q ∷ rest) rest i j h ks (close_token q ∷ []) free room
@@ -132,34 +132,34 @@ string x n b a rest i j h ks free =
 pub record IsFit (n : ℕ) (p : Plain) : Type 0 where
   pub accepted : has_refused p ≡ false
   pub short : has_long p ≡ false
-  pub shallow : levels p + n ≤ 255
+  pub shallow : levels p + n ≤ 1023
 
 record AreFit (n : ℕ) (ps : Plains) : Type 0 where
   accepted : items_refused ps ≡ false
   short : items_long ps ≡ false
-  shallow : item_levels ps + n ≤ 255
+  shallow : item_levels ps + n ≤ 1023
 
 record AreEntriesFit (n : ℕ) (es : Entries) : Type 0 where
   accepted : entries_refused es ≡ false
   short : entries_long es ≡ false
-  shallow : entry_levels es + n ≤ 255
+  shallow : entry_levels es + n ≤ 1023
 
 record IsMemberFit (key : Plain) (n : ℕ) (p : Plain) : Type 0 where
   accepted : is_refused key ≡ false
   short : is_long key ≡ false
   value : IsFit n p
 
-within : (x y n : ℕ) → max x y + n ≤ 255 → (x + n ≤ 255) × (y + n ≤ 255)
+within : (x y n : ℕ) → max x y + n ≤ 1023 → (x + n ≤ 1023) × (y + n ≤ 1023)
 within x y n h =
     let one : x ≤ max x y = le-max_left x y in
     let two : y ≤ max x y = le-max_right x y in
     (omega (arith, one, h), omega (arith, two, h))
 
 fit-list : (n : ℕ) (ps : Plains) → IsFit n (list ps) → AreFit (suc n) ps
-fit-list n ps fit = record { accepted = fit.accepted; short = fit.short; shallow = (let h : suc (item_levels ps) + n ≤ 255 = fit.shallow in omega (arith, h)) }
+fit-list n ps fit = record { accepted = fit.accepted; short = fit.short; shallow = (let h : suc (item_levels ps) + n ≤ 1023 = fit.shallow in omega (arith, h)) }
 
 fit-dict : (n : ℕ) (es : Entries) → IsFit n (dict es) → AreEntriesFit (suc n) es
-fit-dict n es fit = record { accepted = fit.accepted; short = fit.short; shallow = (let h : suc (entry_levels es) + n ≤ 255 = fit.shallow in omega (arith, h)) }
+fit-dict n es fit = record { accepted = fit.accepted; short = fit.short; shallow = (let h : suc (entry_levels es) + n ≤ 1023 = fit.shallow in omega (arith, h)) }
 
 fit-item : (n : ℕ) (p : Plain) (ps : Plains) → AreFit n (item p ps) → IsFit n p × AreFit n ps
 fit-item n p ps fit =
@@ -179,11 +179,11 @@ fit-entry n key p es fit =
       record { accepted = accepted_rest.1; short = short_rest.1; shallow = shallow.1 },
     )
 
-room-list : (n : ℕ) (ps : Plains) → IsFit n (list ps) → nat_lt n 255 ≡ true
-room-list n ps fit = let h : suc (item_levels ps) + n ≤ 255 = fit.shallow in let below : n < 255 = omega (arith, h) in grind (arith, nat_tests)
+room-list : (n : ℕ) (ps : Plains) → IsFit n (list ps) → nat_lt n 1023 ≡ true
+room-list n ps fit = let h : suc (item_levels ps) + n ≤ 1023 = fit.shallow in let below : n < 1023 = omega (arith, h) in grind (arith, nat_tests)
 
-room-dict : (n : ℕ) (es : Entries) → IsFit n (dict es) → nat_lt n 255 ≡ true
-room-dict n es fit = let h : suc (entry_levels es) + n ≤ 255 = fit.shallow in let below : n < 255 = omega (arith, h) in grind (arith, nat_tests)
+room-dict : (n : ℕ) (es : Entries) → IsFit n (dict es) → nat_lt n 1023 ≡ true
+room-dict n es fit = let h : suc (entry_levels es) + n ≤ 1023 = fit.shallow in let below : n < 1023 = omega (arith, h) in grind (arith, nat_tests)
 
 -- the text of p is read as its tokens wherever it stands
 abbrev pub IsRead : Plain → Type 0

@@ -38,9 +38,9 @@ abbrev mutual
   entries_long no_entries = false
   entries_long (entry key p es) = is_long key || (has_long p || entries_long es)
 
--- lists and dicts nest at most 255 levels, and no key is long
+-- lists and dicts nest at most 1,023 levels, and no key is long
 abbrev pub is_bounded : Plain → Bool
-is_bounded p = nat_le (levels p) 255 && not (has_long p)
+is_bounded p = nat_le (levels p) 1023 && not (has_long p)
 
 -- the text is the condensed JSON of a bounded tree, all of whose keys are texts
 abbrev pub IsJsonOf : Plain → List ℕ → Type 0

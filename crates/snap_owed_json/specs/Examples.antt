@@ -38,7 +38,7 @@ abbrev pub keyed : ℕ → Plain
 keyed n = dict (entry (text (replicate n 97)) null no_entries)
 
 pub record AreBounds : Type 0 where
-  pub deepest : is_bounded (nested 255) ≡ true
-  pub too_deep : is_bounded (nested 256) ≡ false
+  pub deepest : is_bounded (nested 1023) ≡ true
+  pub too_deep : is_bounded (nested 1024) ≡ false
   pub longest : is_bounded (keyed 1022) ≡ true
   pub too_long : is_bounded (keyed 1023) ≡ false

@@ -4,5 +4,5 @@ pub mod Digits
 pub mod Words
 pub mod Escapes
 pub mod Spellings
-pub mod LineFacts
+pub mod Rows
 pub mod Typing

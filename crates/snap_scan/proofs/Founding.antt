@@ -1,5 +1,5 @@
 -- Why a fetch refuses, and what one fetch as a whole keeps.
-use Rattle.snap_scan.proofs.Prelude.{◌≡◌, ◌≢◌, ◌≤◌, ◌+◌, ◌∷◌, [], ℕ, Bool, true, false, List, Option, Some, None, length, slice_index, subst, ap, arith, refl, ◌∙◌, ◌&&◌, if◌then◌else◌, All, codes, nat_lt, nat_le, not, ◌||◌, list_any, ltb-false, All-nil, All-head, All-tail, Mark, Place, skipped, forced, mark_of, Plain, plain_from, Quoted, single_from, double_from, needed, is_among, explains, IsExplained, TScalarStyle, ScanInfo, ScanError, Syntax, OutOfMemory, TokenKind, SimpleKey, is_required, is_overdue, any_overdue, is_past, fresh, Begins, kind_of, State, at, in_flow, start_state, stale, is_key_owed, to_next, Outcome, done, refused, Leaves, Names, MayFail, closed, stream_started, plain_read, quoted_read, innermost, value_behind, kind_step, at_token, token_step, step, Holds, IsFounded, IsShown, IsNoStart, IsNoEnd, IsPossible, IsSound, IsSoundFrom, untouched, open_still, over, block_signs, both_second, both_first, cond_both}
+use Rattle.snap_scan.proofs.Prelude.{◌≡◌, ◌≢◌, ◌≤◌, ◌+◌, ◌∷◌, [], ℕ, Bool, true, false, List, Option, Some, None, length, slice_index, subst, ap, arith, refl, ◌∙◌, ◌&&◌, if◌then◌else◌, All, codes, nat_lt, nat_le, not, ◌||◌, list_any, ltb-false, All-nil, All-head, All-tail, Mark, Place, skipped, forced, mark_of, Plain, plain_from, Quoted, single_from, double_from, needed, is_among, explains, IsExplained, TScalarStyle, ScanInfo, ScanError, Syntax, OutOfMemory, TokenKind, SimpleKey, is_required, is_overdue, any_overdue, is_past, fresh, Begins, kind_of, State, at, in_flow, start_state, stale, is_key_owed, to_next, Outcome, done, refused, Leaves, Names, MayFail, closed, stream_started, plain_read, quoted_read, block_read, Block, block_from, innermost, value_behind, kind_step, at_token, token_step, step, Holds, IsFounded, IsShown, IsNoStart, IsNoEnd, IsPossible, IsSound, IsSoundFrom, untouched, open_still, over, block_signs, both_second, both_first, cond_both}
 use Rattle.snap_token.specs.declared.token.TokenType.TheVariants as t
 use Rattle.snap_token.specs.declared.token.TEncoding.TheVariants.{Utf8}
 use Rattle.snap_token.specs.declared.token.TScalarStyle.TheVariants as style
@@ -73,10 +73,10 @@ founded-owed source s is owed = founded-required source s is (both_second s.allo
 
 -- too many brackets: as many are open as may be, and one more stands here
 founded-levels : {ahead : Bool} → (source : List ℕ) (s : State) → IsSoundFrom false ahead source 1 s → is_among (codes "[{") (slice_index s.place.left 0) ≡ true
-    → nat_lt (length s.keys.outer) 255 ≡ false → IsFounded source (Syntax (mark_of s.place) i.S23)
+    → nat_lt (length s.keys.outer) 1023 ≡ false → IsFounded source (Syntax (mark_of s.place) i.S23)
 founded-levels source s is bracket many =
     let n = length s.keys.outer in
-    let least : 255 ≤ n = ltb-false n 255 many in
+    let least : 1023 ≤ n = ltb-false n 1023 many in
     founded-at false source 1 s i.S23 is (omega (arith, least, in-holds source (n + 1) (skipped s.place) (in-bracket source n s.place bracket is.place)))
 
 -- a character that begins no token explains its refusal
@@ -90,11 +90,11 @@ founded-sign source s info is explained some =
     founded-at false source 1 s info is (omega (arith, few, stands (needed info).signs source (length s.keys.outer) s.place is.place found some))
 
 founded-flow-start : {ahead : Bool} → (source : List ℕ) (s u : State) (m : Mark) (info : ScanInfo) → IsSoundFrom false ahead source 1 s → is_among (codes "[{") (slice_index s.place.left 0) ≡ true
-    → Names (if is_key_owed s then refused (mark_of s.place) i.S2 else (if nat_lt (length s.keys.outer) 255 then done u else refused (mark_of s.place) i.S23)) m info
+    → Names (if is_key_owed s then refused (mark_of s.place) i.S2 else (if nat_lt (length s.keys.outer) 1023 then done u else refused (mark_of s.place) i.S23)) m info
     → IsFounded source (Syntax m info)
 founded-flow-start source s u m info is bracket names =
     founded-if source (is_key_owed s) (mark_of s.place) m i.S2 info _ (founded-owed source s is) (λ further.
-    founded-else source (nat_lt (length s.keys.outer) 255) (mark_of s.place) m i.S23 info (done u) (founded-levels source s is bracket) (λ none. absurd none) further) names
+    founded-else source (nat_lt (length s.keys.outer) 1023) (mark_of s.place) m i.S23 info (done u) (founded-levels source s is bracket) (λ none. absurd none) further) names
 
 founded-value : {ahead : Bool} → (source : List ℕ) (key : Option SimpleKey) (s : State) (m : Mark) (info : ScanInfo) → IsSoundFrom false ahead source 1 s → slice_index s.place.left 0 ≡ 58
     → Names (value_behind key s) m info → IsFounded source (Syntax m info)
@@ -112,6 +112,11 @@ founded-quoted : {ahead : Bool} → (source : List ℕ) (written : TScalarStyle)
     → Names (quoted_read written o s) m info → IsFounded source (Syntax m info)
 founded-quoted source written None s m info is names = founded-behind source 1 s m info is names
 founded-quoted source written (Some r) s m info is names = absurd names
+
+founded-block : {ahead : Bool} → (source : List ℕ) (written : TScalarStyle) (o : Option Block) (s : State) (m : Mark) (info : ScanInfo) → IsSoundFrom false ahead source 1 s
+    → Names (block_read written o s) m info → IsFounded source (Syntax m info)
+founded-block source written None s m info is names = founded-behind source 1 s m info is names
+founded-block source written (Some r) s m info is names = absurd names
 
 -- a token that may be a key: the key before it is owed, or what reads it refuses
 founded-owing : {ahead : Bool} → (source : List ℕ) (s : State) (o : Outcome) (m : Mark) (info : ScanInfo) → IsSoundFrom false ahead source 1 s
@@ -144,8 +149,8 @@ founded-kind source (k.Refused why) s m info is first names = rw (names.0, names
 founded-kind source k.Alias s m info is first names = founded-owing source s _ m info is (founded-behind source 1 s m info is) names
 founded-kind source k.Anchor s m info is first names = founded-owing source s _ m info is (founded-behind source 1 s m info is) names
 founded-kind source k.Tag s m info is first names = founded-owing source s _ m info is (founded-behind source 1 s m info is) names
-founded-kind source k.Literal s m info is first names = founded-owing source s _ m info is (founded-behind source 1 s m info is) names
-founded-kind source k.Folded s m info is first names = founded-owing source s _ m info is (founded-behind source 1 s m info is) names
+founded-kind source k.Literal s m info is first names = founded-owing source s _ m info is (founded-block source style.Literal (block_from (innermost s.columns) true s.place) s m info is) names
+founded-kind source k.Folded s m info is first names = founded-owing source s _ m info is (founded-block source style.Foled (block_from (innermost s.columns) false s.place) s m info is) names
 founded-kind source k.SingleQuoted s m info is first names = founded-owing source s _ m info is (founded-quoted source style.SingleQuoted (single_from s.place) s m info is) names
 founded-kind source k.DoubleQuoted s m info is first names = founded-owing source s _ m info is (founded-quoted source style.DoubleQuoted (double_from s.place) s m info is) names
 founded-kind source k.Plain s m info is first names =

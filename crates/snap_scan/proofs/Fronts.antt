@@ -1,5 +1,5 @@
 -- Fetching does not see the tokens that are held, and gives up keys only once.
-use Rattle.snap_scan.proofs.Prelude.{◌≡◌, ℕ, suc, ◌+◌, ◌-◌, ◌≤◌, List, [], ◌∷◌, ◌++◌, Bool, true, false, refl, ap, ◌∙◌, arith, Some, None, Option, map, nat_lt, length, min, get_or, map-append, length-map, take-map, list_any, ◌&&◌, ◌==◌, not, if◌then◌else◌, Mark, Place, mark_of, skipped, skip_from, forced, Plain, plain_from, Quoted, single_from, double_from, is_break, ScanInfo, Token, TokenType, TScalarStyle, Outcome, done, refused, kind_step, token_step, document, sign, flow_start, flow_end, value_behind, read_key, plain_read, quoted_read, innermost, Keys, fresh, is_past, is_required, is_overdue, any_overdue, has_levels, deeper, shallower, kind_of, left_by, fetched, State, in_flow, to_next, past_comment, is_space, line_ended, advanced, allowing, unrolled, ends, kept, at, saved, is_innermost, inserted, put, rolled, is_deeper, pushed, keyless, is_key_owed, stale, SimpleKey, TokenKind}
+use Rattle.snap_scan.proofs.Prelude.{◌≡◌, ℕ, suc, ◌+◌, ◌-◌, ◌≤◌, List, [], ◌∷◌, ◌++◌, Bool, true, false, refl, ap, ◌∙◌, arith, Some, None, Option, map, nat_lt, length, min, get_or, map-append, length-map, take-map, list_any, ◌&&◌, ◌==◌, not, if◌then◌else◌, Mark, Place, mark_of, skipped, skip_from, forced, Plain, plain_from, Quoted, single_from, double_from, is_break, ScanInfo, Token, TokenType, TScalarStyle, Outcome, done, refused, kind_step, token_step, document, sign, flow_start, flow_end, value_behind, read_key, plain_read, quoted_read, block_read, Block, block_from, innermost, Keys, fresh, is_past, is_required, is_overdue, any_overdue, has_levels, deeper, shallower, kind_of, left_by, fetched, State, in_flow, to_next, past_comment, is_space, line_ended, advanced, allowing, unrolled, ends, kept, at, saved, is_innermost, inserted, put, rolled, is_deeper, pushed, keyless, is_key_owed, stale, SimpleKey, TokenKind}
 use Rattle.std.proofs.Math.ListN.{get_or-map}
 use Rattle.snap_scan.proofs.Soundness.{either, to_next-keeps}
 use Rattle.snap_token.specs.declared.info.ScanInfo.TheVariants as i
@@ -141,9 +141,9 @@ flow-start-front x kind s =
     let m = mark_of s.place in
     let f : State → State = λ v. sign kind true (record v { keys = deeper v.keys }) in
     let deep : f (in_front x (saved s)) ≡ in_front x (f (saved s)) = rw (map-append raised (saved s).keys.outer ((saved s).keys.key ∷ [])) refl in
-    let same : nat_lt (length (map raised s.keys.outer)) 255 ≡ nat_lt (length s.keys.outer) 255 = rw length-map refl in
+    let same : nat_lt (length (map raised s.keys.outer)) 1023 ≡ nat_lt (length s.keys.outer) 1023 = rw length-map refl in
     fronts-if x (is_key_owed s) _ _ _ _ _ (owed-front x s) refl
-    (fronts-if x (nat_lt (length s.keys.outer) 255) _ (done (f (saved s))) _ (done (f (saved (in_front x s)))) _ same
+    (fronts-if x (nat_lt (length s.keys.outer) 1023) _ (done (f (saved s))) _ (done (f (saved (in_front x s)))) _ same
     (some-front x f (saved s) (saved (in_front x s)) (saved-front x s) deep) refl)
 
 shallower-front : (x : Token) (s : State) → record (in_front x s) { keys = shallower (in_front x s).keys } ≡ in_front x (record s { keys = shallower s.keys })
@@ -186,8 +186,8 @@ value-front x None s =
     ap at_fun flow
     ∙ mark-front x (not (in_flow s) && not s.allowed) (not (in_flow (in_front x s)) && not s.allowed) i.S36 f s u (rolled s.place.col None m (in_front x s)) (no-place x s) (rolled-front x s.place.col None m s) refl
 
-read-front : (x : Token) (kind : TokenKind) (b : Bool) (s : State) → left_by (read_key kind b (in_front x s)) ≡ fronts x (left_by (read_key kind b s))
-read-front x kind b s =
+read-front : (x : Token) (kind : TokenKind) (s : State) → left_by (read_key kind (in_front x s)) ≡ fronts x (left_by (read_key kind s))
+read-front x kind s =
     fronts-if x (is_key_owed s) _ _ _ _ _ (owed-front x s) refl refl
 
 quoted-read-front : (x : Token) (written : TScalarStyle) (r : Option Quoted) (s : State) → left_by (quoted_read written r (in_front x s)) ≡ fronts x (left_by (quoted_read written r s))
@@ -201,6 +201,18 @@ quoted-front : (x : Token) (written : TScalarStyle) (r : Option Quoted) (s : Sta
     ≡ fronts x (left_by (if is_key_owed s then refused (mark_of s.place) i.S2 else quoted_read written r s))
 quoted-front x written r s =
     fronts-if x (is_key_owed s) _ _ _ _ _ (owed-front x s) refl (quoted-read-front x written r s)
+
+block-read-front : (x : Token) (written : TScalarStyle) (r : Option Block) (s : State) → left_by (block_read written r (in_front x s)) ≡ fronts x (left_by (block_read written r s))
+block-read-front x written None s = refl
+block-read-front x written (Some r) s =
+    let f : State → State = λ v. pushed (at r.mark (t.Scalar written r.text)) (record v { allowed = true; place = r.place }) in
+    some-front x f (saved s) (saved (in_front x s)) (saved-front x s) refl
+
+block-front : (x : Token) (written : TScalarStyle) (r : Option Block) (s : State)
+    → left_by (if is_key_owed (in_front x s) then refused (mark_of s.place) i.S2 else block_read written r (in_front x s))
+    ≡ fronts x (left_by (if is_key_owed s then refused (mark_of s.place) i.S2 else block_read written r s))
+block-front x written r s =
+    fronts-if x (is_key_owed s) _ _ _ _ _ (owed-front x s) refl (block-read-front x written r s)
 
 plain-read-front : (x : Token) (r : Option Plain) (s : State) → left_by (plain_read r (in_front x s)) ≡ fronts x (left_by (plain_read r s))
 plain-read-front x None s = refl
@@ -251,11 +263,11 @@ kind-front x k.Key s =
     ∙ mark-front x (is_required s.keys.key) (is_required (raised s.keys.key)) i.S2 f s (rolled s.place.col None m s) (rolled s.place.col None m (in_front x s)) (required-raised s.keys.key)
     (rolled-front x s.place.col None m s) refl)
 kind-front x k.Value s = value-front x s.keys.key s
-kind-front x k.Alias s = read-front x k.Alias false s
-kind-front x k.Anchor s = read-front x k.Anchor false s
-kind-front x k.Tag s = read-front x k.Tag false s
-kind-front x k.Literal s = read-front x k.Literal true s
-kind-front x k.Folded s = read-front x k.Folded true s
+kind-front x k.Alias s = read-front x k.Alias s
+kind-front x k.Anchor s = read-front x k.Anchor s
+kind-front x k.Tag s = read-front x k.Tag s
+kind-front x k.Literal s = block-front x style.Literal (block_from (innermost s.columns) true s.place) s
+kind-front x k.Folded s = block-front x style.Foled (block_from (innermost s.columns) false s.place) s
 kind-front x k.SingleQuoted s = quoted-front x style.SingleQuoted (single_from s.place) s
 kind-front x k.DoubleQuoted s = quoted-front x style.DoubleQuoted (double_from s.place) s
 kind-front x k.Plain s = plain-front x s

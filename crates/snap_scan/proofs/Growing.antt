@@ -1,5 +1,5 @@
 -- A fetch puts a token behind the held ones.
-use Rattle.snap_scan.proofs.Prelude.{◌≡◌, ◌≤◌, ◌++◌, ◌∷◌, [], Bool, true, false, List, Option, Some, None, Result, Ok, Err, length, length-append, subst, sym, ap, arith, if◌then◌else◌, OnOk, nat_lt, not, ◌&&◌, ScanError, Mark, mark_of, Plain, plain_from, Quoted, single_from, double_from, Token, TScalarStyle, ScanInfo, SimpleKey, TokenKind, is_required, any_overdue, State, at, in_flow, is_key_owed, to_next, Outcome, done, refused, read, Leaves, Does, plain_read, quoted_read, read_key, value_behind, innermost, kind_step, token_step, at_token, stream_started, step, cond_both, cond-false}
+use Rattle.snap_scan.proofs.Prelude.{◌≡◌, ◌≤◌, ◌++◌, ◌∷◌, [], Bool, true, false, List, Option, Some, None, Result, Ok, Err, length, length-append, subst, sym, ap, arith, if◌then◌else◌, OnOk, nat_lt, not, ◌&&◌, ScanError, Mark, mark_of, Plain, plain_from, Quoted, single_from, double_from, Token, TScalarStyle, ScanInfo, SimpleKey, TokenKind, is_required, any_overdue, State, at, in_flow, is_key_owed, to_next, Outcome, done, refused, read, Leaves, Does, plain_read, quoted_read, block_read, Block, block_from, read_key, value_behind, innermost, kind_step, token_step, at_token, stream_started, step, cond_both, cond-false}
 use Rattle.snap_token.specs.declared.token.TScalarStyle.TheVariants as style
 use Rattle.snap_scan.specs.declared.kind.TokenKind.TheVariants as k
 
@@ -23,8 +23,8 @@ read-left kind u new r =
     let long : length new.held ≡ length (u.held ++ at r.mark r.token ∷ []) = ap (λ (v : State). length v.held) r.leaves in
     omega (arith, push-holds u.held (at r.mark r.token))
 
-read-holds : (kind : TokenKind) (b : Bool) (s new : State) → Leaves (read_key kind b s) new → 1 ≤ length new.held
-read-holds kind b s new l = read-left kind _ new (unrefused (is_key_owed s) _ _ _ new l)
+read-holds : (kind : TokenKind) (s new : State) → Leaves (read_key kind s) new → 1 ≤ length new.held
+read-holds kind s new l = read-left kind _ new (unrefused (is_key_owed s) _ _ _ new l)
 
 plain-holds : (o : Option Plain) (s new : State) → Leaves (plain_read o s) new → 1 ≤ length new.held
 plain-holds (Some r) s new l = done-holds _ new l.is (push-holds _ _)
@@ -34,23 +34,27 @@ quoted-holds : (written : TScalarStyle) (o : Option Quoted) (s new : State) → 
 quoted-holds written (Some r) s new l = done-holds _ new l.is (push-holds _ _)
 quoted-holds written None s new l = absurd l
 
+block-holds : (written : TScalarStyle) (o : Option Block) (s new : State) → Leaves (block_read written o s) new → 1 ≤ length new.held
+block-holds written (Some r) s new l = done-holds _ new l.0.is (push-holds _ _)
+block-holds written None s new l = absurd l
+
 value-holds : (key : Option SimpleKey) (s new : State) → Leaves (value_behind key s) new → 1 ≤ length new.held
 value-holds (Some key) s new l = done-holds _ new l (push-holds _ _)
 value-holds None s new l = done-holds _ new (unrefused (not (in_flow s) && not s.allowed) _ _ _ new l) (push-holds _ _)
 
 pub kind-holds : (kind : TokenKind) (s new : State) → Leaves (kind_step kind s) new → 1 ≤ length new.held
 kind-holds k.Directive s new l = read-left k.Directive _ new (unrefused (is_required s.keys.key) _ _ _ new l)
-kind-holds k.FlowSequenceStart s new l = done-holds _ new (unrefused-else (nat_lt (length s.keys.outer) 255) _ _ _ new (unrefused (is_key_owed s) _ _ _ new l)) (push-holds _ _)
-kind-holds k.FlowMappingStart s new l = done-holds _ new (unrefused-else (nat_lt (length s.keys.outer) 255) _ _ _ new (unrefused (is_key_owed s) _ _ _ new l)) (push-holds _ _)
+kind-holds k.FlowSequenceStart s new l = done-holds _ new (unrefused-else (nat_lt (length s.keys.outer) 1023) _ _ _ new (unrefused (is_key_owed s) _ _ _ new l)) (push-holds _ _)
+kind-holds k.FlowMappingStart s new l = done-holds _ new (unrefused-else (nat_lt (length s.keys.outer) 1023) _ _ _ new (unrefused (is_key_owed s) _ _ _ new l)) (push-holds _ _)
 kind-holds k.BlockEntry s new l = done-holds _ new (unrefused (is_required s.keys.key) _ _ _ new (unrefused (not s.allowed) _ _ _ new (unrefused (in_flow s) _ _ _ new l))) (push-holds _ _)
 kind-holds k.Key s new l = done-holds _ new (unrefused (is_required s.keys.key) _ _ _ new (unrefused (not (in_flow s) && not s.allowed) _ _ _ new l)) (push-holds _ _)
 kind-holds k.Value s new l = value-holds s.keys.key s new l
 kind-holds (k.Refused info) s new l = absurd l
-kind-holds k.Alias s new l = read-holds k.Alias false s new l
-kind-holds k.Anchor s new l = read-holds k.Anchor false s new l
-kind-holds k.Tag s new l = read-holds k.Tag false s new l
-kind-holds k.Literal s new l = read-holds k.Literal true s new l
-kind-holds k.Folded s new l = read-holds k.Folded true s new l
+kind-holds k.Alias s new l = read-holds k.Alias s new l
+kind-holds k.Anchor s new l = read-holds k.Anchor s new l
+kind-holds k.Tag s new l = read-holds k.Tag s new l
+kind-holds k.Literal s new l = block-holds style.Literal (block_from (innermost s.columns) true s.place) s new (unrefused (is_key_owed s) _ _ _ new l)
+kind-holds k.Folded s new l = block-holds style.Foled (block_from (innermost s.columns) false s.place) s new (unrefused (is_key_owed s) _ _ _ new l)
 kind-holds k.SingleQuoted s new l = quoted-holds style.SingleQuoted (single_from s.place) s new (unrefused (is_key_owed s) _ _ _ new l)
 kind-holds k.DoubleQuoted s new l = quoted-holds style.DoubleQuoted (double_from s.place) s new (unrefused (is_key_owed s) _ _ _ new l)
 kind-holds k.Plain s new l = plain-holds (plain_from (innermost s.columns) (in_flow s) s.place) s new (unrefused (is_key_owed s) _ _ _ new l)

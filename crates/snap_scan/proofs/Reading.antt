@@ -1,5 +1,5 @@
 -- What the reading of a token makes of a state.
-use Rattle.snap_scan.proofs.Prelude.{◌≡◌, ◌≤◌, ◌+◌, ℕ, Bool, false, List, [], ◌∷◌, Option, Some, None, Result, Ok, Err, length, sym, ap, arith, refl, ◌∙◌, if◌then◌else◌, MatchOption, Place, Later, here, next, skip_from, mark_of, Mark, Plain, plain_from, ReadsPlain, Quoted, ReadsQuoted, TokenType, TScalarStyle, ScanError, Syntax, OutOfMemory, S2, TokenKind, is_required, State, Gives, at, pushed, allowing, keyless, saved, unrolled, is_key_owed, in_flow, refused, read, IsTokenOf, Does, closed, directive, read_key, plain, plain_read, quoted_read, innermost}
+use Rattle.snap_scan.proofs.Prelude.{◌≡◌, ◌≤◌, ◌+◌, ℕ, Bool, true, false, List, [], ◌∷◌, Option, Some, None, Result, Ok, Err, length, sym, ap, arith, refl, ◌∙◌, if◌then◌else◌, MatchOption, Place, Later, here, next, skip_from, mark_of, Mark, Plain, plain_from, ReadsPlain, Quoted, ReadsQuoted, TokenType, TScalarStyle, ScanError, Syntax, OutOfMemory, S2, TokenKind, is_required, State, Gives, at, pushed, allowing, keyless, saved, unrolled, is_key_owed, in_flow, refused, read, IsTokenOf, Does, closed, directive, read_key, plain, plain_read, quoted_read, block_read, Block, block_from, ReadsBlock, BlockScalar, innermost}
 use Rattle.snap_scan.proofs.Soundness.{either}
 use Rattle.snap_token.specs.declared.plain.PlainScalar.{PlainScalar}
 use Rattle.snap_token.specs.declared.token.TokenType.TheVariants as k
@@ -25,26 +25,26 @@ does-read kind s p mark token (Err OutOfMemory) new is later further from until 
 does-read kind s p mark token (Err (Syntax m i)) new is later further from until gives = absurd (cc)
 
 -- the same of a token that may be a simple key, whose mark is known
-pub does-read-key : {T : Type 0} (kind : TokenKind) (b : Bool) (s t u : State) (p : Place) (mark : Mark) (token : TokenType) (r : Result T ScanError) (new : State) → IsTokenOf kind token
-    → is_key_owed s ≡ false → t ≡ saved s → u ≡ allowing b t
+pub does-read-key : {T : Type 0} (kind : TokenKind) (s t u : State) (p : Place) (mark : Mark) (token : TokenType) (r : Result T ScanError) (new : State) → IsTokenOf kind token
+    → is_key_owed s ≡ false → t ≡ saved s → u ≡ allowing false t
     → Later u.place p → length p.left + 1 ≤ length u.place.left → u.place.index ≤ mark.index → mark.index ≤ p.index
-    → Gives r new (pushed (at mark token) (record u { place = p })) → Does (read_key kind b s) r new
-does-read-key kind b s t u p mark token r new is free saved_is allowed_is later further from until gives =
-    let same : u ≡ allowing b (saved s) = allowed_is ∙ ap (λ (v : State). allowing b v) saved_is in
+    → Gives r new (pushed (at mark token) (record u { place = p })) → Does (read_key kind s) r new
+does-read-key kind s t u p mark token r new is free saved_is allowed_is later further from until gives =
+    let same : u ≡ allowing false (saved s) = allowed_is ∙ ap (λ (v : State). allowing false v) saved_is in
     let reads = does-read kind u p mark token r new is later further from until gives in
     rw free (rw same at reads)
 
 -- the same where the token's mark is the place
-pub does-read-here : {T : Type 0} (kind : TokenKind) (b : Bool) (s t u : State) (p : Place) (mark : Mark) (token : TokenType) (r : Result T ScanError) (new : State) → IsTokenOf kind token
-    → is_key_owed s ≡ false → t ≡ saved s → u ≡ allowing b t → mark ≡ mark_of s.place
+pub does-read-here : {T : Type 0} (kind : TokenKind) (s t u : State) (p : Place) (mark : Mark) (token : TokenType) (r : Result T ScanError) (new : State) → IsTokenOf kind token
+    → is_key_owed s ≡ false → t ≡ saved s → u ≡ allowing false t → mark ≡ mark_of s.place
     → Later u.place p → length p.left + 1 ≤ length u.place.left
-    → Gives r new (pushed (at mark token) (record u { place = p })) → Does (read_key kind b s) r new
-does-read-here kind b s t u p mark token r new is free saved_is allowed_is marks later further gives =
-    let same : u ≡ allowing b (saved s) = allowed_is ∙ ap (λ (v : State). allowing b v) saved_is in
+    → Gives r new (pushed (at mark token) (record u { place = p })) → Does (read_key kind s) r new
+does-read-here kind s t u p mark token r new is free saved_is allowed_is marks later further gives =
+    let same : u ≡ allowing false (saved s) = allowed_is ∙ ap (λ (v : State). allowing false v) saved_is in
     let starts : u.place.index ≡ s.place.index = ap (λ (v : State). v.place.index) same in
     let index : mark.index ≡ s.place.index = ap (λ (m : Mark). m.index) marks in
     let on = later-index u.place p later in
-    does-read-key kind b s t u p mark token r new is free saved_is allowed_is later further (omega arith) (omega arith) gives
+    does-read-key kind s t u p mark token r new is free saved_is allowed_is later further (omega arith) (omega arith) gives
 
 -- a directive, behind which all blocks are closed
 pub does-directive : {T : Type 0} (s t u v : State) (p : Place) (mark : Mark) (token : TokenType) (r : Result T ScanError) (new : State) → IsTokenOf Directive token
@@ -112,6 +112,41 @@ pub does-quoted : {T : Type 0} (written : TScalarStyle) (from : Place → Option
 does-quoted written from s t u text p n mark r new free saved_is allowed_is index_is marks reads later further gives =
     let same : u ≡ allowing false (saved s) = allowed_is ∙ ap (λ (v : State). allowing false v) saved_is in
     rw free (told-quoted written s u (from s.place) text p n mark r new same index_is marks (rw (ap (λ (v : State). v.place) same) at reads) later further gives)
+
+-- a block scalar is put behind the held tokens
+told-block : {T : Type 0} (written : TScalarStyle) (s t : State) (o : Option Block) (scalar : BlockScalar) (p : Place) (r : Result T ScanError) (new : State)
+    → t ≡ allowing true (saved s) → ReadsBlock o (Ok scalar) p → Later t.place p → length p.left + 1 ≤ length t.place.left → t.place.index ≤ scalar.mark.index → scalar.mark.index ≤ p.index
+    → Gives r new (pushed (at scalar.mark (k.Scalar written scalar.text)) (record t { place = p })) → Does (block_read written o s) r new
+told-block written s t None scalar p r new saved_is reads later further from until gives = absurd reads
+told-block written s t (Some x) scalar p (Ok y) new saved_is reads later further from until gives =
+    let at_saved : t.place ≡ s.place = ap (λ (v : State). v.place) saved_is in
+    let at_new : new.place ≡ p = ap (λ (v : State). v.place) gives in
+    let shorter = ap (λ (q : Place). length q.left) at_saved in
+    let same = ap (λ (q : Place). length q.left) at_new in
+    let begun = ap (λ (q : Place). q.index) at_saved in
+    let ended = ap (λ (q : Place). q.index) at_new in
+    let marked = ap (λ (m : Mark). m.index) reads.1 in (
+      record {
+        is = rw (gives, saved_is, reads.0, reads.1, reads.2);
+        later = rw at_new (rw at_saved at later);
+        further = omega (arith, further, shorter, same);
+      },
+      omega (arith, from, begun, marked),
+      omega (arith, until, ended, marked),
+    )
+told-block written s t (Some x) scalar p (Err OutOfMemory) new saved_is reads later further from until gives = tt
+told-block written s t (Some x) scalar p (Err (Syntax m i)) new saved_is reads later further from until gives = absurd (cc)
+
+pub does-block : {T : Type 0} (written : TScalarStyle) (literal : Bool) (s t u : State) (indent : Option ℕ) (scalar : BlockScalar) (p : Place) (r : Result T ScanError) (new : State)
+    → is_key_owed s ≡ false → t ≡ saved s → u ≡ allowing true t → indent ≡ innermost u.columns → ReadsBlock (block_from indent literal u.place) (Ok scalar) p
+    → Later u.place p → length p.left + 1 ≤ length u.place.left → u.place.index ≤ scalar.mark.index → scalar.mark.index ≤ p.index
+    → Gives r new (pushed (at scalar.mark (k.Scalar written scalar.text)) (record u { place = p }))
+    → Does (if is_key_owed s then refused (mark_of s.place) S2 else block_read written (block_from (innermost s.columns) literal s.place) s) r new
+does-block written literal s t u indent scalar p r new free saved_is allowed_is indent_is reads later further from until gives =
+    let same : u ≡ allowing true (saved s) = allowed_is ∙ ap (λ (v : State). allowing true v) saved_is in
+    let here_is : block_from indent literal u.place ≡ block_from (innermost s.columns) literal s.place = rw (indent_is, same) refl in
+    let o = block_from (innermost s.columns) literal s.place in
+    rw free (told-block written s u o scalar p r new same (rw here_is at reads) later further from until gives)
 
 pub innermost-is : (o : Option ℕ) (columns : List ℕ) → MatchOption o (columns ≡ []) (λ column. (outer : List ℕ) × (columns ≡ column ∷ outer)) → o ≡ innermost columns
 innermost-is None columns is = ap (λ (v : List ℕ). innermost v) (sym is)

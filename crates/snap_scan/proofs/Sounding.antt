@@ -1,5 +1,5 @@
 -- Each fetch keeps a scanner sound.
-use Rattle.snap_scan.proofs.Prelude.{◌≡◌, ◌≢◌, ◌≤◌, ◌+◌, ◌-◌, ◌++◌, ◌∷◌, [], ℕ, Bool, true, false, List, Option, Some, None, length, slice_index, slice_index_or, length-append, subst, sym, ap, arith, refl, ◌∙◌, ◌&&◌, inl, inr, if◌then◌else◌, All, count_by, codes, nat_lt, not, ltb-false, length-take, All-push, All-head, All-tail, All-take, All-get_or, Mark, Place, Later, skipped, forced, mark_of, Plain, Quoted, single_from, double_from, is_among, Token, TokenType, TScalarStyle, TokenKind, SimpleKey, is_required, is_past, has_levels, deeper, shallower, Begins, State, at, in_flow, pushed, inserted, put, advanced, allowing, unrolled, rolled, is_deeper, keyless, saved, is_key_owed, done, IsTokenOf, IsRead, Leaves, closed, sign, document, plain_read, quoted_read, read_key, value_behind, kind_step, Holds, shown, IsShown, IsIn, IsKeyBehind, HasQuestion, HasColon, KindStands, IsPossible, IsSound, IsSoundFrom, open_still, over, IsNoStart, IsNoEnd, EndsStream, is_start, is_end, block_signs, or_left, or_right}
+use Rattle.snap_scan.proofs.Prelude.{◌≡◌, ◌≢◌, ◌≤◌, ◌+◌, ◌-◌, ◌++◌, ◌∷◌, [], ℕ, Bool, true, false, List, Option, Some, None, length, slice_index, slice_index_or, length-append, subst, sym, ap, arith, refl, ◌∙◌, ◌&&◌, inl, inr, if◌then◌else◌, All, count_by, codes, nat_lt, not, ltb-false, length-take, All-push, All-head, All-tail, All-take, All-get_or, Mark, Place, Later, skipped, forced, mark_of, Plain, Quoted, single_from, double_from, is_among, Token, TokenType, TScalarStyle, TokenKind, SimpleKey, is_required, is_past, has_levels, deeper, shallower, Begins, State, at, in_flow, pushed, inserted, put, advanced, allowing, unrolled, rolled, is_deeper, keyless, saved, is_key_owed, done, IsTokenOf, IsRead, Leaves, closed, sign, document, plain_read, quoted_read, block_read, Block, block_from, innermost, read_key, value_behind, kind_step, Holds, shown, IsShown, IsIn, IsKeyBehind, HasQuestion, HasColon, KindStands, IsPossible, IsSound, IsSoundFrom, open_still, over, IsNoStart, IsNoEnd, EndsStream, is_start, is_end, block_signs, or_left, or_right}
 use Rattle.snap_token.specs.declared.token.TokenType.TheVariants as t
 use Rattle.snap_token.specs.declared.token.TScalarStyle.TheVariants as style
 use Rattle.snap_scan.specs.declared.kind.TokenKind.TheVariants as k
@@ -55,8 +55,6 @@ read-fits source d k.Directive s (t.TagDirective a b) is first of = fit-plain so
 read-fits source d k.Alias s (t.Alias a) is first of = fit-plain source _ (begun (codes "*") source d s 42 is first refl (omega arith)) (λ m. tt) refl refl
 read-fits source d k.Anchor s (t.Anchor a) is first of = fit-plain source _ (begun (codes "&") source d s 38 is first refl (omega arith)) (λ m. tt) refl refl
 read-fits source d k.Tag s (t.Tag a b) is first of = fit-plain source _ (begun (codes "!") source d s 33 is first refl (omega arith)) (λ m. tt) refl refl
-read-fits source d k.Literal s (t.Scalar a b) is first of = fit-plain source _ (omega arith) (λ m. tt) refl refl
-read-fits source d k.Folded s (t.Scalar a b) is first of = fit-plain source _ (omega arith) (λ m. tt) refl refl
 read-fits source d kind s token is first of = absurd of
 
 sound-read : {ahead : Bool} → (source : List ℕ) (d : ℕ) (kind : TokenKind) (u new : State) → IsSoundFrom false ahead source d u → ((token : TokenType) → IsTokenOf kind token → IsFit source token)
@@ -195,10 +193,26 @@ sound-quoted source written None s new is l = absurd l
 sound-quoted source written (Some r) s new is l =
     sound-told source (t.Scalar written r.text) (record (saved s) { allowed = false; adjacent = r.place.index }) new r.place (sound-saved source 1 s is) (scalar-fits source written r.text) l.later l.further l.is
 
-sound-read-key : {ahead : Bool} → (source : List ℕ) (kind : TokenKind) (b : Bool) (s new : State) → IsSoundFrom false ahead source 1 s → Begins kind (slice_index s.place.left 0) → Leaves (read_key kind b s) new
+-- a block scalar's mark lies between where its reader began and where it went on to
+sound-block-scalar : {ahead : Bool} → (source : List ℕ) (written : TScalarStyle) (o : Option Block) (s new : State) → IsSoundFrom false ahead source 1 s → Leaves (block_read written o s) new
     → IsSound ahead source new
-sound-read-key source kind b s new is first l =
-    sound-read source 0 kind (allowing b (saved s)) new (sound-saved source 1 s is) (λ token of. read-fits source 1 kind s token is first of) (unrefused (is_key_owed s) _ _ _ new l)
+sound-block-scalar source written None s new is l = absurd l
+sound-block-scalar source written (Some r) s new is l =
+    let u : State = record (saved s) { allowed = true } in
+    let kind = t.Scalar written r.text in
+    let told = l.0 in
+    let fit = scalar-fits source written r.text in
+    let same : new.place ≡ r.place = ap (λ (v : State). v.place) told.is in
+    let from = sound-saved source 1 s is in
+    let there = in-later source (length s.keys.outer) s.place new.place told.later is.place in
+    let until = l.2 in
+    left-open source _ new (sound-pushed source 1 (at r.mark kind) (record u { place = r.place }) (sound-further source 0 r.place u (rw same at told.later) (rw same at told.further) from)
+    (record { signs = fit.signs; mark = omega (arith, in-source source (length s.keys.outer) new.place there, until); key = fit.no_key r.mark }) fit.no_start fit.no_end) told.is
+
+sound-read-key : {ahead : Bool} → (source : List ℕ) (kind : TokenKind) (s new : State) → IsSoundFrom false ahead source 1 s → Begins kind (slice_index s.place.left 0) → Leaves (read_key kind s) new
+    → IsSound ahead source new
+sound-read-key source kind s new is first l =
+    sound-read source 0 kind (allowing false (saved s)) new (sound-saved source 1 s is) (λ token of. read-fits source 1 kind s token is first of) (unrefused (is_key_owed s) _ _ _ new l)
 
 -- the characters of a document's sign are passed, all three where they are there
 sound-document : {ahead : Bool} → (source : List ℕ) (kind : TokenType) (s new : State) → IsSoundFrom false ahead source 1 s → IsFit source kind → Leaves (document kind s) new → IsSound ahead source new
@@ -243,11 +257,11 @@ sound-kind source k.DocumentEnd s new is fresh first l = sound-document source t
 sound-kind source k.FlowSequenceStart s new is fresh first l =
     left-open source _ new (sound-flow-start source t.FlowSequenceStart s is (among (codes "[{") _ 91 first refl) (some-of _ 91 first (omega arith))
     (fit-plain source t.FlowSequenceStart (begun (codes "[") source 1 s 91 is first refl (omega arith)) (λ m. tt) refl refl))
-    (unrefused-else (nat_lt (length s.keys.outer) 255) _ _ _ new (unrefused (is_key_owed s) _ _ _ new l))
+    (unrefused-else (nat_lt (length s.keys.outer) 1023) _ _ _ new (unrefused (is_key_owed s) _ _ _ new l))
 sound-kind source k.FlowMappingStart s new is fresh first l =
     left-open source _ new (sound-flow-start source t.FlowMappingStart s is (among (codes "[{") _ 123 first refl) (some-of _ 123 first (omega arith))
     (fit-plain source t.FlowMappingStart (begun (codes "{") source 1 s 123 is first refl (omega arith)) (λ m. tt) refl refl))
-    (unrefused-else (nat_lt (length s.keys.outer) 255) _ _ _ new (unrefused (is_key_owed s) _ _ _ new l))
+    (unrefused-else (nat_lt (length s.keys.outer) 1023) _ _ _ new (unrefused (is_key_owed s) _ _ _ new l))
 sound-kind source k.FlowSequenceEnd s new is fresh first l =
     left-open source _ new (sound-flow-end source t.FlowSequenceEnd s is (some-of _ 93 first (omega arith)) (fit-plain source t.FlowSequenceEnd (omega arith) (λ m. tt) refl refl))
     (unrefused (is_required s.keys.key) _ _ _ new l)
@@ -274,11 +288,11 @@ sound-kind source k.Key s new is fresh first l =
         record { before = is.before; after = cs; text = rw first at (is.text ∙ ap (λ (v : List ℕ). is.before ++ v) left); index = is.index }
 sound-kind source k.Value s new is fresh first l = sound-value source s.keys.key s new is is.keys.key fresh first l
 sound-kind source (k.Refused info) s new is fresh first l = absurd l
-sound-kind source k.Alias s new is fresh first l = sound-read-key source k.Alias false s new is first l
-sound-kind source k.Anchor s new is fresh first l = sound-read-key source k.Anchor false s new is first l
-sound-kind source k.Tag s new is fresh first l = sound-read-key source k.Tag false s new is first l
-sound-kind source k.Literal s new is fresh first l = sound-read-key source k.Literal true s new is first l
-sound-kind source k.Folded s new is fresh first l = sound-read-key source k.Folded true s new is first l
+sound-kind source k.Alias s new is fresh first l = sound-read-key source k.Alias s new is first l
+sound-kind source k.Anchor s new is fresh first l = sound-read-key source k.Anchor s new is first l
+sound-kind source k.Tag s new is fresh first l = sound-read-key source k.Tag s new is first l
+sound-kind source k.Literal s new is fresh first l = sound-block-scalar source style.Literal (block_from (innermost s.columns) true s.place) s new is (unrefused (is_key_owed s) _ _ _ new l)
+sound-kind source k.Folded s new is fresh first l = sound-block-scalar source style.Foled (block_from (innermost s.columns) false s.place) s new is (unrefused (is_key_owed s) _ _ _ new l)
 sound-kind source k.SingleQuoted s new is fresh first l = sound-quoted source style.SingleQuoted (single_from s.place) s new is (unrefused (is_key_owed s) _ _ _ new l)
 sound-kind source k.DoubleQuoted s new is fresh first l = sound-quoted source style.DoubleQuoted (double_from s.place) s new is (unrefused (is_key_owed s) _ _ _ new l)
 sound-kind source k.Plain s new is fresh first l = sound-plain source _ s new is (unrefused (is_key_owed s) _ _ _ new l)

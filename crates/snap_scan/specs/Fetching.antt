@@ -4,6 +4,7 @@ use Rattle.snap_token.specs.Place.{Place, Later, mark_of, forced}
 use Rattle.snap_token.specs.Causes.{IsExplained}
 use Rattle.snap_token.specs.Plain.{Plain, plain_from}
 use Rattle.snap_token.specs.Quoted.{Quoted, single_from, double_from}
+use Rattle.snap_block.specs.Block.{Block, block_from}
 use Rattle.snap_token.specs.Mark.{Mark}
 use Rattle.snap_token.specs.declared.token.TokenType.{TokenType}
 use Rattle.snap_token.specs.declared.token.TokenType.TheVariants as t
@@ -21,11 +22,13 @@ use Rattle.snap_scan.specs.declared.kind.TokenKind.TheVariants as k
 use Rattle.snap_scan.specs.declared.keys.SimpleKey.{SimpleKey}
 use Rattle.snap_scan.specs.State.{State, at, in_flow, pushed, inserted, advanced, allowing, to_next, unrolled, rolled, keyless, saved, is_key_owed, stale}
 
--- what a fetch comes to: the state that it leaves; the same, where a reader went on from a place; the fault that it names; a token
--- of this kind, which its reader makes of the characters behind the state's place; or what a reader refuses there
+-- what a fetch comes to: the state that it leaves; the same, where a reader went on from a place, or did so and its token has a mark
+-- further on; the fault that it names; a token of this kind, which its reader makes of the characters behind the state's place; or
+-- what a reader refuses there
 pub data Outcome : Type 0 where
   done : State → Outcome
   told : Place → State → Outcome
+  told_behind : Place → Mark → State → Outcome
   refused : Mark → ScanInfo → Outcome
   read : TokenKind → State → Outcome
   unreadable : State → Outcome
@@ -37,8 +40,6 @@ IsTokenOf k.Directive (t.TagDirective _ _) = Unit {0}
 IsTokenOf k.Alias (t.Alias _) = Unit {0}
 IsTokenOf k.Anchor (t.Anchor _) = Unit {0}
 IsTokenOf k.Tag (t.Tag _ _) = Unit {0}
-IsTokenOf k.Literal (t.Scalar written _) = written ≡ style.Literal
-IsTokenOf k.Folded (t.Scalar written _) = written ≡ style.Foled
 IsTokenOf _ _ = ⊥
 
 -- a reader went on from the state s, and its token was put behind the held ones
@@ -61,6 +62,7 @@ pub record IsTold (p : Place) (u new : State) : Type 0 where
 abbrev pub Leaves : Outcome → State → Type 0
 Leaves (done u) new = new ≡ u
 Leaves (told p u) new = IsTold p u new
+Leaves (told_behind p m u) new = IsTold p u new × (p.index ≤ m.index) × (m.index ≤ new.place.index)
 Leaves (refused m info) new = ⊥
 Leaves (read kind s) new = IsRead kind s new
 Leaves (unreadable s) new = ⊥
@@ -69,6 +71,7 @@ Leaves (unreadable s) new = ⊥
 abbrev pub Names : Outcome → Mark → ScanInfo → Type 0
 Names (done u) m info = ⊥
 Names (told p u) m info = ⊥
+Names (told_behind p at_mark u) m info = ⊥
 Names (refused at_mark why) m info = (m ≡ at_mark) × (info ≡ why)
 Names (read kind s) m info = IsExplained s.place (Syntax m info)
 Names (unreadable s) m info = IsExplained s.place (Syntax m info)
@@ -110,7 +113,7 @@ sign kind b s = pushed (at (mark_of s.place) kind) (advanced (allowing b s))
 abbrev pub flow_start : TokenType → State → Outcome
 flow_start kind s =
     if is_key_owed s then refused (mark_of s.place) i.S2 else (
-    if nat_lt (length s.keys.outer) 255 then (let t = saved s in done (sign kind true (record t { keys = deeper t.keys })))
+    if nat_lt (length s.keys.outer) 1023 then (let t = saved s in done (sign kind true (record t { keys = deeper t.keys })))
     else refused (mark_of s.place) i.S23)
 
 abbrev pub flow_end : TokenType → State → Outcome
@@ -155,9 +158,9 @@ abbrev pub innermost : List ℕ → Option ℕ
 innermost [] = None
 innermost (o ∷ os) = Some o
 
--- a token that may be a simple key, and behind which one may begin or not
-abbrev pub read_key : TokenKind → Bool → State → Outcome
-read_key kind b s = if is_key_owed s then refused (mark_of s.place) i.S2 else read kind (allowing b (saved s))
+-- a token that may be a simple key, and behind which none may begin
+abbrev pub read_key : TokenKind → State → Outcome
+read_key kind s = if is_key_owed s then refused (mark_of s.place) i.S2 else read kind (allowing false (saved s))
 
 abbrev pub plain_read : Option Plain → State → Outcome
 plain_read None s = unreadable s
@@ -180,6 +183,18 @@ single_quoted s = if is_key_owed s then refused (mark_of s.place) i.S2 else quot
 abbrev pub double_quoted : State → Outcome
 double_quoted s = if is_key_owed s then refused (mark_of s.place) i.S2 else quoted_read style.DoubleQuoted (double_from s.place) s
 
+-- behind a block scalar, whose mark is where its content begins, a simple key may begin
+abbrev pub block_read : TScalarStyle → Option Block → State → Outcome
+block_read written None s = unreadable s
+block_read written (Some r) s =
+    told_behind s.place r.mark (pushed (at r.mark (t.Scalar written r.text)) (record (saved s) { allowed = true; place = r.place }))
+
+abbrev pub literal : State → Outcome
+literal s = if is_key_owed s then refused (mark_of s.place) i.S2 else block_read style.Literal (block_from (innermost s.columns) true s.place) s
+
+abbrev pub folded : State → Outcome
+folded s = if is_key_owed s then refused (mark_of s.place) i.S2 else block_read style.Foled (block_from (innermost s.columns) false s.place) s
+
 abbrev pub kind_step : TokenKind → State → Outcome
 kind_step k.StreamEnd s = stream_end s
 kind_step k.Directive s = directive s
@@ -194,11 +209,11 @@ kind_step k.BlockEntry s = block_entry s
 kind_step k.Key s = block_key s
 kind_step k.Value s = value_behind s.keys.key s
 kind_step (k.Refused info) s = refused (mark_of s.place) info
-kind_step k.Alias s = read_key k.Alias false s
-kind_step k.Anchor s = read_key k.Anchor false s
-kind_step k.Tag s = read_key k.Tag false s
-kind_step k.Literal s = read_key k.Literal true s
-kind_step k.Folded s = read_key k.Folded true s
+kind_step k.Alias s = read_key k.Alias s
+kind_step k.Anchor s = read_key k.Anchor s
+kind_step k.Tag s = read_key k.Tag s
+kind_step k.Literal s = literal s
+kind_step k.Folded s = folded s
 kind_step k.SingleQuoted s = single_quoted s
 kind_step k.DoubleQuoted s = double_quoted s
 kind_step k.Plain s = plain s

@@ -7,7 +7,7 @@ use crate::fetcher::{Fetcher, ScanResult};
 use snap_token::{ScanError, ScanInfo, TokenType};
 
 /// How many flow collections may be open at once.
-const MOST_LEVELS: usize = 255;
+const MOST_LEVELS: usize = 1023;
 
 impl<'a> Fetcher<'a> {
     /// An opening bracket.

@@ -43,7 +43,7 @@ needed i.S19 = one_of (codes "!%")
 needed i.S20 = one_of (codes "!%")
 needed i.S21 = one_of (codes "!%")
 needed i.S22 = one_of (codes "*&")
-needed i.S23 = record { count = 256; signs = codes "[{" }
+needed i.S23 = record { count = 1024; signs = codes "[{" }
 needed i.S24 = one_of (codes "-")
 needed i.S25 = one_of (codes "-")
 needed i.S26 = one_of (codes "|>")
