@@ -12,6 +12,11 @@ pub data Blocks : Type 0 where
   end : Blocks
   last : Blocks
 
+-- where a text as a whole stands, by whether literal blocks are asked for
+abbrev pub blocks_if : Bool → Blocks
+blocks_if true = last
+blocks_if false = off
+
 -- where something follows
 abbrev pub before_more : Blocks → Blocks
 before_more off = off
