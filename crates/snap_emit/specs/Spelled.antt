@@ -1,8 +1,9 @@
 -- The texts of a tree: the one that is printed, and each one that spells it in the free layout.
 use Rattle.std.specs.Prelude.{◌≡◌, ◌⊎◌, ℕ, List, Bool, false}
-use Rattle.snap_content.specs.Lines.{document_of}
 use Rattle.snap_content.specs.Plain.{Plain}
 use Rattle.snap_content.specs.Readable.{IsWithin}
+use Rattle.snap_print.specs.Blocks.{Blocks}
+use Rattle.snap_print.specs.Lines.{document_of}
 use Rattle.snap_owed.specs.FreeLayouts.{IsFree}
 use Rattle.snap_owed.specs.Layouts.{Document}
 use Rattle.snap_owed.specs.LayoutTexts.{document_text}
@@ -20,14 +21,19 @@ pub record Spells (text : List ℕ) (plain : Plain) : Type 0 where
   pub header : SpellsHeader text plain
   pub no_number : layout_keeps header.layout.tree ≡ false
 
+-- the text is printed of the tree, with literal blocks or without
+pub record IsPrintedOf (text : List ℕ) (plain : Plain) : Type 0 where
+  pub blocks : Blocks
+  pub text_is : text ≡ document_of blocks plain
+
 -- the text is printed of the tree, or spells it
 abbrev pub IsTextOf : List ℕ → Plain → Type 0
-IsTextOf text t = (text ≡ document_of t) ⊎ Spells text t
+IsTextOf text t = IsPrintedOf text t ⊎ Spells text t
 
 abbrev pub IsHeaderOf : List ℕ → Plain → Type 0
-IsHeaderOf text t = (text ≡ document_of t) ⊎ SpellsHeader text t
+IsHeaderOf text t = IsPrintedOf text t ⊎ SpellsHeader text t
 
 -- a number is kept as a text in no printed header, and in one that a hand wrote exactly where one stands bare
 pub record KeepsNumber (text : List ℕ) (kept : Bool) : Type 0 where
-  pub printed : (t : Plain) → IsWithin t → text ≡ document_of t → kept ≡ false
+  pub printed : (t : Plain) → IsWithin t → IsPrintedOf text t → kept ≡ false
   pub laid : (d : Document) → IsFree d → text ≡ document_text d → kept ≡ layout_keeps d.tree

@@ -1,22 +1,19 @@
 //! Laws of printed texts.
 ghost use Rattle.std.specs.Prelude.{◌≡◌, true, ℕ, List};
-ghost use Rattle.snap_content.specs.Lines.{lines_of, text_of};
 ghost use Rattle.snap_content.specs.Plain.{Plain};
-ghost use Rattle.snap_content.specs.Printed.{AreLines};
 ghost use Rattle.snap_content.specs.Readable.{IsWithin, is_word};
 ghost use Rattle.snap_content.specs.Spell.{spelling};
 ghost use Rattle.snap_content.specs.Typed.{typed, value};
+ghost use Rattle.snap_print.specs.Blocks.{Blocks};
+ghost use Rattle.snap_print.specs.Lines.{text_of};
 ghost use Rattle.snap_emit.specs.Spelled.{IsHeaderOf};
 ghost use Rattle.snap_emit.specs.Examples.{AreMarkedNumbers, AreWords, AreWholeNumbers, AreReal, AreTexts, AreSpelled};
 
-/// No line of a printed text is empty, holds a line's end, ends in white space or begins with two dashes.
-pub const fn printed_lines_are_lines()
-    ensures { (p : Plain) → IsWithin p → AreLines (lines_of p) }
-{}
-
-/// Trees whose numbers have 128 bits are one tree where they have a text in common, whether it is printed of them or spells them.
+/// Trees whose numbers have 128 bits are one tree where they have a text in common, whether it is printed of them, with literal
+/// blocks or without, or spells them.
 pub const fn one_text_is_one_tree()
-    ensures printed { (a b : Plain) → IsWithin a → IsWithin b → text_of a ≡ text_of b → a ≡ b }
+    ensures printed { (v w : Blocks) (a b : Plain) → IsWithin a → IsWithin b
+        → text_of v a ≡ text_of w b → a ≡ b }
     ensures spelled { (text : List ℕ) (a b : Plain) → IsWithin a → IsWithin b
         → IsHeaderOf text a → IsHeaderOf text b → a ≡ b }
 {}

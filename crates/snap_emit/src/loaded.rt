@@ -1,10 +1,11 @@
 //! The tree of a YAML text, by way of its documents.
 ghost use Rattle.std.specs.Prelude.{◌≡◌, ◌∷◌, [], false, map, option_map, IfOk, IfSome, IsSomeAnd};
 ghost use Rattle.std.specs.Str.{chars};
-ghost use Rattle.snap_content.specs.Lines.{document_of};
 ghost use Rattle.snap_content.specs.Plain.{Plain, content_of};
 ghost use Rattle.snap_content.specs.Readable.{IsWithin};
 ghost use Rattle.snap_content.specs.View.{tree};
+ghost use Rattle.snap_print.specs.Blocks.{Blocks};
+ghost use Rattle.snap_print.specs.Lines.{document_of};
 ghost use Rattle.snap_owed.specs.LayoutRules.{IsDocument};
 ghost use Rattle.snap_owed.specs.LayoutTexts.{document_text};
 ghost use Rattle.snap_owed.specs.Layouts.{Document};
@@ -45,9 +46,9 @@ fn only(documents: Array) -> Option<Yaml>
 
 /// The one document of a text. There is none where the text is no YAML, or where it has none or several.
 fn only_document(alloc: Global, text: &str) -> Result<Option<Yaml>, OutOfMemory>
-    ensures printed { (p : Plain) → chars text.now ≡ document_of p
+    ensures printed { (w : Blocks) (p : Plain) → chars text.now ≡ document_of w p
         → IfOk result (λ found. IsSomeAnd found
-        (λ document. value_of document ≡ document_value (node_of p))) }
+        (λ document. value_of document ≡ document_value (node_of w p))) }
     ensures json { (p : Plain) → IsJsonOf p (chars text.now)
         → IfOk result (λ found. IsSomeAnd found
         (λ document. value_of document ≡ document_value (json_node p))) }

@@ -1,11 +1,12 @@
 //! The text of a tree, and the tree of a text.
 ghost use Rattle.std.specs.Prelude.{◌≡◌, false, IfOk, IfErr};
 ghost use Rattle.std.specs.Str.{chars};
-ghost use Rattle.snap_content.specs.Lines.{document_of, lines_of, text_of};
 ghost use Rattle.snap_content.specs.Plain.{Plain, plain, content_of};
-ghost use Rattle.snap_content.specs.Printed.{AreLines};
 ghost use Rattle.snap_content.specs.Readable.{IsWithin};
 ghost use Rattle.snap_content.specs.View.{tree};
+ghost use Rattle.snap_print.specs.Blocks.{blocks_if};
+ghost use Rattle.snap_print.specs.Lines.{document_of, lines_of, text_of};
+ghost use Rattle.snap_print.specs.Printed.{AreRows, EndsWell};
 ghost use Rattle.snap_owed_json.specs.Bounded.{IsJsonOf};
 ghost use Rattle.snap_emit.specs.Parsed.{ParseEnd, HeaderEnd};
 ghost use Rattle.snap_emit.specs.Spelled.{IsTextOf, IsHeaderOf, KeepsNumber};
@@ -25,24 +26,32 @@ pub struct Header {
     pub number_as_text: bool,
 }
 
-/// `---`, a line's end, and the text of the plain form. Literal blocks are not built yet, so `literal` is off.
-/// The error is want of memory.
+/// `---`, a line's end, and the text of the plain form, in which texts of several lines are literal blocks where `literal` is on.
+/// The error is that memory is out.
 pub fn to_string(alloc: Global, content: &Content, literal: bool) -> Result<Text, OutOfMemory>
-    requires { literal ≡ false }
-    ensures printed { IfOk result (λ text. text ≡ document_of (plain (tree content.now))) }
-    ensures lines { IfOk result (λ _. AreLines (lines_of (plain (tree content.now)))) }
+    ensures printed { IfOk result (λ text. text
+        ≡ document_of (blocks_if literal) (plain (tree content.now))) }
+    ensures within { IfOk result (λ _. IsWithin (plain (tree content.now))) }
+    ensures rows { IfOk result (λ _. AreRows
+        (lines_of (blocks_if literal) (plain (tree content.now)))) }
+    ensures end { IfOk result (λ _. EndsWell
+        (lines_of (blocks_if literal) (plain (tree content.now)))) }
 {
-    prove!(!literal);
-    printed_document(alloc, content)
+    printed_document(alloc, content, literal)
 }
 
-/// The text of the plain form alone, as it is the body of a snapshot file. The error is want of memory.
-pub fn body_to_string(alloc: Global, content: &Content) -> Result<Text, OutOfMemory>
-    ensures printed { IfOk result (λ text. text ≡ text_of (plain (tree content.now))) }
-    ensures lines { IfOk result (λ _. AreLines (lines_of (plain (tree content.now)))) }
+/// The text of the plain form alone, as it is the body of a snapshot file. The error is that memory is out.
+pub fn body_to_string(alloc: Global, content: &Content, literal: bool) -> Result<Text, OutOfMemory>
+    ensures printed { IfOk result (λ text. text
+        ≡ text_of (blocks_if literal) (plain (tree content.now))) }
+    ensures within { IfOk result (λ _. IsWithin (plain (tree content.now))) }
+    ensures rows { IfOk result (λ _. AreRows
+        (lines_of (blocks_if literal) (plain (tree content.now)))) }
+    ensures end { IfOk result (λ _. EndsWell
+        (lines_of (blocks_if literal) (plain (tree content.now)))) }
 {
     let mut text = Text::empty();
-    print_body(&mut text, alloc, content)?;
+    print_body(&mut text, alloc, content, literal)?;
     Ok(text)
 }
 

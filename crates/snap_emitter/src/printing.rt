@@ -1,8 +1,9 @@
 //! Trees, printed through their values.
 ghost use Rattle.std.specs.Prelude.{◌≡◌, ◌++◌, OnOk, OnErr, IfOk};
-ghost use Rattle.snap_content.specs.Lines.{document_of, text_of};
 ghost use Rattle.snap_content.specs.Plain.{plain};
 ghost use Rattle.snap_content.specs.View.{tree};
+ghost use Rattle.snap_print.specs.Blocks.{blocks_if};
+ghost use Rattle.snap_print.specs.Lines.{document_of, text_of};
 ghost use Rattle.snap_emitter.specs.Columns.{IsBegun};
 ghost use Rattle.snap_emitter.specs.FromContent.{IsContentWithin};
 
@@ -12,31 +13,45 @@ use snap_content::{Content, OutOfMemory, Text};
 use std::alloc::Global;
 
 /// Adds `---` and the text of the plain form. After want of memory a beginning of that was added.
-pub fn print_document(out: &mut Text, alloc: Global, content: &Content) -> Result<(), OutOfMemory>
-    ensures ok { OnOk result (out.new ≡ out.old ++ document_of (plain (tree content.now))) }
+pub fn print_document(
+    out: &mut Text,
+    alloc: Global,
+    content: &Content,
+    literal: bool,
+) -> Result<(), OutOfMemory>
+    ensures ok { OnOk result (out.new ≡ out.old ++ document_of (blocks_if literal) (plain (tree content.now))) }
     ensures within { OnOk result (IsContentWithin content.now) }
-    ensures err { OnErr result (IsBegun out.old out.new (document_of (plain (tree content.now)))) }
+    ensures err { OnErr result (IsBegun out.old out.new (document_of (blocks_if literal) (plain (tree content.now)))) }
 {
     let made = yaml_of(alloc, content)?;
     push_document(out, alloc, &made)
 }
 
 /// Adds the text of the plain form. After want of memory a beginning of that was added.
-pub fn print_body(out: &mut Text, alloc: Global, content: &Content) -> Result<(), OutOfMemory>
-    ensures ok { OnOk result (out.new ≡ out.old ++ text_of (plain (tree content.now))) }
+pub fn print_body(
+    out: &mut Text,
+    alloc: Global,
+    content: &Content,
+    literal: bool,
+) -> Result<(), OutOfMemory>
+    ensures ok { OnOk result (out.new ≡ out.old ++ text_of (blocks_if literal) (plain (tree content.now))) }
     ensures within { OnOk result (IsContentWithin content.now) }
-    ensures err { OnErr result (IsBegun out.old out.new (text_of (plain (tree content.now)))) }
+    ensures err { OnErr result (IsBegun out.old out.new (text_of (blocks_if literal) (plain (tree content.now)))) }
 {
     let made = yaml_of(alloc, content)?;
     push_body(out, alloc, &made)
 }
 
 /// `---` and the text of the plain form.
-pub fn printed_document(alloc: Global, content: &Content) -> Result<Text, OutOfMemory>
-    ensures value { IfOk result (λ text. text ≡ document_of (plain (tree content.now))) }
+pub fn printed_document(
+    alloc: Global,
+    content: &Content,
+    literal: bool,
+) -> Result<Text, OutOfMemory>
+    ensures value { IfOk result (λ text. text ≡ document_of (blocks_if literal) (plain (tree content.now))) }
     ensures within { IfOk result (λ _. IsContentWithin content.now) }
 {
     let mut text = Text::empty();
-    print_document(&mut text, alloc, content)?;
+    print_document(&mut text, alloc, content, literal)?;
     Ok(text)
 }

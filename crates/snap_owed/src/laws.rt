@@ -1,6 +1,7 @@
 //! Laws of printed texts, and of texts in free layouts.
-ghost use Rattle.snap_content.specs.Lines.{document_of};
 ghost use Rattle.snap_content.specs.Plain.{Plain};
+ghost use Rattle.snap_print.specs.Blocks.{Blocks};
+ghost use Rattle.snap_print.specs.Lines.{document_of};
 ghost use Rattle.snap_token.specs.Place.{before_nul};
 ghost use Rattle.snap_scan.specs.Owed.{Owes};
 ghost use Rattle.snap_scan.specs.Scan.{start_scan};
@@ -12,10 +13,11 @@ ghost use Rattle.snap_owed.specs.LayoutTexts.{document_text};
 ghost use Rattle.snap_owed.specs.LayoutRules.{IsDocument};
 ghost use Rattle.snap_owed.specs.Tokens.{document_tokens, document_with};
 
-/// A new scanner of the text that is printed for a plain tree owes the tree's tokens, whatever tree it is: so `next` gives them
-/// one after the other, and nothing is refused.
+/// A new scanner of the text that is printed for a plain tree, with literal blocks or without, owes the tree's tokens, whatever
+/// tree it is: so `next` gives them one after the other, and nothing is refused.
 pub const fn printed_texts_owe_their_tokens()
-    ensures { (p : Plain) → Owes (start_scan (before_nul (document_of p))).state (document_tokens p) }
+    ensures { (w : Blocks) (p : Plain) → Owes (start_scan (before_nul (document_of w p))).state
+        (document_tokens w p) }
 {}
 
 /// A new scanner of a text in any free layout owes the tokens of its tree.

@@ -2,6 +2,7 @@
 ghost use Rattle.std.specs.Prelude.{◌≡◌, List, map, [], ◌∷◌};
 ghost use Rattle.snap_content.specs.Plain.{Plain};
 ghost use Rattle.snap_content.specs.Readable.{IsWithin};
+ghost use Rattle.snap_print.specs.Blocks.{Blocks};
 ghost use Rattle.snap_owed.specs.Tokens.{document_tokens};
 ghost use Rattle.snap_event.specs.Nodes.{Node, stream_events};
 ghost use Rattle.snap_owed_json.specs.Nodes.{json_node};
@@ -20,13 +21,14 @@ pub const fn documents_are_the_values_of_nodes()
 
 /// The tokens of what is printed for a plain tree yield the events of one document of its node.
 pub const fn printed_tokens_yield_their_events()
-    ensures { (p : Plain) → Yields start_spot (document_tokens p) (stream_events (node_of p ∷ [])) }
+    ensures { (w : Blocks) (p : Plain) → Yields start_spot (document_tokens w p)
+        (stream_events (node_of w p ∷ [])) }
 {}
 
-/// What is printed for a plain tree is read as that tree, where its numbers have 128 bits: a text stays a text, in quotes or
-/// not, and a whole number that has more than 64 bits is kept as its digits.
+/// What is printed for a plain tree is read as that tree, where its numbers have 128 bits, with literal blocks or without: a text
+/// stays a text, in quotes or not, and a whole number that has more than 64 bits is kept as its digits.
 pub const fn printed_trees_are_read_as_they_are()
-    ensures { (p : Plain) → IsWithin p → document_value (node_of p) ≡ read_value p }
+    ensures { (w : Blocks) (p : Plain) → IsWithin p → document_value (node_of w p) ≡ read_value p }
 {}
 
 /// The JSON text of a plain tree is read as that tree, where its numbers have 128 bits: a text stays a text, since all of them

@@ -1,8 +1,9 @@
 //! All documents of a text.
 ghost use Rattle.std.specs.Prelude.{◌≡◌, ◌≢◌, IfOk, IfErr, map, [], ◌∷◌};
 ghost use Rattle.std.specs.Str.{chars};
-ghost use Rattle.snap_content.specs.Lines.{document_of};
 ghost use Rattle.snap_content.specs.Plain.{Plain};
+ghost use Rattle.snap_print.specs.Blocks.{Blocks};
+ghost use Rattle.snap_print.specs.Lines.{document_of};
 ghost use Rattle.snap_token.specs.Place.{before_nul};
 ghost use Rattle.snap_scan.specs.Sound.{IsFounded};
 ghost use Rattle.snap_owed.specs.Layouts.{Document};
@@ -30,10 +31,10 @@ impl YamlLoader {
     /// The documents of a text, one value for each, or why it is no YAML: the parser's own error.
     pub fn load_from_str(alloc: Global, source: &str) -> Result<Array, ScanError>
         ensures documents { IfOk result (λ made. AreLoaded (map value_of (array_list made))) }
-        ensures printed { (p : Plain) → chars source.now ≡ document_of p
+        ensures printed { (w : Blocks) (p : Plain) → chars source.now ≡ document_of w p
             → IfOk result (λ made. map value_of (array_list made)
-            ≡ document_value (node_of p) ∷ []) }
-        ensures memory { (p : Plain) → chars source.now ≡ document_of p
+            ≡ document_value (node_of w p) ∷ []) }
+        ensures memory { (w : Blocks) (p : Plain) → chars source.now ≡ document_of w p
             → IfErr result (λ e. e ≡ ScanError.OutOfMemory) }
         ensures json { (p : Plain) → IsJsonOf p (chars source.now)
             → IfOk result (λ made. map value_of (array_list made)

@@ -1,17 +1,18 @@
 -- The text of a snapshot file.
 use Rattle.std.specs.Prelude.{ℕ, List, [], ◌∷◌, ◌++◌, codes}
 use Rattle.snap_content.specs.Plain.{Plain}
-use Rattle.snap_content.specs.Lines.{document_of, text_of}
+use Rattle.snap_print.specs.Blocks.{Blocks, off}
+use Rattle.snap_print.specs.Lines.{document_of, text_of}
 use Rattle.snap_text.specs.Normal.{normal}
 use Rattle.snap_store.specs.Meta.{Meta, header_tree, without_line}
 
--- the file of a header and a tree
-abbrev pub file_of : Plain → Plain → List ℕ
-file_of header tree = document_of header ++ (codes "---\n" ++ text_of tree)
+-- the file of a header and a tree: literal blocks stand in the tree's text alone
+abbrev pub file_of : Plain → Blocks → Plain → List ℕ
+file_of header w tree = document_of off header ++ (codes "---\n" ++ text_of w tree)
 
 -- the file of a text snapshot with these metadata
 abbrev pub text_under : Meta → List ℕ → List ℕ
-text_under meta raw = document_of (header_tree meta) ++ (codes "---\n" ++ (normal raw ++ 10 ∷ []))
+text_under meta raw = document_of off (header_tree meta) ++ (codes "---\n" ++ (normal raw ++ 10 ∷ []))
 
 -- the file that a text snapshot is saved as
 abbrev pub saved_text : Meta → List ℕ → List ℕ
