@@ -330,9 +330,12 @@ lines_at-joined (first ∷ rest) = ap (λ (x : List ℕ). first ++ x) (by rest)
 pub text-joined : (w : Blocks) (t : s.Shape) → text_at 0 w t ≡ joined (s.lines w t)
 text-joined w t = at-a-column 0 w t ∙ lines_at-joined (s.lines w t)
 
--- what an emitter adds for a value, from its text
-pub dumped-text : (w : Blocks) (t : s.Shape) → codes "---\n" ++ text_at 0 w t ++ (if ends_in_block w t then 10 ∷ [] else []) ≡ dumped w t
-dumped-text w t = ap (λ (x : List ℕ). codes "---\n" ++ x ++ (if ends_in_block w t then 10 ∷ [] else [])) (text-joined w t)
+-- what an emitter adds for a value, from its text and what the code was told of its end
+pub dumped-text : (w : Blocks) (t : s.Shape) (b : Bool) → b ≡ ends_in_block w t
+    → codes "---\n" ++ (text_at 0 w t ++ (if b then 10 ∷ [] else [])) ≡ dumped w t
+dumped-text w t b is =
+    ap (λ (x : List ℕ). codes "---\n" ++ (x ++ (if b then 10 ∷ [] else []))) (text-joined w t)
+    ∙ ap (λ (q : Bool). codes "---\n" ++ (joined (s.lines w t) ++ (if q then 10 ∷ [] else []))) is
 
 -- with a line's end behind it, each line has its end
 ended-text : (w : Blocks) (t : s.Shape) → joined (s.lines w t) ++ 10 ∷ [] ≡ flat_map ended (s.lines w t)

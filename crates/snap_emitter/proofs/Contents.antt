@@ -106,7 +106,7 @@ pub pair_same : (k v : yaml.Yaml) (p : Content × Content) → shape_of k ≡ co
     → two (shape_of k) (shape_of v) ≡ pair_shape p
 pair_same k v p key value = ap (λ x. two x (shape_of v)) key ∙ ap (two (content_shape p.0)) value
 
-pub shape-String : (text : List ℕ) → shape_of (yaml.String text) ≡ s.text text
+shape-String : (text : List ℕ) → shape_of (yaml.String text) ≡ s.text text
 shape-String text = search (rules, yaml.the_lemmas)
 
 pub field_same : (text : List ℕ) (v : yaml.Yaml) (f : List ℕ × Content) → text ≡ f.0 → shape_of v ≡ content_shape f.1

@@ -1,8 +1,9 @@
 -- One level of a `Yaml` that is printed.
-use Rattle.snap_emitter.proofs.Prelude.{◌≡◌, ℕ, ◌+◌, ◌++◌, List, [], ◌∷◌, map, length, Bool, eqb, refl, sym, ap, ◌∙◌, append_assoc, append-nil, rules, arith, nat_tests, value_of, array_list, array_values, hash_list, hash_values, Array, Hash, Yaml, the_lemmas, Blocks, before_more, break_at, text_at, items_at, pairs_at, child_text, child_of, text_of_child, item_of, on_lines, list_text, key_of, pair_of, dict_text, shape_of, pair_shapes}
+use Rattle.snap_emitter.proofs.Prelude.{◌≡◌, ℕ, ◌+◌, ◌++◌, List, [], ◌∷◌, map, length, Bool, false, eqb, refl, sym, ap, ◌∙◌, append_assoc, append-nil, rules, arith, nat_tests, value_of, array_list, array_values, hash_list, hash_values, Array, Hash, Yaml, the_lemmas, Blocks, before_more, break_at, text_at, items_at, pairs_at, child_of, item_of, on_lines, list_text, key_of, pair_of, dict_text, shape_of, pair_shapes}
 use Rattle.snap_print.specs.Blocks as blocks
 use Rattle.snap_yaml.specs.Value as v
-use Rattle.snap_yaml.specs.declared.yaml.Yaml.{Array as array, Hash as hash, String as string}
+use Rattle.snap_yaml.specs.declared.yaml.Yaml.{Array as array, Hash as hash}
+use Rattle.snap_emitter.specs.Document.{ends_child, ends_in_block, items_end, pairs_end}
 use Rattle.snap_emitter.specs.Shape as s
 
 -- lists of shapes, as a shape holds them
@@ -116,9 +117,40 @@ pub hash_text : (k : ℕ) (w : Blocks) (whole : Yaml) (h : Hash) (pairs : List (
     → dict_text k w pairs ≡ text_at k w (shape_of whole)
 hash_text k w whole h pairs is same = ap (dict_text k w) same ∙ dict_at k w (hash_list h) ∙ sym (ap (text_at k w) (ap shape_of is ∙ shape-hash h))
 
--- a text is its shape, and as an item or a value what is told of it
-shape-text : (x : List ℕ) → shape_of (string x) ≡ s.text x
-shape-text x = search (rules, the_lemmas)
+-- the last item or value tells whether a block ends a collection
+items-last : (w : Blocks) (front : List Yaml) (t : Yaml)
+    → items_end w (shapes_of (map shape_of (front ++ t ∷ []))) ≡ ends_child (s.block_in w (shape_of t)) (ends_in_block w (shape_of t))
+items-last w [] t = refl
+items-last w (u ∷ []) t = refl
+items-last w (u ∷ v ∷ vs) t = items-last w (v ∷ vs) t
 
-pub child_text_is : (k : ℕ) (w : Blocks) (whole : Yaml) (x : List ℕ) → whole ≡ string x → text_of_child k w x ≡ child_of k w whole
-child_text_is k w whole x is = sym (ap (λ t. child_text k w (s.block_in w t) (text_at k w t)) (ap shape_of is ∙ shape-text x))
+pairs-last : (w : Blocks) (front : List (Yaml × Yaml)) (p : Yaml × Yaml)
+    → pairs_end w (shape_pairs_of (map pair_shapes (front ++ p ∷ []))) ≡ ends_child (s.block_in w (shape_of p.1)) (ends_in_block w (shape_of p.1))
+pairs-last w [] p = refl
+pairs-last w (q ∷ []) p = refl
+pairs-last w (q ∷ r ∷ rs) p = pairs-last w (r ∷ rs) p
+
+array-end : (w : Blocks) (whole : Yaml) (a : Array) (items : List Yaml) → whole ≡ array a → items ≡ array_list a
+    → items_end w (shapes_of (map shape_of items)) ≡ ends_in_block w (shape_of whole)
+array-end w whole a items is same =
+    ap (λ ts. items_end w (shapes_of (map shape_of ts))) same ∙ sym (ap (ends_in_block w) (ap shape_of is ∙ shape-array a))
+
+hash-end : (w : Blocks) (whole : Yaml) (h : Hash) (pairs : List (Yaml × Yaml)) → whole ≡ hash h → pairs ≡ hash_list h
+    → pairs_end w (shape_pairs_of (map pair_shapes pairs)) ≡ ends_in_block w (shape_of whole)
+hash-end w whole h pairs is same =
+    ap (λ ps. pairs_end w (shape_pairs_of (map pair_shapes ps))) same ∙ sym (ap (ends_in_block w) (ap shape_of is ∙ shape-hash h))
+
+pub array_ends : (w : Blocks) (whole : Yaml) (a : Array) (items front : List Yaml) (t : Yaml) → whole ≡ array a → items ≡ array_list a
+    → items ≡ front ++ t ∷ [] → ends_child (s.block_in w (shape_of t)) (ends_in_block w (shape_of t)) ≡ ends_in_block w (shape_of whole)
+array_ends w whole a items front t is same cut =
+    sym (items-last w front t) ∙ ap (λ ts. items_end w (shapes_of (map shape_of ts))) (sym cut) ∙ array-end w whole a items is same
+
+pub hash_ends : (w : Blocks) (whole : Yaml) (h : Hash) (pairs front : List (Yaml × Yaml)) (p : Yaml × Yaml) → whole ≡ hash h → pairs ≡ hash_list h
+    → pairs ≡ front ++ p ∷ [] → ends_child (s.block_in w (shape_of p.1)) (ends_in_block w (shape_of p.1)) ≡ ends_in_block w (shape_of whole)
+hash_ends w whole h pairs front p is same cut =
+    sym (pairs-last w front p) ∙ ap (λ ps. pairs_end w (shape_pairs_of (map pair_shapes ps))) (sym cut) ∙ hash-end w whole h pairs is same
+
+pub hash_empty : (w : Blocks) (whole : Yaml) (h : Hash) (pairs : List (Yaml × Yaml)) → whole ≡ hash h → pairs ≡ hash_list h → length pairs ≡ 0
+    → false ≡ ends_in_block w (shape_of whole)
+hash_empty w whole h [] is same none = hash-end w whole h [] is same
+hash_empty w whole h (p ∷ ps) is same none = absurd (omega (arith, none))
