@@ -1,5 +1,5 @@
 -- What a text has after some steps, and what being out of memory leaves of it.
-use Rattle.snap_emitter.proofs.Prelude.{◌≡◌, ℕ, List, [], ◌++◌, refl, sym, ap, ◌∙◌, append_assoc, Result, Ok, Err, OnErr, OnOk, IfOk, append-nil, IsBegun}
+use Rattle.snap_emitter.proofs.Prelude.{◌≡◌, ℕ, List, [], ◌++◌, refl, sym, ap, ◌∙◌, append_assoc, Result, Ok, Err, OnErr, OnOk, append-nil, IsBegun}
 
 -- nothing was added
 pub unmoved : (old new full : List ℕ) → new ≡ old → IsBegun old new full

@@ -1,5 +1,5 @@
 -- What is printed of each kind of `Content` that holds a list.
-use Rattle.snap_emitter.proofs.Prelude.{◌≡◌, ℕ, ◌+◌, ◌<◌, List, [], ◌∷◌, ◌++◌, length, take, get_or, map, refl, sym, ap, ◌∙◌, rules, pos, take_more, map-append, tree, item_list, item_trees, pair_list, pair_trees, field_list, field_trees, Items, Pairs, Fields, Content, array_list, hash_list, Array, Hash, content_shape, pair_shape, field_shape, byte_shape, shape_of, pair_shapes}
+use Rattle.snap_emitter.proofs.Prelude.{◌≡◌, ℕ, ◌+◌, ◌<◌, List, [], ◌∷◌, ◌++◌, length, take, get_or, map, refl, sym, ap, ◌∙◌, rules, take_more, map-append, tree, item_list, item_trees, pair_list, pair_trees, field_list, field_trees, Items, Pairs, Fields, Content, array_list, hash_list, Array, Hash, content_shape, pair_shape, field_shape, byte_shape, shape_of, pair_shapes}
 use Rattle.snap_content.specs.Tree as t
 use Rattle.snap_content.specs.Plain as p
 use Rattle.snap_content.specs.declared.content.Content as content

@@ -1,4 +1,4 @@
-use Rattle.snap_emitter.proofs.Prelude.{◌∙◌, sym, rules, chars}
+use Rattle.snap_emitter.proofs.Prelude.{◌∙◌, rules, chars}
 use Rattle.snap_emitter.proofs.LineEnds.{core-last, core-more}
 use Rattle.snap_emitter.proofs.block.trim_line_ends.Goals as goal
 

@@ -1,4 +1,4 @@
-use Rattle.snap_emitter.proofs.Prelude.{◌≡◌, ◌++◌, [], ◌∷◌, refl, sym, ap, ◌∙◌, codes, if◌then◌else◌, append-nil, on_ok_weaker, on_err_weaker, IsBegun, text_at, dumped, place, shape_of}
+use Rattle.snap_emitter.proofs.Prelude.{◌++◌, [], ◌∷◌, refl, sym, ap, ◌∙◌, codes, if◌then◌else◌, append-nil, on_ok_weaker, on_err_weaker, IsBegun, text_at, dumped, place, shape_of}
 use Rattle.snap_emitter.specs.Document.{ends_in_block}
 use Rattle.snap_emitter.proofs.Begun.{added_twice, unmoved, begun_first, begun_then, begun_as, on_err}
 use Rattle.snap_emitter.proofs.Columned.{dumped-text}

@@ -1,4 +1,4 @@
-use Rattle.snap_emitter.proofs.Prelude.{◌≡◌, refl, break_at, ◌+◌, [], ◌∷◌, ◌++◌, sym, ap, ◌∙◌, on_ok_weaker, on_err_weaker, IsBegun, before_more, child_of, item_of, on_lines, list_text, pair_of, dict_text, key_of, take, take_all, flat_map, place}
+use Rattle.snap_emitter.proofs.Prelude.{refl, break_at, ◌+◌, [], ◌∷◌, ◌++◌, sym, ap, ◌∙◌, on_ok_weaker, on_err_weaker, IsBegun, before_more, child_of, item_of, on_lines, list_text, pair_of, dict_text, key_of, take_all, flat_map, place}
 use Rattle.snap_emitter.proofs.Begun.{on_err, unmoved, begun_first, begun_then, begun_as}
 use Rattle.snap_emitter.proofs.Trees.{array_text, hash_text, twice}
 use Rattle.snap_emitter.proofs.Walked.{ended_at, lines_more, begun_at, begun_last, added_last, list_lines, dict_lines, begun_piece, begun_end, key_spelled, key_mark, pair_key, pair_value, pair_added}
