@@ -2,9 +2,10 @@
 use Rattle.std.specs.Prelude.{◌≡◌, ◌↔◌, ℕ, Bool, true, IsTrue, List, [], ◌∷◌, ◌++◌, false, Option, Some, Result, Ok, Err}
 use Rattle.std.specs.FinMap.{get}
 use Rattle.snap_content.specs.List.{items_of}
+use Rattle.snap_content.specs.Readable.{IsWithin}
 use Rattle.snap_outside.specs.Files.{Files}
-use Rattle.snap_print.specs.Lines.{text_of, lines_of}
-use Rattle.snap_print.specs.Printed.{AreRows, EndsWell, is_trimmed}
+use Rattle.snap_print.specs.Lines.{text_of}
+use Rattle.snap_print.specs.Printed.{is_trimmed}
 use Rattle.snap_text.specs.Normal.{normal}
 use Rattle.snap_store.specs.Agreement.{Agree}
 use Rattle.snap_store.specs.declared.contents.SnapshotContents.{SnapshotContents}
@@ -33,8 +34,7 @@ pub record IsPrepared (asked : Asked) (prepared : Prepared) : Type 0 where
   pub printed : text_in (contents_in prepared.snapshot) ≡ Some (text_of asked.blocks asked.tree)
   pub in_file : IsFileText (contents_in prepared.snapshot)
   pub trimmed : is_trimmed asked.blocks ≡ true
-  pub rows : AreRows (lines_of asked.blocks asked.tree)
-  pub end : EndsWell (lines_of asked.blocks asked.tree)
+  pub within : IsWithin asked.tree
   pub metadata : meta_in prepared.snapshot ≡ asked.meta
   pub module_name : module_in prepared.snapshot ≡ asked.module_name
   pub name : name_in prepared.snapshot ≡ Some asked.name

@@ -1,10 +1,10 @@
 //! What is ready before anything is looked at.
 ghost use Rattle.std.specs.Prelude.{◌≡◌, Some, IfOk};
 ghost use Rattle.snap_content.specs.Plain.{plain};
+ghost use Rattle.snap_content.specs.Readable.{IsWithin};
 ghost use Rattle.snap_content.specs.View.{tree};
 ghost use Rattle.snap_print.specs.Blocks.{blocks_if};
-ghost use Rattle.snap_print.specs.Lines.{text_of, lines_of};
-ghost use Rattle.snap_print.specs.Printed.{AreRows, EndsWell};
+ghost use Rattle.snap_print.specs.Lines.{text_of};
 ghost use Rattle.snap_settings.specs.Settings.{settings_of};
 ghost use Rattle.snap_place.specs.Place.{place_of};
 ghost use Rattle.snap_store.specs.Views.{meta_in, module_in, name_in, contents_in, text_in, IsFileText};
@@ -57,10 +57,7 @@ fn new_snapshot(
     ensures printed { IfOk result (λ snapshot. text_in (contents_in snapshot)
         ≡ Some (text_of (blocks_if literal) (plain (tree content.now)))) }
     ensures in_file { IfOk result (λ snapshot. IsFileText (contents_in snapshot)) }
-    ensures rows { IfOk result (λ snapshot. AreRows
-        (lines_of (blocks_if literal) (plain (tree content.now)))) }
-    ensures end { IfOk result (λ snapshot. EndsWell
-        (lines_of (blocks_if literal) (plain (tree content.now)))) }
+    ensures within { IfOk result (λ _. IsWithin (plain (tree content.now))) }
     ensures metadata { IfOk result (λ snapshot. meta_in snapshot
         ≡ new_meta (settings_of settings.now) (place_of place.now)) }
     ensures module_name { IfOk result (λ snapshot. module_in snapshot
