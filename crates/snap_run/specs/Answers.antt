@@ -1,5 +1,6 @@
 -- The answers of a run: its requests in turn, what they leave and the lines that tell of them.
 use Rattle.std.specs.Prelude.{◌&&◌, ◌||◌, ℕ, Bool, true, false, not, List, [], ◌∷◌, ◌++◌, codes, encode_utf8_all, Option, None, Some, option_and_then, if◌then◌else◌}
+use Rattle.std.specs.List.{list_any}
 use Rattle.std.specs.Str.{bytes_eq}
 use Rattle.std.specs.FinMap.{get}
 use Rattle.snap_content.specs.Spell.{spell_text}
@@ -65,6 +66,23 @@ with_flags flags (word ∷ words) = option_and_then (λ more. with_flags more wo
 -- each flag stands at most once, in any order; law `flags_are_what_stands` says which are set
 abbrev pub flags_mean : List (List ℕ) → Option Flags
 flags_mean words = with_flags no_flags words
+
+-- the word stands among others
+abbrev pub stands : List ℕ → List (List ℕ) → Bool
+stands word words = list_any (λ other. bytes_eq other word) words
+
+-- each is a flag, and none stands twice
+abbrev pub are_flags : List (List ℕ) → Bool
+are_flags [] = true
+are_flags (word ∷ words) = (is_force word || (is_force_pass word || is_literal word)) && (not (stands word words) && are_flags words)
+
+-- those are set that stand among the words
+abbrev pub flags_told : List (List ℕ) → Flags
+flags_told words = record {
+  force_update = stands (codes "--force") words;
+  force_pass = stands (codes "--force-pass") words;
+  literal = stands (codes "--literal") words;
+}
 
 abbrev pub words_at : List ℕ → Update → Flags → RunWords
 words_at workspace update flags = record {
