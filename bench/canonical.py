@@ -76,34 +76,74 @@ def spelled(tree):
     return "{}" if isinstance(tree, Dict) else "[]"
 
 
-def entry_lines(key, value):
-    """The lines of a pair whose key is a scalar of at most LONGEST_KEY written characters."""
-    written = spelled(key)
+# Where a tree stands, if texts of several lines are written as literal blocks: before more of the text, at its end, or there where
+# white space at the end is lost. None: no blocks.
+INSIDE, END, LAST = "inside", "end", "last"
+
+
+def is_block(tree, place):
+    """Whether an item or a value is written as a literal block."""
+    if place is None or not isinstance(tree, str) or "\n" not in tree:
+        return False
+    if tree[0] in " \t\n\r" or "\r" in tree or "\0" in tree:
+        return False
+    core = tree.rstrip("\n")
+    return place != LAST or len(tree) - len(core) <= 1 and core[-1] not in WHITE
+
+
+def block(text, place):
+    """The sign of a block, and the lines below it."""
+    core = text.rstrip("\n")
+    kept = len(text) - len(core)
+    empty = kept - 1 if kept > 1 else int(place == INSIDE)
+    return ("|-", "|", "|+")[min(kept, 2)], ["  " + line for line in core.split("\n")] + [""] * empty
+
+
+def indented(lines):
+    return ["  " + line if line else line for line in lines]
+
+
+def behind(mark, lines):
+    """Lines after a mark."""
+    return [f"{mark} {lines[0]}", *indented(lines[1:])]
+
+
+def marked(mark, tree, place):
+    """The lines of an item, or of a value after a mark of its own."""
+    if is_block(tree, place):
+        sign, below = block(tree, place)
+        return [f"{mark} {sign}", *below]
+    return behind(mark, tree_lines(tree, place))
+
+
+def entry_lines(key, value, place):
+    """The lines of a pair."""
+    written = spelled(key) if is_flat(key) else ""
     if not is_flat(key) or isinstance(key, (list, Dict)) or len(written) > LONGEST_KEY:
-        raise ValueError(f"no simple key: {written[:80]}")
+        return behind("?", tree_lines(key, place and INSIDE)) + marked(":", value, place)
+    if is_block(value, place):
+        sign, below = block(value, place)
+        return [f"{written}: {sign}", *below]
     if is_flat(value):
         return [f"{written}: {spelled(value)}"]
-    return [f"{written}:", *("  " + line for line in tree_lines(value))]
+    return [f"{written}:", *indented(tree_lines(value, place))]
 
 
-def item_lines(item):
-    """The lines of an item of a list."""
-    first, *others = tree_lines(item)
-    return ["- " + first, *("  " + line for line in others)]
-
-
-def tree_lines(tree):
+def tree_lines(tree, place=None):
     """The lines of a tree."""
     if is_flat(tree):
         return [spelled(tree)]
     if isinstance(tree, list):
-        return [line for item in tree for line in item_lines(item)]
-    return [line for key, value in tree.pairs for line in entry_lines(key, value)]
+        parts, lines_of = tree, lambda item, at: marked("-", item, at)
+    else:
+        parts, lines_of = tree.pairs, lambda pair, at: entry_lines(*pair, at)
+    *others, last = parts
+    return [line for part in others for line in lines_of(part, place and INSIDE)] + lines_of(last, place)
 
 
-def document(tree):
+def document(tree, place=None):
     """`---` and the lines of a tree, each ended by LF."""
-    return "".join(line + "\n" for line in ["---", *tree_lines(tree)])
+    return "".join(line + "\n" for line in ["---", *tree_lines(tree, place)])
 
 
 def request(file, line, name, expr, value, module="m"):

@@ -47,6 +47,10 @@ abbrev pub keyed : Blocks → List ℕ → Plain → Option (List ℕ) → List 
 keyed w key value None lines = if is_flat value then (key ++ 58 ∷ 32 ∷ spelling value) ∷ [] else (key ++ 58 ∷ []) ∷ map indented lines
 keyed w key value (Some s) lines = (key ++ 58 ∷ 32 ∷ block_sign (kept_ends s)) ∷ block_lines w s
 
+-- a key that is written before a colon
+abbrev pub is_simple : Plain → Bool
+is_simple key = is_scalar key && nat_le (length (spelling key)) 1024
+
 -- the lines of an entry, from its key and value and the lines of both; w is where the value stands
 abbrev pub entry_block : Blocks → Plain → Plain → List (List ℕ) → List (List ℕ) → List (List ℕ)
 entry_block w key value key_lines value_lines =
