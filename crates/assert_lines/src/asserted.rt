@@ -22,39 +22,54 @@ pub(crate) fn place_in(
     Ok(Place::new(workspace, function, module, file, 7, expression))
 }
 
+/// What is asserted of a key.
+#[derive(Clone, Copy, Debug)]
+pub(crate) enum Value<'a> {
+    Number(u8),
+    Text(&'a str),
+}
+
 /// The tree of one pair.
-fn pair_tree(alloc: Global, key: &str, number: u8) -> Result<Content, OutOfMemory> {
+fn pair_tree(alloc: Global, key: &str, value: Value<'_>) -> Result<Content, OutOfMemory> {
     let key = Content::from_str(alloc, key)?;
+    let value = match value {
+        Value::Number(number) => Content::U8(number),
+        Value::Text(text) => Content::from_str(alloc, text)?,
+    };
     let mut pairs = Pairs::new(alloc);
-    pairs.push((key, Content::U8(number)))?;
+    pairs.push((key, value))?;
     Ok(Content::Map(pairs))
+}
+
+/// A configuration without full matches, forced writing and forced passes.
+pub(crate) fn config_of(update: Update, literal: bool) -> Config {
+    Config {
+        update,
+        force_update: false,
+        require_full_match: false,
+        force_pass: false,
+        literal,
+        run_id: Text::empty(),
+    }
 }
 
 /// What an assertion of the tree of one pair answers.
 pub(crate) fn outcome_of(
     alloc: Global,
     store: &mut SteadyStore,
-    update: Update,
+    config: &Config,
     settings: &Settings,
     place: &Place,
-    (key, number): (&str, u8),
+    (key, value): (&str, Value<'_>),
 ) -> Result<Outcome, AssertError> {
-    let config = Config {
-        update,
-        force_update: false,
-        require_full_match: false,
-        force_pass: false,
-        literal: false,
-        run_id: Text::empty(),
-    };
     let name = Text::from_str(alloc, "one")?;
-    let content = pair_tree(alloc, key, number)?;
+    let content = pair_tree(alloc, key, value)?;
     let mut session = Session::new(alloc);
     assert_content(
         alloc,
         &mut session,
         store,
-        &config,
+        config,
         settings,
         place,
         Some(&name),
@@ -103,6 +118,8 @@ fn add_saved_in(
     settings: &Settings,
     place: &Place,
 ) -> Result<(), anyhow::Error> {
-    let outcome = outcome_of(alloc, store, Update::InPlace, settings, place, ("id", 42))?;
+    let config = config_of(Update::InPlace, false);
+    let pair = ("id", Value::Number(42));
+    let outcome = outcome_of(alloc, store, &config, settings, place, pair)?;
     add_file(alloc, line, store, &outcome.path)
 }

@@ -1,7 +1,7 @@
 //! What a stored file is taken for.
-use crate::asserted::{outcome_of, place_in};
-use rows::{add_text_column, text_of};
-use snap_assert::{Outcome, Place, Settings, Update, Verdict, Warning};
+use crate::asserted::{Value, config_of, outcome_of, place_in};
+use rows::{add_text_column, first_column, text_of};
+use snap_assert::{Config, Outcome, Place, Settings, Update, Verdict, Warning};
 use snap_content::{OutOfMemory, Text};
 use snap_outside::SteadyStore;
 use std::alloc::Global;
@@ -50,26 +50,57 @@ fn store_of(alloc: Global, column: &str) -> Result<SteadyStore, OutOfMemory> {
 
 /// The answer of an assertion of the tree `a: 1` that writes nothing, over a store that holds this file.
 pub(crate) fn judged_line(alloc: Global, column: &str) -> Result<Text, anyhow::Error> {
+    judged_over(alloc, column, false, Value::Number(1))
+}
+
+/// The same of the tree `a` to a text: `blocks` prints it with literal blocks, and another word without.
+pub(crate) fn judged_text_line(alloc: Global, columns: &str) -> Result<Text, anyhow::Error> {
+    let (how, rest) = first_column(columns);
+    let (text, file) = first_column(rest);
+    let text = text_of(alloc, text)?;
+    judged_over(alloc, file, how == "blocks", Value::Text(text.as_str()))
+}
+
+fn judged_over(
+    alloc: Global,
+    column: &str,
+    literal: bool,
+    value: Value<'_>,
+) -> Result<Text, anyhow::Error> {
     let mut store = store_of(alloc, column)?;
-    judged_in(alloc, &mut store)
+    let config = config_of(Update::NoUpdate, literal);
+    judged_in(alloc, &mut store, &config, value)
 }
 
-fn judged_in(alloc: Global, store: &mut SteadyStore) -> Result<Text, anyhow::Error> {
+fn judged_in(
+    alloc: Global,
+    store: &mut SteadyStore,
+    config: &Config,
+    value: Value<'_>,
+) -> Result<Text, anyhow::Error> {
     let place = place_in(alloc, "", "src/a.rs")??;
-    judged_at(alloc, store, &place)
+    judged_at(alloc, store, config, &place, value)
 }
 
-fn judged_at(alloc: Global, store: &mut SteadyStore, place: &Place) -> Result<Text, anyhow::Error> {
+fn judged_at(
+    alloc: Global,
+    store: &mut SteadyStore,
+    config: &Config,
+    place: &Place,
+    value: Value<'_>,
+) -> Result<Text, anyhow::Error> {
     let settings = Settings::new(alloc)?;
-    judged_by(alloc, store, &settings, place)
+    judged_by(alloc, store, config, &settings, place, value)
 }
 
 fn judged_by(
     alloc: Global,
     store: &mut SteadyStore,
+    config: &Config,
     settings: &Settings,
     place: &Place,
+    value: Value<'_>,
 ) -> Result<Text, anyhow::Error> {
-    let outcome = outcome_of(alloc, store, Update::NoUpdate, settings, place, ("a", 1))?;
+    let outcome = outcome_of(alloc, store, config, settings, place, ("a", value))?;
     outcome_line(alloc, &outcome)
 }

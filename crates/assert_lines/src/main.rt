@@ -5,6 +5,8 @@
 //! - `place`: a source file, and whether an assertion may stand in it.
 //! - `path`: a function, and the path of the snapshot that an assertion in it has under a given name.
 //! - `judged`: a stored file, and the verdict on the tree `a: 1` with its warnings.
+//! - `judged_text`: `blocks` or `quotes`, a text and a stored file. The answer is the verdict on the tree `a` to that text, printed
+//!   with literal blocks or without.
 //! - `new_settings`: what new settings say.
 //! - `settings`: what is done with new settings, a column each, as `settings` says. The answer is what became of each, and the file
 //!   that is saved of the tree `id: 42` with those settings.
@@ -27,7 +29,7 @@ mod settings;
 mod stored;
 
 use crate::errors::error_line;
-use crate::judged::judged_line;
+use crate::judged::{judged_line, judged_text_line};
 use crate::lists::list_line;
 use crate::news::new_settings_line;
 use crate::places::{path_line, place_line};
@@ -43,6 +45,7 @@ fn answer_case(alloc: Global, call: &str, columns: &str) -> Result<Text, anyhow:
         "place" => place_line(alloc, columns),
         "path" => path_line(alloc, columns),
         "judged" => judged_line(alloc, columns),
+        "judged_text" => judged_text_line(alloc, columns),
         "new_settings" => new_settings_line(alloc),
         "settings" => settings_line(alloc, columns),
         "function" => function_line(alloc, columns),

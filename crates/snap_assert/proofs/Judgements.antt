@@ -1,31 +1,31 @@
 -- What a reading of a file says of a pass.
-use Rattle.snap_assert.proofs.Prelude.{◌≡◌, ◌↔◌, inl, inr, IsTrue, ℕ, Bool, true, false, cond, List, Option, None, Some, refl, sym, ap, ◌∙◌, subst, codes, Plain, dict, Entries, text_of, Error, FailedParsingYaml, UnexpectedDataType, MissingField, FileIo, FloatText, JsonKey, NotText, NoFile, OutOfMemory, raw_of, kind_of, compared_as, legacy_as, TextSnapshotKind, File, legacy, Agree, is_headed, body_of, Meta, IsTextFile, HasHeader, HoldsBody, IsReadAs, IsRefused, Tells, meta_in, contents_in, legacy_in, text_in, IsFileText, SnapshotContents, Text, Binary, SnapshotKind, Snapshot, BodyAgrees, HasTextHeader, HasBinaryHeader, IsLegacyFile, IsUnread, May, some_same, false_from_ne_true}
+use Rattle.snap_assert.proofs.Prelude.{◌≡◌, ◌↔◌, inl, inr, IsTrue, ℕ, Bool, true, false, cond, List, Option, None, Some, refl, sym, ap, ◌∙◌, subst, codes, Plain, dict, Entries, Blocks, is_trimmed, text_of, Error, FailedParsingYaml, UnexpectedDataType, MissingField, FileIo, FloatText, JsonKey, NotText, NoFile, OutOfMemory, raw_of, kind_of, compared_as, legacy_as, TextSnapshotKind, File, legacy, Agree, is_headed, body_of, Meta, IsTextFile, HasHeader, HoldsBody, IsReadAs, IsRefused, Tells, meta_in, contents_in, legacy_in, text_in, IsFileText, SnapshotContents, Text, Binary, SnapshotKind, Snapshot, BodyAgrees, HasTextHeader, HasBinaryHeader, IsLegacyFile, IsUnread, May, some_same, false_from_ne_true}
 use Rattle.snap_store.specs.Fields.{is_binary, kind_in, binary_kind, last_value, text_value}
 use Rattle.snap_store.specs.declared.metadata.SnapshotKind.TheVariants as kind
 use Rattle.snap_assert.proofs.Readings.{one_text, no_text_file, text_or_none, one_reading, headed_or_not, entries_same}
 use Rattle.snap_assert.proofs.Saved.{against_saved}
 
 -- a pass that is decided by three facts and three refusals
-pub judged : (passed : Bool) (file : Option (List ℕ)) (tree : Plain) → (file ≡ None → passed ≡ false)
-    → (passed ≡ true → BodyAgrees file (text_of tree)) → (HasTextHeader file → BodyAgrees file (text_of tree) → passed ≡ true)
-    → (IsLegacyFile file → BodyAgrees file (text_of tree) → passed ≡ true) → (HasBinaryHeader file → passed ≡ false)
-    → (IsUnread file → passed ≡ false) → May passed file tree
-judged passed file tree absent agrees headed legacy binary unread = record {
+pub judged : (passed : Bool) (file : Option (List ℕ)) (w : Blocks) (tree : Plain) → is_trimmed w ≡ true → (file ≡ None → passed ≡ false)
+    → (passed ≡ true → BodyAgrees file (text_of w tree)) → (HasTextHeader file → BodyAgrees file (text_of w tree) → passed ≡ true)
+    → (IsLegacyFile file → BodyAgrees file (text_of w tree) → passed ≡ true) → (HasBinaryHeader file → passed ≡ false)
+    → (IsUnread file → passed ≡ false) → May passed file w tree
+judged passed file w tree trimmed absent agrees headed legacy binary unread = record {
   absent = absent;
   agrees = agrees;
   headed = headed;
   legacy = legacy;
   binary = binary;
   unread = unread;
-  saved = against_saved passed file tree agrees headed;
+  saved = against_saved passed file w tree trimmed agrees headed;
 }
 
 -- no pass, where the file has not the header of a text
-pub no_pass : (file : Option (List ℕ)) (tree : Plain) → (HasTextHeader file → ⊥) → (IsLegacyFile file → ⊥) → May false file tree
-no_pass file tree none headed = judged false file tree (λ e. refl) (λ e. cc) (λ h b. absurd (none h)) (λ h b. absurd (headed h)) (λ h. refl) (λ h. refl)
+pub no_pass : (file : Option (List ℕ)) (w : Blocks) (tree : Plain) → is_trimmed w ≡ true → (HasTextHeader file → ⊥) → (IsLegacyFile file → ⊥) → May false file w tree
+no_pass file w tree trimmed none headed = judged false file w tree trimmed (λ e. refl) (λ e. cc) (λ h b. absurd (none h)) (λ h b. absurd (headed h)) (λ h. refl) (λ h. refl)
 
-pub no_file : (file : Option (List ℕ)) (tree : Plain) → file ≡ None → May false file tree
-no_file file tree none = no_pass file tree (λ h. no_text_file file h.whole none h.there) (λ h. no_text_file file h.whole none h.there)
+pub no_file : (file : Option (List ℕ)) (w : Blocks) (tree : Plain) → is_trimmed w ≡ true → file ≡ None → May false file w tree
+no_file file w tree trimmed none = no_pass file w tree trimmed (λ h. no_text_file file h.whole none h.there) (λ h. no_text_file file h.whole none h.there)
 
 -- no file with a header is one of the oldest format
 has_header : (file : Option (List ℕ)) (text : List ℕ) → IsTextFile file text → is_headed text ≡ true → IsLegacyFile file → ⊥
@@ -38,18 +38,18 @@ text_kind : (entries : Entries) → is_binary entries ≡ false → kind_in entr
 text_kind entries h = kind_of_text (is_binary entries) (text_value (last_value (codes "extension") entries)) h
 
 -- a refusal of the file is no pass
-pub refused_no_pass : (path : List ℕ) (file : Option (List ℕ)) (tree : Plain) (error : Error) → IsRefused path file error
-    → ((named : List ℕ) → error ≡ FileIo named → ⊥) → (error ≡ OutOfMemory → ⊥) → May false file tree
-refused_no_pass path file tree (NoFile named) h io memory = no_file file tree h.1
-refused_no_pass path file tree (NotText named) h io memory = no_pass file tree (λ k. text_or_none file k.whole h.1 k.there) (λ k. text_or_none file k.whole h.1 k.there)
-refused_no_pass path file tree (FailedParsingYaml named) h io memory =
-    no_pass file tree (λ k. h.1.unspelled (dict k.entries) (subst (λ t. HasHeader t (dict k.entries)) (one_text file k.whole h.1.text k.there h.1.there) k.header))
+pub refused_no_pass : (path : List ℕ) (file : Option (List ℕ)) (w : Blocks) (tree : Plain) (error : Error) → is_trimmed w ≡ true → IsRefused path file error
+    → ((named : List ℕ) → error ≡ FileIo named → ⊥) → (error ≡ OutOfMemory → ⊥) → May false file w tree
+refused_no_pass path file w tree (NoFile named) trimmed h io memory = no_file file w tree trimmed h.1
+refused_no_pass path file w tree (NotText named) trimmed h io memory = no_pass file w tree trimmed (λ k. text_or_none file k.whole h.1 k.there) (λ k. text_or_none file k.whole h.1 k.there)
+refused_no_pass path file w tree (FailedParsingYaml named) trimmed h io memory =
+    no_pass file w tree trimmed (λ k. h.1.unspelled (dict k.entries) (subst (λ t. HasHeader t (dict k.entries)) (one_text file k.whole h.1.text k.there h.1.there) k.header))
     (has_header file h.1.text h.1.there h.1.headed)
-refused_no_pass path file tree UnexpectedDataType h io memory =
-    no_pass file tree (λ k. h.other k.entries (one_reading file h.text k.whole h.tree (dict k.entries) h.there h.header k.there k.header).tree)
+refused_no_pass path file w tree UnexpectedDataType trimmed h io memory =
+    no_pass file w tree trimmed (λ k. h.other k.entries (one_reading file h.text k.whole h.tree (dict k.entries) h.there h.header k.there k.header).tree)
     (has_header file h.text h.there h.header.headed)
-refused_no_pass path file tree MissingField h io memory =
-    no_pass file tree (λ k.
+refused_no_pass path file w tree MissingField trimmed h io memory =
+    no_pass file w tree trimmed (λ k.
     let same : h.entries ≡ k.entries = entries_same h.entries k.entries (one_reading file h.text k.whole (dict h.entries) (dict k.entries) h.there h.header k.there k.header).tree in
     let text = text_kind k.entries k.not_binary in
     let lacking = h.lacking in
@@ -58,10 +58,10 @@ refused_no_pass path file tree MissingField h io memory =
   where
     clash : (a b : Entries) → a ≡ b → kind_in a ≡ None → kind_in b ≡ Some kind.Text → ⊥
     clash a b same none some = let e = sym none ∙ ap kind_in same ∙ some in cc e
-refused_no_pass path file tree (FileIo named) h io memory = absurd (io named refl)
-refused_no_pass path file tree (FloatText named) h io memory = absurd h
-refused_no_pass path file tree JsonKey h io memory = absurd h
-refused_no_pass path file tree OutOfMemory h io memory = absurd (memory refl)
+refused_no_pass path file w tree (FileIo named) trimmed h io memory = absurd (io named refl)
+refused_no_pass path file w tree (FloatText named) trimmed h io memory = absurd h
+refused_no_pass path file w tree JsonKey trimmed h io memory = absurd h
+refused_no_pass path file w tree OutOfMemory trimmed h io memory = absurd (memory refl)
 
 -- a file that was read: a text passes where the contents agree, and a payload never does
 pub record Compares (passed : Bool) (old new : SnapshotContents) (printed : List ℕ) : Type 0 where
@@ -142,28 +142,28 @@ read_or_unread file false text meta there t (inr (inr h)) =
     let e = sym h.lacking ∙ ap kind_in (sym same) ∙ t.kind_is in cc e
 
 -- a text that was read passes where its body agrees
-agreement_passes : (file : Option (List ℕ)) (tree : Plain) (snapshot : Snapshot) (new : SnapshotContents) (passed : Bool) (r : IsReadAs file snapshot)
-    → Compares passed (contents_in snapshot) new (text_of tree) → (meta_in snapshot).kind ≡ kind.Text → BodyAgrees file (text_of tree) → passed ≡ true
-agreement_passes file tree snapshot new passed r c text b =
-    let body : legacy (body_of r.text) ≡ legacy (text_of tree) = ap (λ t. legacy (body_of t)) (one_text file r.text b.whole r.there b.there) ∙ b.same in
+agreement_passes : (file : Option (List ℕ)) (w : Blocks) (tree : Plain) (snapshot : Snapshot) (new : SnapshotContents) (passed : Bool) (r : IsReadAs file snapshot)
+    → Compares passed (contents_in snapshot) new (text_of w tree) → (meta_in snapshot).kind ≡ kind.Text → BodyAgrees file (text_of w tree) → passed ≡ true
+agreement_passes file w tree snapshot new passed r c text b =
+    let body : legacy (body_of r.text) ≡ legacy (text_of w tree) = ap (λ t. legacy (body_of t)) (one_text file r.text b.whole r.there b.there) ∙ b.same in
     let Holds : SnapshotKind → Type 0 = λ k. HoldsBody k (body_of r.text) (contents_in snapshot) in
-    c.tells.1 (agrees_held (body_of r.text) (text_of tree) (contents_in snapshot) new (subst Holds text r.contents) c.printed_is c.in_file body)
+    c.tells.1 (agrees_held (body_of r.text) (text_of w tree) (contents_in snapshot) new (subst Holds text r.contents) c.printed_is c.in_file body)
 
-pub read_judged : (file : Option (List ℕ)) (tree : Plain) (snapshot : Snapshot) (new : SnapshotContents) (passed : Bool) → IsReadAs file snapshot
-    → Compares passed (contents_in snapshot) new (text_of tree) → May passed file tree
-read_judged file tree snapshot new passed r c =
+pub read_judged : (file : Option (List ℕ)) (w : Blocks) (tree : Plain) (snapshot : Snapshot) (new : SnapshotContents) (passed : Bool) → is_trimmed w ≡ true → IsReadAs file snapshot
+    → Compares passed (contents_in snapshot) new (text_of w tree) → May passed file w tree
+read_judged file w tree snapshot new passed trimmed r c =
     let meta = meta_in snapshot in
     let was = legacy_in snapshot in
-    judged passed file tree
+    judged passed file w tree trimmed
     (λ none. absurd (no_text_file file r.text none r.there))
     (λ yes. record {
       whole = r.text;
       there = r.there;
-      same = held_agrees meta.kind (body_of r.text) (text_of tree) (contents_in snapshot) new r.contents c.printed_is c.in_file (c.tells.0 yes);
+      same = held_agrees meta.kind (body_of r.text) (text_of w tree) (contents_in snapshot) new r.contents c.printed_is c.in_file (c.tells.0 yes);
     })
-    (λ h b. agreement_passes file tree snapshot new passed r c (kind_headed file was r.text meta r.there r.metadata h) b)
-    (λ h b. agreement_passes file tree snapshot new passed r c (kind_legacy file was r.text meta r.there r.metadata h) b)
+    (λ h b. agreement_passes file w tree snapshot new passed r c (kind_headed file was r.text meta r.there r.metadata h) b)
+    (λ h b. agreement_passes file w tree snapshot new passed r c (kind_legacy file was r.text meta r.there r.metadata h) b)
     (λ h.
     let found = kind_binary file was r.text meta r.there r.metadata h in
-    false_from_ne_true passed (λ yes. no_agreement meta.kind (body_of r.text) (text_of tree) (contents_in snapshot) new found.0 found.1 r.contents c.printed_is (c.tells.0 yes)))
+    false_from_ne_true passed (λ yes. no_agreement meta.kind (body_of r.text) (text_of w tree) (contents_in snapshot) new found.0 found.1 r.contents c.printed_is (c.tells.0 yes)))
     (λ h. absurd (read_or_unread file was r.text meta r.there r.metadata h))

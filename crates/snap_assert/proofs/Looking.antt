@@ -1,5 +1,5 @@
 -- What was seen of a file, and of what is asked.
-use Rattle.snap_assert.proofs.Prelude.{◌≡◌, ℕ, Bool, true, false, List, [], ◌∷◌, Option, Some, Result, Ok, Err, refl, sym, ap, ◌∙◌, subst, inl, inr, IfOk, get, text_of, Error, FailedParsingYaml, UnexpectedDataType, MissingField, FileIo, FloatText, JsonKey, NotText, NoFile, OutOfMemory, Files, Agree, raw_of, kind_of, compared_as, compared_of, TextSnapshotKind, File, normal, body_of, Meta, IsTextFile, IsReadAs, IsReadFrom, IsRefused, HoldsBody, Tells, meta_in, contents_in, legacy_in, number_text_in, text_in, IsFileText, SnapshotContents, Text, Binary, SnapshotKind, Snapshot, May, Asked, AreWarnings, PassWarns, IsHeadedFile, IsNotUnderstood, IsPrepared, IsJudged, TextsMatch, TextsDiffer, OlderAs, NoPass, RefusedEnd, IsCompared, said_if, said, NamesOnly, AssertError, Judged, Prepared, some_same}
+use Rattle.snap_assert.proofs.Prelude.{◌≡◌, ℕ, Bool, true, false, List, [], ◌∷◌, Option, Some, Result, Ok, Err, refl, sym, ap, ◌∙◌, subst, inl, inr, IfOk, get, is_trimmed, text_of, Error, FailedParsingYaml, UnexpectedDataType, MissingField, FileIo, FloatText, JsonKey, NotText, NoFile, OutOfMemory, Files, Agree, raw_of, kind_of, compared_as, compared_of, TextSnapshotKind, File, normal, body_of, Meta, IsTextFile, IsReadAs, IsReadFrom, IsRefused, HoldsBody, Tells, meta_in, contents_in, legacy_in, number_text_in, text_in, IsFileText, SnapshotContents, Text, Binary, SnapshotKind, Snapshot, May, Asked, AreWarnings, PassWarns, IsHeadedFile, IsNotUnderstood, IsPrepared, IsJudged, TextsMatch, TextsDiffer, OlderAs, NoPass, RefusedEnd, IsCompared, said_if, said, NamesOnly, AssertError, Judged, Prepared, some_same}
 use Rattle.snap_content.specs.List.{items_of}
 use Rattle.snap_store.specs.Reading.{KeepsNumberIn}
 use Rattle.snap_store.specs.declared.metadata.SnapshotKind.TheVariants as kind
@@ -71,16 +71,16 @@ warned_file path file false false true passed text printed meta there t kept h =
 
 -- a file that was read is judged by the comparison
 read_compared : (asked : Asked) (m : Files) (file : Option (List ℕ)) (snapshot : Snapshot) (new : SnapshotContents) (judged : Judged)
-    → file ≡ get m asked.path → IsReadAs file snapshot → text_in new ≡ Some (text_of asked.tree) → IsFileText new → IsCompared (legacy_in snapshot) (number_text_in snapshot) (contents_in snapshot) new judged
+    → is_trimmed asked.blocks ≡ true → file ≡ get m asked.path → IsReadAs file snapshot → text_in new ≡ Some (text_of asked.blocks asked.tree) → IsFileText new → IsCompared (legacy_in snapshot) (number_text_in snapshot) (contents_in snapshot) new judged
     → IsJudged asked m judged
-read_compared asked m file snapshot new judged is r printed in_file c =
-    let May_at : Option (List ℕ) → Type 0 = λ f. May judged.passed f asked.tree in
-    let Warned_at : Option (List ℕ) → Type 0 = λ f. AreWarnings asked.path f judged.passed (text_of asked.tree) (items_of judged.warnings) in
-    let Warned_by : List Warning → Type 0 = λ ws. AreWarnings asked.path file judged.passed (text_of asked.tree) ws in
-    let pass = warned_pass file snapshot new judged.passed c.older (text_of asked.tree) r printed (λ yes. c.tells.0 yes) c.older_is in
-    let warned = warned_file asked.path file (legacy_in snapshot) (number_text_in snapshot) c.older judged.passed r.text (text_of asked.tree) (meta_in snapshot) r.there r.metadata r.numbers pass in
+read_compared asked m file snapshot new judged trimmed is r printed in_file c =
+    let May_at : Option (List ℕ) → Type 0 = λ f. May judged.passed f asked.blocks asked.tree in
+    let Warned_at : Option (List ℕ) → Type 0 = λ f. AreWarnings asked.path f judged.passed (text_of asked.blocks asked.tree) (items_of judged.warnings) in
+    let Warned_by : List Warning → Type 0 = λ ws. AreWarnings asked.path file judged.passed (text_of asked.blocks asked.tree) ws in
+    let pass = warned_pass file snapshot new judged.passed c.older (text_of asked.blocks asked.tree) r printed (λ yes. c.tells.0 yes) c.older_is in
+    let warned = warned_file asked.path file (legacy_in snapshot) (number_text_in snapshot) c.older judged.passed r.text (text_of asked.blocks asked.tree) (meta_in snapshot) r.there r.metadata r.numbers pass in
     record {
-      allowed = subst May_at is (read_judged file asked.tree snapshot new judged.passed r (record { tells = c.tells; printed_is = printed; in_file = in_file }));
+      allowed = subst May_at is (read_judged file asked.blocks asked.tree snapshot new judged.passed trimmed r (record { tells = c.tells; printed_is = printed; in_file = in_file }));
       warned = subst Warned_at is (subst Warned_by (sym c.said_is) warned);
     }
 
@@ -96,46 +96,46 @@ pub judge_read : (asked : Asked) (m : Files) (prepared : Prepared) (files : Opti
     → IsPrepared asked prepared → files ≡ Some m → IsReadFrom prepared.path files (Ok snapshot) → was ≡ legacy_in snapshot → number ≡ number_text_in snapshot
     → old ≡ contents_in snapshot → new ≡ contents_in prepared.snapshot → IsCompared was number old new judged → IsJudged asked m judged
 judge_read asked m prepared files snapshot was number old new judged p told r was_is number_is old_is new_is c =
-    read_compared asked m r.file snapshot new judged (r.told m told ∙ ap (get m) p.path) r.comes_to (ap (λ x. text_in x) new_is ∙ p.printed) (subst (λ x. IsFileText x) (sym new_is) p.in_file)
+    read_compared asked m r.file snapshot new judged p.trimmed (r.told m told ∙ ap (get m) p.path) r.comes_to (ap (λ x. text_in x) new_is ∙ p.printed) (subst (λ x. IsFileText x) (sym new_is) p.in_file)
     (compared_with was number old new judged snapshot was_is number_is old_is c)
 
 not_passed : (asked : Asked) (m : Files) (file : Option (List ℕ)) (judged : Judged) → file ≡ get m asked.path → judged.passed ≡ false
-    → May false file asked.tree → AreWarnings asked.path file judged.passed (text_of asked.tree) (items_of judged.warnings) → IsJudged asked m judged
+    → May false file asked.blocks asked.tree → AreWarnings asked.path file judged.passed (text_of asked.blocks asked.tree) (items_of judged.warnings) → IsJudged asked m judged
 not_passed asked m file judged is none may warned =
-    let May_at : Option (List ℕ) → Type 0 = λ f. May judged.passed f asked.tree in
-    let Warned_at : Option (List ℕ) → Type 0 = λ f. AreWarnings asked.path f judged.passed (text_of asked.tree) (items_of judged.warnings) in
-    let Passed_at : Bool → Type 0 = λ b. May b file asked.tree in
+    let May_at : Option (List ℕ) → Type 0 = λ f. May judged.passed f asked.blocks asked.tree in
+    let Warned_at : Option (List ℕ) → Type 0 = λ f. AreWarnings asked.path f judged.passed (text_of asked.blocks asked.tree) (items_of judged.warnings) in
+    let Passed_at : Bool → Type 0 = λ b. May b file asked.blocks asked.tree in
     record { allowed = subst May_at is (subst Passed_at (sym none) may); warned = subst Warned_at is warned }
 
-by_error : (asked : Asked) (m : Files) (file : Option (List ℕ)) (error : Error) (result : Result Judged AssertError) → file ≡ get m asked.path → IsRefused asked.path file error
+by_error : (asked : Asked) (m : Files) (file : Option (List ℕ)) (error : Error) (result : Result Judged AssertError) → is_trimmed asked.blocks ≡ true → file ≡ get m asked.path → IsRefused asked.path file error
     → RefusedEnd error result → IfOk result (λ judged. IsJudged asked m judged)
-by_error asked m file error (Err e) is h end = tt
-by_error asked m file (NoFile named) (Ok judged) is h end =
-    not_passed asked m file judged is end.0 (refused_no_pass asked.path file asked.tree (NoFile named) h (λ n e. cc) (λ e. cc))
-    (no_warning asked.path file judged.passed (text_of asked.tree) (items_of judged.warnings) end.1 (inl (h.1, refl)))
-by_error asked m file (FileIo named) (Ok judged) is h end = absurd (cc end)
-by_error asked m file OutOfMemory (Ok judged) is h end = absurd (cc end)
-by_error asked m file (NotText named) (Ok judged) is h end =
-    not_passed asked m file judged is end.0 (refused_no_pass asked.path file asked.tree (NotText named) h (λ n e. cc) (λ e. cc))
-    (one_warning asked.path file judged.passed (text_of asked.tree) (items_of judged.warnings) (NotText named) end.1 h)
-by_error asked m file (FailedParsingYaml named) (Ok judged) is h end =
-    not_passed asked m file judged is end.0 (refused_no_pass asked.path file asked.tree (FailedParsingYaml named) h (λ n e. cc) (λ e. cc))
-    (one_warning asked.path file judged.passed (text_of asked.tree) (items_of judged.warnings) (FailedParsingYaml named) end.1 h)
-by_error asked m file UnexpectedDataType (Ok judged) is h end =
-    not_passed asked m file judged is end.0 (refused_no_pass asked.path file asked.tree UnexpectedDataType h (λ n e. cc) (λ e. cc))
-    (one_warning asked.path file judged.passed (text_of asked.tree) (items_of judged.warnings) UnexpectedDataType end.1 h)
-by_error asked m file MissingField (Ok judged) is h end =
-    not_passed asked m file judged is end.0 (refused_no_pass asked.path file asked.tree MissingField h (λ n e. cc) (λ e. cc))
-    (one_warning asked.path file judged.passed (text_of asked.tree) (items_of judged.warnings) MissingField end.1 h)
-by_error asked m file (FloatText named) (Ok judged) is h end = absurd h
-by_error asked m file JsonKey (Ok judged) is h end = absurd h
+by_error asked m file error (Err e) trimmed is h end = tt
+by_error asked m file (NoFile named) (Ok judged) trimmed is h end =
+    not_passed asked m file judged is end.0 (refused_no_pass asked.path file asked.blocks asked.tree (NoFile named) trimmed h (λ n e. cc) (λ e. cc))
+    (no_warning asked.path file judged.passed (text_of asked.blocks asked.tree) (items_of judged.warnings) end.1 (inl (h.1, refl)))
+by_error asked m file (FileIo named) (Ok judged) trimmed is h end = absurd (cc end)
+by_error asked m file OutOfMemory (Ok judged) trimmed is h end = absurd (cc end)
+by_error asked m file (NotText named) (Ok judged) trimmed is h end =
+    not_passed asked m file judged is end.0 (refused_no_pass asked.path file asked.blocks asked.tree (NotText named) trimmed h (λ n e. cc) (λ e. cc))
+    (one_warning asked.path file judged.passed (text_of asked.blocks asked.tree) (items_of judged.warnings) (NotText named) end.1 h)
+by_error asked m file (FailedParsingYaml named) (Ok judged) trimmed is h end =
+    not_passed asked m file judged is end.0 (refused_no_pass asked.path file asked.blocks asked.tree (FailedParsingYaml named) trimmed h (λ n e. cc) (λ e. cc))
+    (one_warning asked.path file judged.passed (text_of asked.blocks asked.tree) (items_of judged.warnings) (FailedParsingYaml named) end.1 h)
+by_error asked m file UnexpectedDataType (Ok judged) trimmed is h end =
+    not_passed asked m file judged is end.0 (refused_no_pass asked.path file asked.blocks asked.tree UnexpectedDataType trimmed h (λ n e. cc) (λ e. cc))
+    (one_warning asked.path file judged.passed (text_of asked.blocks asked.tree) (items_of judged.warnings) UnexpectedDataType end.1 h)
+by_error asked m file MissingField (Ok judged) trimmed is h end =
+    not_passed asked m file judged is end.0 (refused_no_pass asked.path file asked.blocks asked.tree MissingField trimmed h (λ n e. cc) (λ e. cc))
+    (one_warning asked.path file judged.passed (text_of asked.blocks asked.tree) (items_of judged.warnings) MissingField end.1 h)
+by_error asked m file (FloatText named) (Ok judged) trimmed is h end = absurd h
+by_error asked m file JsonKey (Ok judged) trimmed is h end = absurd h
 
 -- a file that is refused is no pass
 pub judge_refused : (asked : Asked) (m : Files) (prepared : Prepared) (files : Option Files) (error : Error) (result : Result Judged AssertError)
     → IsPrepared asked prepared → files ≡ Some m → IsReadFrom prepared.path files (Err error) → RefusedEnd error result → IfOk result (λ judged. IsJudged asked m judged)
 judge_refused asked m prepared files error result p told r end =
     let Refused_at : List ℕ → Type 0 = λ path. IsRefused path r.file error in
-    by_error asked m r.file error result (r.told m told ∙ ap (get m) p.path) (subst Refused_at p.path r.comes_to) end
+    by_error asked m r.file error result p.trimmed (r.told m told ∙ ap (get m) p.path) (subst Refused_at p.path r.comes_to) end
 
 pub all_judged : (prepared : Prepared) (files : Option Files) (result : Result Judged AssertError) → ((asked : Asked) (m : Files) → IsPrepared asked prepared → files ≡ Some m → IfOk result (λ judged. IsJudged asked m judged))
     → IfOk result (λ judged. (asked : Asked) (m : Files) → IsPrepared asked prepared → files ≡ Some m → IsJudged asked m judged)

@@ -9,7 +9,6 @@ pub use Rattle.std.specs.List.{flat_map, list_any, filter, All}
 pub use Rattle.std.specs.Prelude.{IfOk, is_some, encode_utf8_all, IsSome}
 pub use Rattle.std.specs.Str.{bytes_eq, chars, IsUtf8}
 pub use Rattle.snap_content.proofs.Booleans.{some_same, or_left, not_true}
-pub use Rattle.snap_content.specs.Lines.{text_of, document_of, lines_of, ended}
 pub use Rattle.snap_content.specs.Plain.{Plain, dict, Entries, entry, no_entries}
 pub use Rattle.snap_content.specs.Readable.{IsWithin}
 pub use Rattle.snap_content.specs.declared.error.Error.{Error}
@@ -18,6 +17,9 @@ pub use Rattle.snap_outside.specs.Files.{Files, SameBut, MayBeGone}
 pub use Rattle.snap_path.specs.Names.{past_mark}
 pub use Rattle.snap_path.specs.Paths.{joined, parent_of, front_of, name_of, IsName}
 pub use Rattle.snap_place.specs.Place.{holds_slash, place_of}
+pub use Rattle.snap_print.specs.Blocks.{Blocks, off, last, blocks_if}
+pub use Rattle.snap_print.specs.Lines.{text_of, document_of}
+pub use Rattle.snap_print.specs.Printed.{is_trimmed}
 pub use Rattle.snap_settings.specs.Settings.{settings_of}
 pub use Rattle.snap_settings.specs.declared.config.Update.{Update}
 pub use Rattle.snap_settings.specs.declared.config.Update.TheVariants.{InPlace, NewFile, NoUpdate}

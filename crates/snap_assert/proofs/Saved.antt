@@ -1,54 +1,56 @@
 -- A tree against a file that was saved for another.
-use Rattle.snap_assert.proofs.Prelude.{◌≡◌, ◌↔◌, inl, ℕ, Bool, true, List, [], ◌∷◌, ◌++◌, Option, sym, ap, ◌∙◌, Plain, dict, text_of, IsWithin, without_breaks, without_fence, legacy, normal, body_of, file_of, BodyAgrees, HasTextHeader, IsSavedFor}
+use Rattle.snap_assert.proofs.Prelude.{◌≡◌, ◌↔◌, inl, ℕ, Bool, true, List, [], ◌∷◌, ◌++◌, Option, sym, ap, ◌∙◌, Plain, dict, Blocks, off, is_trimmed, text_of, IsWithin, without_breaks, without_fence, legacy, normal, body_of, file_of, BodyAgrees, HasTextHeader, IsSavedFor}
 use Rattle.snap_emit.proofs.OneText.{texts_same}
-use Rattle.snap_assert.proofs.Below.{normal-text_of, legacy-text_of, splits-file_of, normal-ended}
+use Rattle.snap_text.proofs.NormalForms.{normal-printed}
+use Rattle.snap_text.proofs.OlderForms.{legacy-printed}
+use Rattle.snap_assert.proofs.Below.{splits-file_of, normal-ended}
 use Rattle.snap_assert.proofs.Readings.{one_text}
 
 -- two printed trees with one older form are one tree
-pub forms_same : (a b : Plain) → IsWithin a → IsWithin b → legacy (text_of a) ≡ legacy (text_of b) → a ≡ b
-forms_same a b h k e =
-    let normals : normal (text_of a) ≡ normal (text_of b) = sym (legacy-text_of a h) ∙ e ∙ legacy-text_of b k in
-    texts_same a b h k (sym (normal-text_of a h) ∙ ap (λ t. t ++ 10 ∷ []) normals ∙ normal-text_of b k)
+pub forms_same : (w : Blocks) (a b : Plain) → is_trimmed w ≡ true → IsWithin a → IsWithin b → legacy (text_of w a) ≡ legacy (text_of w b) → a ≡ b
+forms_same w a b t h k e =
+    let normals : normal (text_of w a) ≡ normal (text_of w b) = sym (legacy-printed w a t h) ∙ e ∙ legacy-printed w b t k in
+    texts_same w w a b h k (sym (normal-printed w a t h) ∙ ap (λ n. n ++ 10 ∷ []) normals ∙ normal-printed w b t k)
 
 -- the older form is that of the normal form
 by_normal : (a b : List ℕ) → normal a ≡ normal b → legacy a ≡ legacy b
 by_normal a b e = ap (λ n. without_fence (without_breaks n)) e
 
 -- the body of a saved file has the normal form of the tree's text
-body_normal : (file : Option (List ℕ)) (q : Plain) (s : IsSavedFor file q) → normal (body_of (file_of (dict s.entries) q)) ≡ normal (text_of q)
-body_normal file q s =
+body_normal : (file : Option (List ℕ)) (w : Blocks) (q : Plain) (s : IsSavedFor file w q) → normal (body_of (file_of (dict s.entries) w q)) ≡ normal (text_of w q)
+body_normal file w q s =
     let d = dict s.entries in
-    sym (normal-ended (body_of (file_of d q))) ∙ ap normal (splits-file_of d q s.header s.within).body_is
+    sym (normal-ended (body_of (file_of d w q))) ∙ ap normal (splits-file_of d w q s.header s.within).body_is
 
-pub saved_header : (file : Option (List ℕ)) (q : Plain) → IsSavedFor file q → HasTextHeader file
-saved_header file q s = record {
-  whole = file_of (dict s.entries) q;
+pub saved_header : (file : Option (List ℕ)) (w : Blocks) (q : Plain) → IsSavedFor file w q → HasTextHeader file
+saved_header file w q s = record {
+  whole = file_of (dict s.entries) w q;
   there = s.there;
   entries = s.entries;
   header = record {
-    headed = (splits-file_of (dict s.entries) q s.header s.within).headed;
+    headed = (splits-file_of (dict s.entries) w q s.header s.within).headed;
     within = s.header;
-    header = inl (splits-file_of (dict s.entries) q s.header s.within).header_is;
+    header = inl (record { blocks = off; text_is = (splits-file_of (dict s.entries) w q s.header s.within).header_is });
   };
   not_binary = s.not_binary;
 }
 
-pub saved_body : (file : Option (List ℕ)) (q tree : Plain) → IsSavedFor file q → q ≡ tree → BodyAgrees file (text_of tree)
-saved_body file q tree s e = record {
-  whole = file_of (dict s.entries) q;
+pub saved_body : (file : Option (List ℕ)) (w : Blocks) (q tree : Plain) → IsSavedFor file w q → q ≡ tree → BodyAgrees file (text_of w tree)
+saved_body file w q tree s e = record {
+  whole = file_of (dict s.entries) w q;
   there = s.there;
-  same = by_normal (body_of (file_of (dict s.entries) q)) (text_of q) (body_normal file q s) ∙ ap (λ t. legacy (text_of t)) e;
+  same = by_normal (body_of (file_of (dict s.entries) w q)) (text_of w q) (body_normal file w q s) ∙ ap (λ t. legacy (text_of w t)) e;
 }
 
-pub saved_tree : (file : Option (List ℕ)) (q tree : Plain) → IsSavedFor file q → IsWithin tree → BodyAgrees file (text_of tree) → q ≡ tree
-saved_tree file q tree s h b =
-    let whole = one_text file b.whole (file_of (dict s.entries) q) b.there s.there in
-    forms_same q tree s.within h
-    (sym (by_normal (body_of (file_of (dict s.entries) q)) (text_of q) (body_normal file q s)) ∙ ap (λ t. legacy (body_of t)) (sym whole) ∙ b.same)
+pub saved_tree : (file : Option (List ℕ)) (w : Blocks) (q tree : Plain) → is_trimmed w ≡ true → IsSavedFor file w q → IsWithin tree → BodyAgrees file (text_of w tree) → q ≡ tree
+saved_tree file w q tree t s h b =
+    let whole = one_text file b.whole (file_of (dict s.entries) w q) b.there s.there in
+    forms_same w q tree t s.within h
+    (sym (by_normal (body_of (file_of (dict s.entries) w q)) (text_of w q) (body_normal file w q s)) ∙ ap (λ x. legacy (body_of x)) (sym whole) ∙ b.same)
 
 -- what a pass says and where it must come decide it against a saved file
-pub against_saved : (passed : Bool) (file : Option (List ℕ)) (tree : Plain)
-    → (passed ≡ true → BodyAgrees file (text_of tree)) → (HasTextHeader file → BodyAgrees file (text_of tree) → passed ≡ true)
-    → (q : Plain) → IsSavedFor file q → IsWithin tree → (passed ≡ true) ↔ (q ≡ tree)
-against_saved passed file tree agrees headed q s h =
-    (λ p. saved_tree file q tree s h (agrees p), λ e. headed (saved_header file q s) (saved_body file q tree s e))
+pub against_saved : (passed : Bool) (file : Option (List ℕ)) (w : Blocks) (tree : Plain) → is_trimmed w ≡ true
+    → (passed ≡ true → BodyAgrees file (text_of w tree)) → (HasTextHeader file → BodyAgrees file (text_of w tree) → passed ≡ true)
+    → (q : Plain) → IsSavedFor file w q → IsWithin tree → (passed ≡ true) ↔ (q ≡ tree)
+against_saved passed file w tree t agrees headed q s h =
+    (λ p. saved_tree file w q tree t s h (agrees p), λ e. headed (saved_header file w q s) (saved_body file w q tree s e))

@@ -1,33 +1,33 @@
 -- What an assertion leaves: each step, and what it keeps.
-use Rattle.snap_assert.proofs.Prelude.{◌≡◌, inl, inr, ℕ, Bool, true, ◌||◌, List, [], ◌∷◌, ◌++◌, Option, None, Some, Result, Ok, Err, refl, sym, ap, ◌∙◌, subst, codes, bytes_eq-Decides, encode_utf8_all, IsSome, insert, remove, bytes_eq, Plain, text_of, document_of, normal, Files, SameBut, MayBeGone, text_under, saved_text, file_of, Meta, header_tree, without_line, meta_in, contents_in, text_in, Keeps, KeptBy, IsWrittenAlone, IsTakenAlone, IsOwn, FaultIsOwn, FaultIsAt, NamesOwn, NamesOnly, is_none, is_written, is_waiting, may_change, Asked, written, cleared, passed_files, is_stray, pending_path, AreStrays, AllStray, remove_each, is_among, FaultIsAmong, IsPrepared, Update, InPlace, NewFile, AssertError, Prepared, or_right}
+use Rattle.snap_assert.proofs.Prelude.{◌≡◌, inl, inr, ℕ, Bool, true, ◌||◌, List, [], ◌∷◌, ◌++◌, Option, None, Some, Result, Ok, Err, refl, sym, ap, ◌∙◌, subst, codes, bytes_eq-Decides, encode_utf8_all, IsSome, insert, remove, bytes_eq, Plain, Blocks, off, text_of, document_of, normal, Files, SameBut, MayBeGone, text_under, saved_text, file_of, Meta, header_tree, without_line, meta_in, contents_in, text_in, Keeps, KeptBy, IsWrittenAlone, IsTakenAlone, IsOwn, FaultIsOwn, FaultIsAt, NamesOwn, NamesOnly, is_none, is_written, is_waiting, may_change, Asked, written, cleared, passed_files, is_stray, pending_path, AreStrays, AllStray, remove_each, is_among, FaultIsAmong, IsPrepared, Update, InPlace, NewFile, AssertError, Prepared, or_right}
 use Rattle.std.specs.Result.{IsErrAnd}
+use Rattle.snap_text.proofs.NormalForms.{normal-printed}
 use Rattle.snap_assert.specs.declared.error.AssertError.TheVariants as refusal
-use Rattle.snap_assert.proofs.Below.{normal-lines_of}
 use Rattle.snap_assert.proofs.Keeping.{kept_same, kept_then, kept_but, kept_written, kept_gone, kept_in_place, kept_beside, kept_pending, kept_strays}
 use Rattle.snap_assert.proofs.Removals.{strays_gone}
 
-printed_under : (meta : Meta) (p : Plain) → normal (text_of p) ++ 10 ∷ [] ≡ text_of p → text_under meta (text_of p) ≡ file_of (header_tree meta) p
-printed_under meta p printed = ap (λ t. document_of (header_tree meta) ++ (codes "---\n" ++ t)) printed
+printed_under : (meta : Meta) (w : Blocks) (p : Plain) → normal (text_of w p) ++ 10 ∷ [] ≡ text_of w p → text_under meta (text_of w p) ≡ file_of (header_tree meta) w p
+printed_under meta w p printed = ap (λ t. document_of off (header_tree meta) ++ (codes "---\n" ++ t)) printed
 
 -- the new snapshot is saved as the file of the step
 pub updated : (asked : Asked) (m : Files) (prepared : Prepared) (files files' : Option Files) → IsPrepared asked prepared → files ≡ Some m
     → ((n : Files) (raw : List ℕ) → files ≡ Some n → text_in (contents_in prepared.snapshot) ≡ Some raw → files' ≡ Some (insert n prepared.path (encode_utf8_all (saved_text (meta_in prepared.snapshot) raw))))
     → files' ≡ Some (written InPlace asked m)
 updated asked m prepared files files' p told saved =
-    saved m (text_of asked.tree) told p.printed
-    ∙ ap (λ q. Some (insert m q (encode_utf8_all (saved_text (meta_in prepared.snapshot) (text_of asked.tree))))) p.path
-    ∙ ap (λ t. Some (insert m asked.path (encode_utf8_all (saved_text t (text_of asked.tree))))) p.metadata
-    ∙ ap (λ t. Some (insert m asked.path (encode_utf8_all t))) (printed_under (without_line asked.meta) asked.tree (normal-lines_of asked.tree p.lines))
+    saved m (text_of asked.blocks asked.tree) told p.printed
+    ∙ ap (λ q. Some (insert m q (encode_utf8_all (saved_text (meta_in prepared.snapshot) (text_of asked.blocks asked.tree))))) p.path
+    ∙ ap (λ t. Some (insert m asked.path (encode_utf8_all (saved_text t (text_of asked.blocks asked.tree))))) p.metadata
+    ∙ ap (λ t. Some (insert m asked.path (encode_utf8_all t))) (printed_under (without_line asked.meta) asked.blocks asked.tree (normal-printed asked.blocks asked.tree p.trimmed p.within))
 
 -- and where it waits for a review with the line of its assertion
 pub postponed : (asked : Asked) (m : Files) (prepared : Prepared) (files files' : Option Files) → IsPrepared asked prepared → files ≡ Some m
     → ((n : Files) (raw : List ℕ) → files ≡ Some n → text_in (contents_in prepared.snapshot) ≡ Some raw → files' ≡ Some (insert n (pending_path prepared.path) (encode_utf8_all (text_under (meta_in prepared.snapshot) raw))))
     → files' ≡ Some (written NewFile asked m)
 postponed asked m prepared files files' p told saved =
-    saved m (text_of asked.tree) told p.printed
-    ∙ ap (λ q. Some (insert m (pending_path q) (encode_utf8_all (text_under (meta_in prepared.snapshot) (text_of asked.tree))))) p.path
-    ∙ ap (λ t. Some (insert m (pending_path asked.path) (encode_utf8_all (text_under t (text_of asked.tree))))) p.metadata
-    ∙ ap (λ t. Some (insert m (pending_path asked.path) (encode_utf8_all t))) (printed_under asked.meta asked.tree (normal-lines_of asked.tree p.lines))
+    saved m (text_of asked.blocks asked.tree) told p.printed
+    ∙ ap (λ q. Some (insert m (pending_path q) (encode_utf8_all (text_under (meta_in prepared.snapshot) (text_of asked.blocks asked.tree))))) p.path
+    ∙ ap (λ t. Some (insert m (pending_path asked.path) (encode_utf8_all (text_under t (text_of asked.blocks asked.tree))))) p.metadata
+    ∙ ap (λ t. Some (insert m (pending_path asked.path) (encode_utf8_all t))) (printed_under asked.meta asked.blocks asked.tree (normal-printed asked.blocks asked.tree p.trimmed p.within))
 
 pub has_text : (asked : Asked) (prepared : Prepared) → IsPrepared asked prepared → IsSome (text_in (contents_in prepared.snapshot))
 has_text asked prepared p = subst IsSome (sym p.printed) refl

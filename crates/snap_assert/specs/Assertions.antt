@@ -1,8 +1,9 @@
 -- One whole assertion: what it leaves of the files and of what is remembered, and how it ends.
 use Rattle.std.specs.Prelude.{ℕ, Bool, List, [], ◌∷◌, Option, None, Some, Result, Ok, Err, if◌then◌else◌}
-use Rattle.snap_content.specs.Lines.{text_of}
 use Rattle.snap_content.specs.Tree.{Tree}
 use Rattle.snap_outside.specs.Files.{Files}
+use Rattle.snap_print.specs.Blocks.{Blocks}
+use Rattle.snap_print.specs.Lines.{text_of}
 use Rattle.snap_text.specs.declared.contents.TextSnapshotKind.TheVariants.{File}
 use Rattle.snap_store.specs.declared.contents.SnapshotContents.{SnapshotContents}
 use Rattle.snap_store.specs.declared.contents.SnapshotContents.TheVariants.{Text}
@@ -18,15 +19,16 @@ use Rattle.snap_assert.specs.declared.error.DuplicateKey.{DuplicateKey}
 use Rattle.snap_assert.specs.declared.error.DuplicateKey.TheVariants.{Named}
 use Rattle.snap_assert.specs.declared.outcome.Verdict.{Verdict}
 
--- what is asserted: the tree that is printed, under a given name at a place, by settings
+-- what is asserted: the tree that is printed, with literal blocks or without, under a given name at a place, by settings
 pub record Assertion : Type 0 where
+  pub blocks : Blocks
   pub settings : SettingsView
   pub place : PlaceView
   pub given : List ℕ
   pub printed : Tree
 
-abbrev pub assertion_of : SettingsView → PlaceView → List ℕ → Tree → Assertion
-assertion_of settings place given printed = record { settings = settings; place = place; given = given; printed = printed }
+abbrev pub assertion_of : Blocks → SettingsView → PlaceView → List ℕ → Tree → Assertion
+assertion_of blocks settings place given printed = record { blocks = blocks; settings = settings; place = place; given = given; printed = printed }
 
 -- the files and what is remembered after an assertion, and how it ended
 pub record Left : Type 0 where
@@ -35,14 +37,14 @@ pub record Left : Type 0 where
   pub answer : Result Verdict AssertError
 
 abbrev pub asked_in : Assertion → SessionView → Asked
-asked_in a session = asked_as a.settings a.place (name_step a.settings session a.given).name a.printed
+asked_in a session = asked_as a.blocks a.settings a.place (name_step a.settings session a.given).name a.printed
 
 abbrev pub key_in : Assertion → SessionView → DuplicateKey
 key_in a session = Named a.place.module_name (name_step a.settings session a.given).name
 
 -- the text of the tree, for a file of its own
 abbrev pub new_contents : Asked → SnapshotContents
-new_contents asked = Text (record { raw = text_of asked.tree; kind = File })
+new_contents asked = Text (record { raw = text_of asked.blocks asked.tree; kind = File })
 
 -- no block says otherwise: the strays go, on a pass what waited goes, and the mode says what is written
 abbrev pub goes_on : Update → Bool → Asked → Bool → Files → SessionView → Left

@@ -1,8 +1,9 @@
 -- When a tree passes against a file.
 use Rattle.std.specs.Prelude.{◌≡◌, ◌↔◌, ◌⊎◌, ℕ, Bool, true, false, List, Option, None}
 use Rattle.snap_content.specs.Plain.{Plain, dict, Entries}
-use Rattle.snap_content.specs.Lines.{text_of}
 use Rattle.snap_content.specs.Readable.{IsWithin}
+use Rattle.snap_print.specs.Blocks.{Blocks}
+use Rattle.snap_print.specs.Lines.{text_of}
 use Rattle.snap_text.specs.Legacy.{legacy}
 use Rattle.snap_text.specs.Normal.{normal}
 use Rattle.snap_store.specs.FileSplit.{is_headed, body_of}
@@ -64,27 +65,27 @@ pub record HasNoKind (file : Option (List ℕ)) : Type 0 where
 abbrev pub IsUnread : Option (List ℕ) → Type 0
 IsUnread file = IsNoText file ⊎ (HasNoDict file ⊎ HasNoKind file)
 
--- the file was saved for a tree, under the header of a text
-pub record IsSavedFor (file : Option (List ℕ)) (tree : Plain) : Type 0 where
+-- the file was saved for a tree, with literal blocks or without, under the header of a text
+pub record IsSavedFor (file : Option (List ℕ)) (w : Blocks) (tree : Plain) : Type 0 where
   pub entries : Entries
   pub header : IsWithin (dict entries)
   pub not_binary : is_binary entries ≡ false
   pub within : IsWithin tree
-  pub there : IsTextFile file (file_of (dict entries) tree)
+  pub there : IsTextFile file (file_of (dict entries) w tree)
 
--- whether a tree may pass against a file
-pub record May (passed : Bool) (file : Option (List ℕ)) (tree : Plain) : Type 0 where
+-- whether a tree, printed with literal blocks or without, may pass against a file
+pub record May (passed : Bool) (file : Option (List ℕ)) (w : Blocks) (tree : Plain) : Type 0 where
   -- never without a file
   pub absent : file ≡ None → passed ≡ false
   -- only where the stored body agrees with the tree's text
-  pub agrees : passed ≡ true → BodyAgrees file (text_of tree)
+  pub agrees : passed ≡ true → BodyAgrees file (text_of w tree)
   -- always there under the header of a text
-  pub headed : HasTextHeader file → BodyAgrees file (text_of tree) → passed ≡ true
+  pub headed : HasTextHeader file → BodyAgrees file (text_of w tree) → passed ≡ true
   -- and without a header
-  pub legacy : IsLegacyFile file → BodyAgrees file (text_of tree) → passed ≡ true
+  pub legacy : IsLegacyFile file → BodyAgrees file (text_of w tree) → passed ≡ true
   -- never where the header says binary
   pub binary : HasBinaryHeader file → passed ≡ false
   -- nor where the file isn't understood
   pub unread : IsUnread file → passed ≡ false
-  -- against a file that was saved for a tree exactly where both trees are equal
-  pub saved : (stored : Plain) → IsSavedFor file stored → IsWithin tree → (passed ≡ true) ↔ (stored ≡ tree)
+  -- against a file that was saved for a tree in the same way exactly where both trees are equal
+  pub saved : (stored : Plain) → IsSavedFor file w stored → IsWithin tree → (passed ≡ true) ↔ (stored ≡ tree)

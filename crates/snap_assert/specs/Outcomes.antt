@@ -2,13 +2,13 @@
 use Rattle.std.specs.Prelude.{◌≡◌, ◌⊎◌, ◌&&◌, ℕ, Bool, true, false, not, List, [], ◌∷◌, Option, None, Some, Result, Ok, Err}
 use Rattle.std.specs.FinMap.{get}
 use Rattle.snap_content.specs.List.{items_of}
-use Rattle.snap_content.specs.Lines.{text_of}
 use Rattle.snap_content.specs.Plain.{dict, Entries}
 use Rattle.snap_content.specs.declared.error.Error.{Error}
 use Rattle.snap_content.specs.declared.error.Error.TheVariants.{FailedParsingYaml, UnexpectedDataType, MissingField, NotText}
 use Rattle.snap_emit.specs.Spelled.{KeepsNumber}
 use Rattle.snap_outside.specs.Causes.{Rose}
 use Rattle.snap_outside.specs.Files.{Files}
+use Rattle.snap_print.specs.Lines.{text_of}
 use Rattle.snap_store.specs.Fields.{kind_in}
 use Rattle.snap_store.specs.FileSplit.{header_of}
 use Rattle.snap_store.specs.Reading.{IsTextFile, ReadsHeader, IsRefused}
@@ -68,10 +68,10 @@ pub record IsAnswered (config : Config) (assertion : Assertion) (outcome : Outco
   pub remembered : (m : Files) → session' ≡ (left_by config assertion passed m session).session
   pub path : outcome.path ≡ (asked_in assertion session).path
   pub fails : outcome.fails ≡ (is_failure outcome.verdict && not config.force_pass)
-  pub allowed : (m : Files) → files ≡ Some m → May passed (get m (asked_in assertion session).path) (asked_in assertion session).tree
+  pub allowed : (m : Files) → files ≡ Some m → May passed (get m (asked_in assertion session).path) (asked_in assertion session).blocks (asked_in assertion session).tree
   pub stands : (m : Files) → files ≡ Some m → files' ≡ Some (left_by config assertion passed m session).files
   pub warned : (m : Files) → files ≡ Some m → AreWarnings (asked_in assertion session).path (get m (asked_in assertion session).path) passed
-      (text_of (asked_in assertion session).tree) (items_of outcome.warnings)
+      (text_of (asked_in assertion session).blocks (asked_in assertion session).tree) (items_of outcome.warnings)
 
 -- the only refusals while names are given and no block is open
 abbrev pub ErrorCause : ℕ → ℕ → AssertError → Type 0

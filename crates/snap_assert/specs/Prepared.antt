@@ -2,9 +2,10 @@
 use Rattle.std.specs.Prelude.{◌≡◌, ◌↔◌, ℕ, Bool, true, IsTrue, List, [], ◌∷◌, ◌++◌, false, Option, Some, Result, Ok, Err}
 use Rattle.std.specs.FinMap.{get}
 use Rattle.snap_content.specs.List.{items_of}
-use Rattle.snap_content.specs.Lines.{text_of, lines_of}
-use Rattle.snap_content.specs.Printed.{AreLines}
+use Rattle.snap_content.specs.Readable.{IsWithin}
 use Rattle.snap_outside.specs.Files.{Files}
+use Rattle.snap_print.specs.Lines.{text_of}
+use Rattle.snap_print.specs.Printed.{is_trimmed}
 use Rattle.snap_text.specs.Normal.{normal}
 use Rattle.snap_store.specs.Agreement.{Agree}
 use Rattle.snap_store.specs.declared.contents.SnapshotContents.{SnapshotContents}
@@ -30,17 +31,18 @@ pub record IsPrepared (asked : Asked) (prepared : Prepared) : Type 0 where
   pub path : prepared.path ≡ asked.path
   pub file_path : IsFilePath asked.path
   pub pending : prepared.pending ≡ pending_path asked.path
-  pub printed : text_in (contents_in prepared.snapshot) ≡ Some (text_of asked.tree)
+  pub printed : text_in (contents_in prepared.snapshot) ≡ Some (text_of asked.blocks asked.tree)
   pub in_file : IsFileText (contents_in prepared.snapshot)
-  pub lines : AreLines (lines_of asked.tree)
+  pub trimmed : is_trimmed asked.blocks ≡ true
+  pub within : IsWithin asked.tree
   pub metadata : meta_in prepared.snapshot ≡ asked.meta
   pub module_name : module_in prepared.snapshot ≡ asked.module_name
   pub name : name_in prepared.snapshot ≡ Some asked.name
 
 -- whether it passes, and what is to be said of the file
 pub record IsJudged (asked : Asked) (m : Files) (judged : Judged) : Type 0 where
-  pub allowed : May judged.passed (get m asked.path) asked.tree
-  pub warned : AreWarnings asked.path (get m asked.path) judged.passed (text_of asked.tree) (items_of judged.warnings)
+  pub allowed : May judged.passed (get m asked.path) asked.blocks asked.tree
+  pub warned : AreWarnings asked.path (get m asked.path) judged.passed (text_of asked.blocks asked.tree) (items_of judged.warnings)
 
 -- the same, and what is to go
 pub record IsSeen (asked : Asked) (m : Files) (seen : Seen) : Type 0 where

@@ -4,6 +4,7 @@ use Rattle.std.specs.FinMap.{insert, remove, retain_keys}
 use Rattle.snap_content.specs.Plain.{Plain, plain}
 use Rattle.snap_content.specs.Tree.{Tree}
 use Rattle.snap_outside.specs.Files.{Files}
+use Rattle.snap_print.specs.Blocks.{Blocks}
 use Rattle.snap_store.specs.Meta.{Meta, header_tree, without_line}
 pub use Rattle.snap_store.specs.Image.{pending_path}
 use Rattle.snap_store.specs.Image.{file_of}
@@ -17,27 +18,30 @@ use Rattle.snap_settings.specs.declared.config.Update.TheVariants.{InPlace, NewF
 use Rattle.snap_assert.specs.declared.outcome.Verdict.{Verdict}
 use Rattle.snap_assert.specs.declared.outcome.Verdict.TheVariants.{Passed, Updated, Pending, Rejected}
 
--- what is asked of the files: a plain tree under metadata at a path, with the module and the name that are kept with it
+-- what is asked of the files: a plain tree, printed with literal blocks or without, under metadata at a path, with the module and
+-- the name that are kept with it
 pub record Asked : Type 0 where
   pub path : List ℕ
   pub module_name : List ℕ
   pub name : List ℕ
   pub meta : Meta
+  pub blocks : Blocks
   pub tree : Plain
 
 -- under a name with its suffix: the plain form of the tree that is printed is asked
-abbrev pub asked_as : SettingsView → PlaceView → List ℕ → Tree → Asked
-asked_as settings place name printed = record {
+abbrev pub asked_as : Blocks → SettingsView → PlaceView → List ℕ → Tree → Asked
+asked_as blocks settings place name printed = record {
   path = path_of settings place name;
   module_name = flat_module place.module_name;
   name = name;
   meta = new_meta settings place;
+  blocks = blocks;
   tree = plain printed;
 }
 
 -- under a given name, which gets the suffix of the settings
-abbrev pub asked_of : SettingsView → PlaceView → List ℕ → Tree → Asked
-asked_of settings place name printed = asked_as settings place (suffixed name settings.suffix) printed
+abbrev pub asked_of : Blocks → SettingsView → PlaceView → List ℕ → Tree → Asked
+asked_of blocks settings place name printed = asked_as blocks settings place (suffixed name settings.suffix) printed
 
 -- the path alone, which no tree changes
 abbrev pub asked_path : SettingsView → PlaceView → List ℕ → List ℕ
@@ -59,8 +63,8 @@ cleared path files = retain_keys files (λ q. not (is_stray path q))
 
 -- what is written where the tree did not pass
 abbrev pub written : Update → Asked → Files → Files
-written InPlace asked files = insert files asked.path (encode_utf8_all (file_of (header_tree (without_line asked.meta)) asked.tree))
-written NewFile asked files = insert files (pending_path asked.path) (encode_utf8_all (file_of (header_tree asked.meta) asked.tree))
+written InPlace asked files = insert files asked.path (encode_utf8_all (file_of (header_tree (without_line asked.meta)) asked.blocks asked.tree))
+written NewFile asked files = insert files (pending_path asked.path) (encode_utf8_all (file_of (header_tree asked.meta) asked.blocks asked.tree))
 written NoUpdate asked files = files
 
 -- on a pass what waited goes

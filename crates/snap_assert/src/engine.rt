@@ -9,6 +9,7 @@ ghost use Rattle.snap_assert.specs.Session.{session_of, empty_session};
 ghost use Rattle.snap_settings.specs.Settings.{settings_of, PrintsAs};
 ghost use Rattle.snap_place.specs.Place.{place_of};
 ghost use Rattle.snap_outside.specs.Files.{Files};
+ghost use Rattle.snap_print.specs.Blocks.{blocks_if};
 ghost use Rattle.snap_store.specs.Views.{contents_in, text_in};
 ghost use Rattle.snap_assert.specs.Prepared.{IsPrepared, IsSettled};
 ghost use Rattle.snap_assert.specs.Steps.{Asked, asked_path, verdict_of, is_failure};
@@ -92,7 +93,7 @@ fn assert_printed<S: Store>(
     printed: &Content,
 ) -> Result<Outcome, AssertError>
     ensures answered { IfOk result (λ outcome.
-        IsAnswered config.now (assertion_of (settings_of settings.now) (place_of place.now) name.now
+        IsAnswered config.now (assertion_of (blocks_if config.now.literal) (settings_of settings.now) (place_of place.now) name.now
         (tree printed.now)) outcome
         (S.files store.old) (S.files store.new) empty_session empty_session) }
     ensures kept { KeptBy config.now.update
@@ -102,7 +103,7 @@ fn assert_printed<S: Store>(
         (asked_path (settings_of settings.now) (place_of place.now) name.now) result }
     ensures cause { AssertCause (S.faults store.old) (S.faults store.new) result }
 {
-    let prepared = prepare(alloc, settings, place, name, printed)?;
+    let prepared = prepare(alloc, settings, place, name, printed, config.literal)?;
     let judged = assert_prepared(alloc, store, config, &prepared);
     let path = prepared.into_path();
     let judged = judged?;
@@ -127,7 +128,7 @@ fn assert_named<S: Store>(
 ) -> Result<Outcome, AssertError>
     ensures answered { IfOk result (λ outcome. (printed : Tree)
         × PrintsAs (λ v. (⟦<dyn Redactor as Redactor>⟧ v).allows) settings.now (tree content) printed
-        × IsAnswered config.now (assertion_of (settings_of settings.now) (place_of place.now) name.now
+        × IsAnswered config.now (assertion_of (blocks_if config.now.literal) (settings_of settings.now) (place_of place.now) name.now
         printed) outcome
         (S.files store.old) (S.files store.new) empty_session empty_session) }
     ensures kept { KeptBy config.now.update
@@ -149,7 +150,8 @@ fn assert_named<S: Store>(
 
 /// Asserts that the tree, redacted, is that of the snapshot of this name, by what its file holds.
 ///
-/// Until full matches, literal blocks and automatic names are built these two flags are off, and a name is given.
+/// Texts of several lines are printed as literal blocks where the configuration asks for it. Until full matches and automatic names
+/// are built that flag is off, and a name is given.
 /// Whatever is answered, the approved file is written in place alone, and the pending one in the mode `new` alone;
 /// what waited for a review may be gone.
 pub fn assert_content<S: Store>(
@@ -163,12 +165,11 @@ pub fn assert_content<S: Store>(
     content: Content,
 ) -> Result<Outcome, AssertError>
     requires loose { config.now.require_full_match ≡ false }
-    requires no_blocks { config.now.literal ≡ false }
     requires named { IsSome name }
     ensures answered { IfOk result (λ outcome. (given : List ℕ)
         → option_copied name.entry ≡ Some given → (printed : Tree)
         × PrintsAs (λ v. (⟦<dyn Redactor as Redactor>⟧ v).allows) settings.now (tree content) printed
-        × IsAnswered config.now (assertion_of (settings_of settings.now) (place_of place.now) given
+        × IsAnswered config.now (assertion_of (blocks_if config.now.literal) (settings_of settings.now) (place_of place.now) given
         printed) outcome
         (S.files store.old) (S.files store.new) (session_of session.old) (session_of session.new)) }
     // Whatever is answered: no file is written but the one of the mode, so the approved one only in place.

@@ -1,9 +1,10 @@
 //! What is ready before anything is looked at.
 ghost use Rattle.std.specs.Prelude.{◌≡◌, Some, IfOk};
 ghost use Rattle.snap_content.specs.Plain.{plain};
+ghost use Rattle.snap_content.specs.Readable.{IsWithin};
 ghost use Rattle.snap_content.specs.View.{tree};
-ghost use Rattle.snap_content.specs.Lines.{text_of, lines_of};
-ghost use Rattle.snap_content.specs.Printed.{AreLines};
+ghost use Rattle.snap_print.specs.Blocks.{blocks_if};
+ghost use Rattle.snap_print.specs.Lines.{text_of};
 ghost use Rattle.snap_settings.specs.Settings.{settings_of};
 ghost use Rattle.snap_place.specs.Place.{place_of};
 ghost use Rattle.snap_store.specs.Views.{meta_in, module_in, name_in, contents_in, text_in, IsFileText};
@@ -51,18 +52,19 @@ fn new_snapshot(
     place: &Place,
     name: &Text,
     content: &Content,
+    literal: bool,
 ) -> Result<Snapshot, OutOfMemory>
     ensures printed { IfOk result (λ snapshot. text_in (contents_in snapshot)
-        ≡ Some (text_of (plain (tree content.now)))) }
+        ≡ Some (text_of (blocks_if literal) (plain (tree content.now)))) }
     ensures in_file { IfOk result (λ snapshot. IsFileText (contents_in snapshot)) }
-    ensures lines { IfOk result (λ snapshot. AreLines (lines_of (plain (tree content.now)))) }
+    ensures within { IfOk result (λ _. IsWithin (plain (tree content.now))) }
     ensures metadata { IfOk result (λ snapshot. meta_in snapshot
         ≡ new_meta (settings_of settings.now) (place_of place.now)) }
     ensures module_name { IfOk result (λ snapshot. module_in snapshot
         ≡ flat_module (place_of place.now).module_name) }
     ensures name { IfOk result (λ snapshot. name_in snapshot ≡ Some name.now) }
 {
-    let text = body_to_string(alloc, content)?;
+    let text = body_to_string(alloc, content, literal)?;
     let module_name = module_text(alloc, place)?;
     let name = name.try_clone(alloc)?;
     let metadata = new_metadata(alloc, settings, place)?;
@@ -75,22 +77,24 @@ fn new_snapshot(
     ))
 }
 
-/// All that an assertion of the tree that is printed needs: it is printed before anything is looked at.
+/// All that an assertion of the tree that is printed needs: it is printed before anything is looked at, where `literal` is on with
+/// texts of several lines as literal blocks.
 pub fn prepare(
     alloc: Global,
     settings: &Settings,
     place: &Place,
     name: &Text,
     printed: &Content,
+    literal: bool,
 ) -> Result<Prepared, OutOfMemory>
     ensures { IfOk result (λ prepared. IsPrepared
-        (asked_of (settings_of settings.now) (place_of place.now) name.now
+        (asked_of (blocks_if literal) (settings_of settings.now) (place_of place.now) name.now
         (tree printed.now)) prepared) }
 {
     let path = snapshot_path(alloc, settings, place, name)?;
     let mut pending = path.try_clone(alloc)?;
     pending.push_ascii(alloc, ".new")?;
-    let snapshot = new_snapshot(alloc, settings, place, name, printed)?;
+    let snapshot = new_snapshot(alloc, settings, place, name, printed, literal)?;
     Ok(Prepared {
         path,
         pending,

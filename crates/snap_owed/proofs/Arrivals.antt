@@ -52,7 +52,7 @@ Ends rule.inside c = Unit {0}
 Ends rule.ending None = Unit {0}
 Ends rule.ending (Some n) = ⊥
 
-of-settled : (s : State) (i l j : ℕ) (h : List Token) (os : List ℕ) → Settles true s (here [] i l j) h os → AtEnd s h os
+pub of-settled : (s : State) (i l j : ℕ) (h : List Token) (os : List ℕ) → Settles true s (here [] i l j) h os → AtEnd s h os
 of-settled s i l j h os is = record {
   allowed = true;
   key = None;

@@ -1,5 +1,5 @@
 -- A document in any layout owes its tokens, and a printed one is such a document.
-use Rattle.snap_owed.proofs.Prelude.{is_right_of, start_state, flat_map, document_at, form_of, document_tokens, ◌≡◌, ℕ, List, [], ◌∷◌, ◌++◌, Bool, true, false, refl, sym, ap, ◌∙◌, append-nil, append_assoc, Some, None, Option, map, subst, inl, map-append, if◌then◌else◌, slice_index, Mark, before_nul, mark_of, Token, TokenType, closed, done, refused, State, kept, ends, at, pushed, unrolled, fetched, left_by, none_more, one_more, type_of, Owes, here, calm, Settles, closing, blanks}
+use Rattle.snap_owed.proofs.Prelude.{Blocks, is_right_of, start_state, flat_map, document_at, form_of, document_tokens, ◌≡◌, ℕ, List, [], ◌∷◌, ◌++◌, Bool, true, false, refl, sym, ap, ◌∙◌, append-nil, append_assoc, Some, None, Option, map, subst, inl, map-append, if◌then◌else◌, slice_index, Mark, before_nul, mark_of, Token, TokenType, closed, done, refused, State, kept, ends, at, pushed, unrolled, fetched, left_by, none_more, one_more, type_of, Owes, here, calm, Settles, closing, blanks}
 use Rattle.snap_token.specs.Place.{forced}
 use Rattle.snap_token.specs.declared.info.ScanInfo.TheVariants as info
 use Rattle.snap_token.specs.declared.token.TEncoding.TheVariants.{Utf8}
@@ -21,12 +21,13 @@ use Rattle.snap_owed.proofs.Leaves.{leaf, leaf-goes}
 use Rattle.snap_owed.proofs.Nuls.{without-nul}
 use Rattle.snap_owed.proofs.Pieces.{fetch-settled, types-ends}
 use Rattle.snap_owed.proofs.Skips.{stops_at}
-use Rattle.snap_content.specs.Lines as l
+use Rattle.snap_content.specs.Lines.{ended}
+use Rattle.snap_print.specs.Lines as l
 use Rattle.snap_content.specs.Plain.{Plain}
 use Rattle.snap_owed.specs.PrintedLayouts.{printed_document}
 use Rattle.snap_owed.proofs.LaidOut.{lines-text}
 use Rattle.snap_owed.proofs.PrintedLayouts as form
-use Rattle.snap_owed.proofs.Printables.{printable, same-lines, same-tokens}
+use Rattle.snap_owed.proofs.Printables.{printable, no-block, same-lines, same-tokens}
 
 -- blocks closed in two goes
 closing-rest : (b : Bool) (x : TokenType) (xs all : List TokenType) (rest some : List ℕ)
@@ -68,7 +69,7 @@ begins-layout (w.collection t) j e rest is = begins-collection t j e rest is
 
 layout-goes : (t : w.Layout) → rule.IsLayout rule.ending t → (j : ℕ) (s : State) (i l : ℕ) (h : List Token) → Settles true s (here (laid.layout_onto j t []) i l j) h []
     → Goes s (map type_of h) (layout_tokens t) None [] []
-layout-goes (w.leaf v) is j s i l h stands = leaf-goes s (map type_of h) (layout_tokens (w.leaf v)) None [] [] (leaf v j rule.ending is true j [] refl None 0 [] at_end tt refl (inl refl) s i l h stands)
+layout-goes (w.leaf v) is j s i l h stands = leaf-goes s (map type_of h) (layout_tokens (w.leaf v)) None [] [] (leaf v j rule.ending is true j [] refl refl None 0 [] at_end tt refl refl (inl refl) s i l h stands)
 layout-goes (w.collection t) is j s i l h stands = collection t rule.ending is j [] refl None 0 [] at_end tt refl refl s i l h stands
 
 -- the state behind the end
@@ -125,16 +126,16 @@ laid-source d is =
     let Q : List ℕ → Type 0 = λ x. Owes (start_scan x).state (document_with (layout_tokens d.tree)) in
     subst Q (sym whole) (laid-document d is)
 
-pub plain-text : (p : Plain) → l.document_of p ≡ laid.document_text (printed_document (form_of p))
-plain-text p =
-    let join : List (List ℕ) → List ℕ = λ x. 45 ∷ 45 ∷ 45 ∷ 10 ∷ flat_map l.ended x in
+pub plain-text : (b : Blocks) (p : Plain) → l.document_of b p ≡ laid.document_text (printed_document (form_of b p))
+plain-text b p =
+    let join : List (List ℕ) → List ℕ = λ x. 45 ∷ 45 ∷ 45 ∷ 10 ∷ flat_map ended x in
     let after : List ℕ → List ℕ = λ x. 45 ∷ 45 ∷ 45 ∷ 10 ∷ x in
-    let same : l.document_of p ≡ document_at (form_of p) = ap join (same-lines p) ∙ ap after (lines-text (form_of p)) in
-    same ∙ sym (form.printed-text (form_of p))
+    let same : l.document_of b p ≡ document_at (form_of b p) = ap join (same-lines b p) ∙ ap after (lines-text (form_of b p) (no-block b p) (printable b p)) in
+    same ∙ sym (form.printed-text (form_of b p) (no-block b p))
 
-pub plain-source : (p : Plain) → Owes (start_scan (before_nul (l.document_of p))).state (document_tokens p)
-plain-source p =
-    let d : w.Document = printed_document (form_of p) in
-    let P : List ℕ → Type 0 = λ x. Owes (start_scan (before_nul x)).state (document_tokens p) in
+pub plain-source : (b : Blocks) (p : Plain) → Owes (start_scan (before_nul (l.document_of b p))).state (document_tokens b p)
+plain-source b p =
+    let d : w.Document = printed_document (form_of b p) in
+    let P : List ℕ → Type 0 = λ x. Owes (start_scan (before_nul x)).state (document_tokens b p) in
     let Q : List TokenType → Type 0 = λ x. Owes (start_scan (before_nul (laid.document_text d))).state (document_with x) in
-    subst P (sym (plain-text p)) (subst Q (form.same-tokens (form_of p) ∙ same-tokens p) (laid-source d (form.printed-is-laid (form_of p) (printable p))))
+    subst P (sym (plain-text b p)) (subst Q (form.same-tokens (form_of b p) ∙ same-tokens b p) (laid-source d (form.printed-is-laid (form_of b p) (printable b p))))

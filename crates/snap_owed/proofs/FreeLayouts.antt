@@ -31,6 +31,7 @@ key-free s is = rw (scalar-free s is.0, is.1) refl
 leaf-free : (v : w.Leaf) (e : rule.Position) → f.IsLeaf e v → rule.IsLeaf e v
 leaf-free (w.word s r) e is = (scalar-free s is.0, is.1)
 leaf-free (w.empty q r) e is = is
+leaf-free (w.block u kept more) e is = absurd is
 
 mutual
   collection-free : (t : w.Collection) (e : rule.Position) → f.IsCollection e t → rule.IsCollection e t

@@ -1,5 +1,5 @@
 -- A layout is fetched as its tokens.
-use Rattle.snap_owed.proofs.Prelude.{◌≡◌, ℕ, ◌+◌, List, [], ◌∷◌, ◌++◌, true, false, refl, ap, ◌∙◌, arith, append-nil, append_assoc, ◌≤◌, Some, None, Option, map, nat_lt, length, subst, inl, inr, nat_tests, map-append, ◌==◌, slice_index, nat_le, is_blank_or_end, Place, mark_of, Token, TokenType, TokenKind, State, kept, ends, is_deeper, is_right_of, at, kind_step, kind_of, left_by, fetched, blanks, Steps, none_more, one_more, type_of, here, calm, Settles, closing, is_start, is_tail, and_parts, and_nothing}
+use Rattle.snap_owed.proofs.Prelude.{◌≡◌, ℕ, ◌+◌, List, [], ◌∷◌, ◌++◌, true, false, refl, ap, ◌∙◌, arith, append-nil, append_assoc, ◌≤◌, Some, None, Option, map, nat_lt, length, subst, inl, inr, nat_tests, map-append, ◌==◌, slice_index, nat_le, is_blank_or_end, Place, mark_of, Token, TokenType, TokenKind, State, kept, ends, is_deeper, is_right_of, at, kind_step, kind_of, left_by, fetched, blanks, shifted, line_ends, empty_lines, Steps, none_more, one_more, type_of, here, calm, Settles, closing, is_start, is_tail, and_parts, and_nothing}
 use Rattle.snap_token.specs.declared.token.TokenType.TheVariants as k
 use Rattle.snap_scan.specs.declared.kind.TokenKind.TheVariants as kind
 use Rattle.snap_owed.specs.Layouts as w
@@ -13,6 +13,7 @@ use Rattle.snap_owed.proofs.Forms.{steps-append, Follows, at_column, at_end, beg
 use Rattle.snap_owed.proofs.Gaps.{settles-blanks, settles-gap}
 use Rattle.snap_owed.proofs.Keys.{keeps-deeper, keeps-level}
 use Rattle.snap_owed.proofs.Leaves.{key_state, colon-fetched, first-key, further-key, adjacent_behind, key-fetched, leaf, leaf-goes}
+use Rattle.snap_owed.proofs.Literals.{begins-block}
 use Rattle.snap_owed.proofs.Pieces.{step-at, kept-deeper, ends-deeper, types-ends}
 use Rattle.snap_owed.proofs.Skips.{stops_at}
 use Rattle.snap_owed.proofs.Words.{EndsWord}
@@ -27,6 +28,7 @@ begins-scalar (w.bare (c ∷ u)) rest h = (starts c u (and_parts (is_start c u) 
 pub begins-leaf : (v : w.Leaf) (k : ℕ) (e : rule.Position) (rest : List ℕ) → rule.IsLeaf e v → stops_at (slice_index (laid.leaf_onto k v rest) 0) ≡ false
 begins-leaf (w.word s r) k e rest is = begins-scalar s (laid.rest_onto r rest) is.0
 begins-leaf (w.empty q r) k e rest is = begins-hollow q
+begins-leaf (w.block u count more) k e rest is = begins-block count (10 ∷ (blanks (k + 1 + 1) ++ (shifted (k + 1 + 1) u ++ (10 ∷ line_ends (empty_lines more count))))) rest
 
 record IsKey (v : w.Scalar) : Type 0 where
   scalar : rule.is_scalar v ≡ true
@@ -280,6 +282,10 @@ mark-head _ _ _ _ (same_block j columns os same) s rest i l h stands blank =
 deeper-by : (j n : ℕ) → nat_lt j (j + 1 + n) ≡ true
 deeper-by j n = grind (arith, nat_tests)
 
+-- the lines of a block
+deeper-inside : (j : ℕ) → nat_lt j (j + 1 + 1) ≡ true
+deeper-inside j = grind (arith, nat_tests)
+
 deeper-beside : (j n : ℕ) → nat_lt j (j + 1 + 1 + n) ≡ true
 deeper-beside j n = grind (arith, nat_tests)
 
@@ -327,7 +333,7 @@ mutual
       let s : State = calm true a (here (laid.item_onto j (w.piece n v) (blanks m ++ cs)) i l (j + 1)) h (j ∷ os) in
       let stands = settles-blanks n (laid.leaf_onto j v (blanks m ++ cs)) true a i l (j + 1) h (j ∷ os) (begins-leaf v j e (blanks m ++ cs) is) in
       leaf-goes s (map type_of h) (leaf_tokens v) c (j ∷ os) cs
-      (leaf v j e is true (j + 1 + 1 + n) (j ∷ os) (deeper-beside j n) c m cs follows fits stop end s (i + 1 + n) l h stands)
+      (leaf v j e is true (j + 1 + 1 + n) (j ∷ os) (deeper-beside j n) (deeper-inside j) c m cs follows fits (near (j + 1 + 1) (deeper-inside j)) stop end s (i + 1 + n) l h stands)
   item (w.beside n v) e is j os c m cs follows fits stop near end a i l h =
       let s : State = calm true a (here (laid.item_onto j (w.beside n v) (blanks m ++ cs)) i l (j + 1)) h (j ∷ os) in
       let col : ℕ = j + 1 + 1 + n in
@@ -373,7 +379,8 @@ mutual
       let s : State = calm false a (here (laid.value_onto j (w.piece_of n v) (blanks m ++ cs)) i l column) h (j ∷ os) in
       let stands = settles-blanks n (laid.leaf_onto j v (blanks m ++ cs)) false a i l column h (j ∷ os) (begins-leaf v j e (blanks m ++ cs) is) in
       let deeper : nat_lt j (column + 1 + n) ≡ true = grind (arith, nat_tests, right) in
-      leaf-goes s (map type_of h) (leaf_tokens v) c (j ∷ os) cs (leaf v j e is false (column + 1 + n) (j ∷ os) deeper c m cs follows fits stop end s (i + 1 + n) l h stands)
+      leaf-goes s (map type_of h) (leaf_tokens v) c (j ∷ os) cs
+      (leaf v j e is false (column + 1 + n) (j ∷ os) deeper (deeper-inside j) c m cs follows fits (near (j + 1 + 1) (deeper-inside j)) stop end s (i + 1 + n) l h stands)
   value (w.below_key g n v) e is j os c m cs follows fits stop near end a i l column h right =
       let s : State = calm false a (here (laid.value_onto j (w.below_key g n v) (blanks m ++ cs)) i l column) h (j ∷ os) in
       let col : ℕ = j + 1 + n in

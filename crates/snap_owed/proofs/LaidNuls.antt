@@ -1,12 +1,12 @@
 -- No NUL stands in the text of a layout.
-use Rattle.snap_owed.proofs.Prelude.{◌≡◌, ℕ, ◌+◌, List, [], ◌∷◌, ◌++◌, Bool, true, refl, ◌||◌, ◌&&◌, ◌==◌, length, list_all, is_some, is_break, is_code, blanks, square, curly, and_parts, or_parts, not_true}
+use Rattle.snap_owed.proofs.Prelude.{◌≡◌, ℕ, ◌+◌, List, [], ◌∷◌, ◌++◌, Bool, true, refl, ◌||◌, ◌&&◌, ◌==◌, length, list_all, is_some, is_break, is_code, blanks, block_at, square, curly, and_parts, or_parts, not_true}
 use Rattle.snap_token.specs.Quoted.{escaped, further_digits, value_of}
 use Rattle.snap_owed.specs.Forms as form
 use Rattle.snap_owed.specs.Layouts as w
 use Rattle.snap_owed.specs.LayoutTexts as laid
 use Rattle.snap_owed.specs.LayoutRules as rule
 use Rattle.snap_owed.proofs.Escapes.{apart}
-use Rattle.snap_owed.proofs.Nuls.{has_no_nul, no-nul-more, no-nul-append, no-nul-blanks, no-nul-scalar}
+use Rattle.snap_owed.proofs.Nuls.{has_no_nul, no-nul-more, no-nul-append, no-nul-blanks, no-nul-scalar, no-nul-block}
 
 nul-break : (e : w.Break) (x : List ℕ) → has_no_nul x ≡ true → has_no_nul (laid.break_onto e x) ≡ true
 nul-break w.feed x h = h
@@ -71,6 +71,7 @@ nul-leaf : (v : w.Leaf) (k : ℕ) (e : rule.Position) (x : List ℕ) → rule.Is
 nul-leaf (w.word s r) k e x is h = nul-scalar s (laid.rest_onto r x) is.0 (nul-rest r e x is.1 h)
 nul-leaf (w.empty square r) k e x is h = nul-rest r e x is h
 nul-leaf (w.empty curly r) k e x is h = nul-rest r e x is h
+nul-leaf (w.block u kept more) k e x is h = no-nul-append (block_at (k + 1 + 1) u kept more) x (no-nul-block (k + 1 + 1) u kept more is) h
 
 mutual
   nul-collection : (t : w.Collection) (k : ℕ) (e : rule.Position) (x : List ℕ) → rule.IsCollection e t → has_no_nul x ≡ true → has_no_nul (laid.collection_onto k t x) ≡ true

@@ -1,5 +1,5 @@
--- Scalars, simple keys and empty collections of a layout.
-use Rattle.snap_owed.proofs.Prelude.{◌≡◌, ℕ, suc, ◌+◌, ◌-◌, ◌≤◌, List, [], ◌∷◌, ◌++◌, Bool, true, false, refl, ap, ◌∙◌, arith, append-nil, append_assoc, Some, Option, map, nat_lt, length, nat_tests, slice_index, is_blank_or_end, Place, mark_of, Plain, plain_from, Token, TokenType, kind_step, innermost, value_of_key, kind_of, State, unrolled, kept, ends, is_deeper, at, in_flow, TokenKind, is_start, is_tail, is_bare, blanks, open_sign, close_sign, open_token, close_token, left_by, fetched, Steps, none_more, one_more, type_of, settled, here, calm, Settles, closing, and_parts, map-append}
+-- Scalars, simple keys, literal blocks and empty collections of a layout.
+use Rattle.snap_owed.proofs.Prelude.{◌≡◌, ℕ, suc, ◌+◌, ◌-◌, ◌≤◌, List, [], ◌∷◌, ◌++◌, Bool, true, false, refl, ap, ◌∙◌, arith, append-nil, append_assoc, Some, Option, map, nat_lt, length, nat_tests, slice_index, is_blank_or_end, Place, mark_of, Plain, plain_from, Token, TokenType, kind_step, innermost, value_of_key, kind_of, State, unrolled, kept, ends, is_deeper, is_right_of, at, in_flow, TokenKind, is_start, is_tail, is_bare, blanks, block_at, shifted, line_ends, empty_lines, open_sign, close_sign, open_token, close_token, left_by, fetched, Steps, none_more, one_more, type_of, settled, here, calm, Settles, closing, and_parts, map-append}
 use Rattle.snap_token.specs.declared.token.TokenType.TheVariants as t
 use Rattle.snap_token.specs.declared.token.TScalarStyle.TheVariants as style
 use Rattle.snap_scan.specs.declared.kind.TokenKind.TheVariants as k
@@ -8,6 +8,7 @@ use Rattle.snap_owed.specs.LayoutTexts as laid
 use Rattle.snap_owed.specs.LayoutRules as rule
 use Rattle.snap_owed.specs.LayoutTokens.{scalar_token, leaf_tokens}
 use Rattle.snap_owed.proofs.Arrivals.{Arrived, Goes, Ends, rest-arrives, rest-read}
+use Rattle.snap_owed.proofs.Blocks.{read-block}
 use Rattle.snap_owed.proofs.Beginnings.{starts, quote-kind, colon-kind, open_kind, opened-kind}
 use Rattle.snap_owed.proofs.Ends.{outside, key_of, in-time}
 use Rattle.snap_owed.proofs.Flows.{inside, opened-is, still-fresh, step-close}
@@ -15,6 +16,7 @@ use Rattle.snap_owed.proofs.Forms.{Follows}
 use Rattle.snap_owed.proofs.Gaps.{standing}
 use Rattle.snap_owed.proofs.Keys.{insert-at, key_at, Keeps, plain-colon, with_at, key-place}
 use Rattle.snap_owed.proofs.Letters.{read_letters, letters-whole}
+use Rattle.snap_owed.proofs.Literals.{follows-below, block-arrived, step-block}
 use Rattle.snap_owed.proofs.Pieces.{fetch-settled, step-at, plain_from-letter, read-quote, kept-deeper, ends-deeper}
 use Rattle.snap_owed.proofs.Skips.{stops_at}
 use Rattle.snap_owed.proofs.Words.{EndsWord, plain-text}
@@ -127,11 +129,11 @@ more-types h z a gone = rw (gone, append-nil h, map-append) refl
 more-two : (h z : List Token) (a b : Token) → z ≡ [] → map type_of (h ++ z ++ a ∷ [] ++ b ∷ []) ≡ map type_of h ++ (type_of a ∷ type_of b ∷ [])
 more-two h z a b gone = rw (gone, append-nil h) (simp (map-append, append_assoc))
 
-pub leaf : (v : w.Leaf) (col : ℕ) (e : rule.Position) → rule.IsLeaf e v → (b : Bool) (j : ℕ) (os : List ℕ) → is_deeper j os ≡ true → (c : Option ℕ) (m : ℕ) (cs : List ℕ) → Follows c m cs → Ends e c
-    → stops_at (slice_index cs 0) ≡ false → EndsWord os m cs → (s : State) (i l : ℕ) (h : List Token) → Settles b s (here (laid.leaf_onto col v (blanks m ++ cs)) i l j) h os
+pub leaf : (v : w.Leaf) (col : ℕ) (e : rule.Position) → rule.IsLeaf e v → (b : Bool) (j : ℕ) (os : List ℕ) → is_deeper j os ≡ true → is_deeper (col + 1 + 1) os ≡ true
+    → (c : Option ℕ) (m : ℕ) (cs : List ℕ) → Follows c m cs → Ends e c → is_right_of c (col + 1 + 1) ≡ true → stops_at (slice_index cs 0) ≡ false → EndsWord os m cs → (s : State) (i l : ℕ) (h : List Token) → Settles b s (here (laid.leaf_onto col v (blanks m ++ cs)) i l j) h os
     → LeafStep s (map type_of h) (leaf_tokens v) c os cs
-leaf (w.word (w.bare []) r) col e is b j os deep c m cs follows fits stop end s i l h stands = absurd (let f : false ≡ true = is.0 in cc)
-leaf (w.word (w.bare (x ∷ u)) r) col e is b j os deep c m cs follows fits stop end s i l h stands =
+leaf (w.word (w.bare []) r) col e is b j os deep under c m cs follows fits near stop end s i l h stands = absurd (let f : false ≡ true = is.0 in cc)
+leaf (w.word (w.bare (x ∷ u)) r) col e is b j os deep under c m cs follows fits near stop end s i l h stands =
     let two = and_parts (is_start x u) (is_tail false u) is.0 in
     let start = starts x u two.0 in
     let further : List ℕ = laid.rest_onto r (blanks m ++ cs) in
@@ -155,7 +157,7 @@ leaf (w.word (w.bare (x ∷ u)) r) col e is b j os deep c m cs follows fits stop
       arrived = at_rest.arrived b p before stands.adjacent held refl;
       given = more-types h (ends (mark_of p) (Some j) os) (at (mark_of p) (t.Scalar style.Plain (x ∷ u))) (ends-deeper (mark_of p) j os deep);
     }
-leaf (w.word (w.quote x) r) col e is b j os deep c m cs follows fits stop end s i l h stands =
+leaf (w.word (w.quote x) r) col e is b j os deep under c m cs follows fits near stop end s i l h stands =
     let further : List ℕ = laid.rest_onto r (blanks m ++ cs) in
     let p : Place = here (laid.spelled (w.quote x) ++ further) i l j in
     let before : List Token = h ++ ends (mark_of p) (Some j) os in
@@ -169,7 +171,7 @@ leaf (w.word (w.quote x) r) col e is b j os deep c m cs follows fits stop end s 
       arrived = rest-arrives r e is.1 c m cs follows fits stop os end b p before (i + n) (i + n) (j + n) held;
       given = more-types h (ends (mark_of p) (Some j) os) (at (mark_of p) (scalar_token (w.quote x))) (ends-deeper (mark_of p) j os deep);
     }
-leaf (w.empty q r) col e is b j os deep c m cs follows fits stop end s i l h stands =
+leaf (w.empty q r) col e is b j os deep under c m cs follows fits near stop end s i l h stands =
     let a : ℕ = stands.adjacent in
     let further : List ℕ = laid.rest_onto r (blanks m ++ cs) in
     let p : Place = here (open_sign q ∷ close_sign q ∷ further) i l j in
@@ -191,6 +193,25 @@ leaf (w.empty q r) col e is b j os deep c m cs follows fits stop end s i l h sta
       held = held;
       arrived = rest-arrives r e is c m cs follows fits stop os end b p before a (i + 1 + 1) (j + 1 + 1) held;
       given = more-two h (ends (mark_of p) (Some j) os) (at (mark_of p) (open_token q)) (at (mark_of z) (close_token q)) (ends-deeper (mark_of p) j os deep);
+    }
+leaf (w.block u count more) col e is b j os deep under c m cs follows fits near stop end s i l h stands =
+    let n : ℕ = col + 1 + 1 in
+    let further : List ℕ = 10 ∷ (blanks n ++ (shifted n u ++ (10 ∷ line_ends (empty_lines more count)))) in
+    let text : List ℕ = u ++ line_ends count in
+    let p : Place = here (block_at n u count more ++ (blanks m ++ cs)) i l j in
+    let before : List Token = h ++ ends (mark_of p) (Some j) os in
+    let some : 1 ≤ n = omega arith in
+    let read = read-block count more os n m u cs under some is (follows-below c m n cs follows stop near) i l j in
+    let past : l + 1 ≤ read.line = read.later in
+    let later : nat_lt l read.line ≡ true = grind (arith, nat_tests) in
+    let r = step-block b s count further text cs i l j m read.index read.line read.mark h os os stands (kept-deeper j os deep) read.is stop later in
+    let held : List Token = before ++ at read.mark (t.Scalar style.Literal text) ∷ [] in
+    record {
+      to = r.to;
+      steps = one_more s r.to r.to stands.ended r.fetches (none_more r.to);
+      held = held;
+      arrived = block-arrived c m cs follows r.to held os read.index read.line r.settles;
+      given = more-types h (ends (mark_of p) (Some j) os) (at read.mark (t.Scalar style.Literal text)) (ends-deeper (mark_of p) j os deep);
     }
 
 -- a leaf closes no block

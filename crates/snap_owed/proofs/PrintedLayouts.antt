@@ -92,15 +92,17 @@ same-word : (v : form.Scalar) (rest : List ℕ) → laid.spelled (p.scalar_of v)
 same-word v rest = rw (same-spelling v) (sym (append_assoc (form.spelled v) (10 ∷ []) rest))
 
 mutual
-  pub same-text : (f : form.Form) (j : ℕ) (rest : List ℕ) → laid.layout_onto j (p.layout_of f) rest ≡ form.text_at j f ++ rest
-  same-text (form.scalar v) j rest = same-word v rest
-  same-text (form.hollow q) j rest = refl
-  same-text (form.list ts) j rest = let f : List ℕ → List ℕ = λ x. 45 ∷ x in ap f (same-items ts j rest)
-  same-text (form.dict es) j rest = same-entries es j rest
+  pub same-text : (f : form.Form) → form.IsNode f → (j : ℕ) (rest : List ℕ) → laid.layout_onto j (p.layout_of f) rest ≡ form.text_at j f ++ rest
+  same-text (form.scalar v) node j rest = same-word v rest
+  same-text (form.block u count more) node j rest = absurd node
+  same-text (form.hollow q) node j rest = refl
+  same-text (form.list ts) node j rest = let f : List ℕ → List ℕ = λ x. 45 ∷ x in ap f (same-items ts j rest)
+  same-text (form.dict es) node j rest = same-entries es j rest
 
   -- behind a mark
   same-item : (f : form.Form) (j : ℕ) (rest : List ℕ) → laid.item_onto j (p.item_of f) rest ≡ 32 ∷ (form.text_at (j + 1 + 1) f ++ rest)
   same-item (form.scalar v) j rest = let f : List ℕ → List ℕ = λ x. 32 ∷ x in ap f (same-word v rest)
+  same-item (form.block u count more) j rest = refl
   same-item (form.hollow q) j rest = refl
   same-item (form.list ts) j rest = let f : List ℕ → List ℕ = λ x. 32 ∷ 45 ∷ x in rw (add-zero (j + 1 + 1)) (ap f (same-items ts (j + 1 + 1) rest))
   same-item (form.dict es) j rest = let f : List ℕ → List ℕ = λ x. 32 ∷ x in rw (add-zero (j + 1 + 1)) (ap f (same-entries es (j + 1 + 1) rest))
@@ -113,6 +115,7 @@ mutual
 
   same-value : (f : form.Form) (j : ℕ) (rest : List ℕ) → laid.value_onto j (p.value_of f) rest ≡ form.value_block j f (form.text_at (j + 1 + 1) f) ++ rest
   same-value (form.scalar v) j rest = let f : List ℕ → List ℕ = λ x. 32 ∷ x in ap f (same-word v rest)
+  same-value (form.block u count more) j rest = refl
   same-value (form.hollow q) j rest = refl
   same-value (form.list ts) j rest =
       let at : List ℕ → List ℕ = λ x. 10 ∷ (blanks (j + 1 + 1) ++ (45 ∷ x)) in ap at (same-items ts (j + 1 + 1) rest) ∙ simp append_assoc
@@ -140,12 +143,14 @@ mutual
 mutual
   pub same-tokens : (f : form.Form) → t.layout_tokens (p.layout_of f) ≡ form.tokens_of f
   same-tokens (form.scalar v) = let f : TokenType → List TokenType = λ x. x ∷ [] in ap f (same-token v)
+  same-tokens (form.block u count more) = refl
   same-tokens (form.hollow q) = refl
   same-tokens (form.list ts) = let f : List TokenType → List TokenType = λ x. k.BlockSequenceStart ∷ k.BlockEntry ∷ (x ++ k.BlockEnd ∷ []) in ap f (tokens-items ts)
   same-tokens (form.dict es) = let f : List TokenType → List TokenType = λ x. k.BlockMappingStart ∷ (x ++ k.BlockEnd ∷ []) in ap f (tokens-entries es)
 
   tokens-item : (f : form.Form) → t.item_tokens (p.item_of f) ≡ form.tokens_of f
   tokens-item (form.scalar v) = let f : TokenType → List TokenType = λ x. x ∷ [] in ap f (same-token v)
+  tokens-item (form.block u count more) = refl
   tokens-item (form.hollow q) = refl
   tokens-item (form.list ts) = let f : List TokenType → List TokenType = λ x. k.BlockSequenceStart ∷ k.BlockEntry ∷ (x ++ k.BlockEnd ∷ []) in ap f (tokens-items ts)
   tokens-item (form.dict es) = let f : List TokenType → List TokenType = λ x. k.BlockMappingStart ∷ (x ++ k.BlockEnd ∷ []) in ap f (tokens-entries es)
@@ -156,6 +161,7 @@ mutual
 
   tokens-value : (f : form.Form) → t.value_tokens (p.value_of f) ≡ form.tokens_of f
   tokens-value (form.scalar v) = let f : TokenType → List TokenType = λ x. x ∷ [] in ap f (same-token v)
+  tokens-value (form.block u count more) = refl
   tokens-value (form.hollow q) = refl
   tokens-value (form.list ts) = let f : List TokenType → List TokenType = λ x. k.BlockSequenceStart ∷ k.BlockEntry ∷ (x ++ k.BlockEnd ∷ []) in ap f (tokens-items ts)
   tokens-value (form.dict es) = let f : List TokenType → List TokenType = λ x. k.BlockMappingStart ∷ (x ++ k.BlockEnd ∷ []) in ap f (tokens-entries es)
@@ -179,12 +185,14 @@ key-fits v h =
 mutual
   pub layout-fits : (f : form.Form) (e : rule.Position) → form.IsPrintable f → rule.IsLayout e (p.layout_of f)
   layout-fits (form.scalar v) e is = (scalar-fits v is, refl)
+  layout-fits (form.block u count more) e is = is
   layout-fits (form.hollow q) e is = refl
   layout-fits (form.list ts) e is = items-fit ts e is
   layout-fits (form.dict es) e is = entries-fit es e is
 
   item-fits : (f : form.Form) (e : rule.Position) → form.IsPrintable f → rule.IsItem e (p.item_of f)
   item-fits (form.scalar v) e is = (scalar-fits v is, refl)
+  item-fits (form.block u count more) e is = is
   item-fits (form.hollow q) e is = refl
   item-fits (form.list ts) e is = items-fit ts e is
   item-fits (form.dict es) e is = entries-fit es e is
@@ -195,6 +203,7 @@ mutual
 
   value-fits : (f : form.Form) (e : rule.Position) → form.IsPrintable f → rule.IsValue e (p.value_of f)
   value-fits (form.scalar v) e is = (scalar-fits v is, refl)
+  value-fits (form.block u count more) e is = is
   value-fits (form.hollow q) e is = refl
   value-fits (form.list ts) e is = (refl, items-fit ts e is)
   value-fits (form.dict es) e is = (refl, entries-fit es e is)
@@ -211,7 +220,7 @@ pub printed-is-laid : (f : form.Form) → form.IsPrintable f → rule.IsDocument
 printed-is-laid f is = (refl, layout-fits f rule.ending is)
 
 -- a printed document is the text of its layout
-pub printed-text : (f : form.Form) → laid.document_text (p.printed_document f) ≡ form.document_at f
-printed-text f =
+pub printed-text : (f : form.Form) → form.IsNode f → laid.document_text (p.printed_document f) ≡ form.document_at f
+printed-text f node =
     let after : List ℕ → List ℕ = λ x. 45 ∷ 45 ∷ 45 ∷ 10 ∷ x in
-    ap after (same-text f 0 [] ∙ append-nil (form.text_at 0 f))
+    ap after (same-text f node 0 [] ∙ append-nil (form.text_at 0 f))

@@ -5,7 +5,7 @@ use Rattle.snap_content.specs.Plain.{null, bool, int, text, list, dict}
 use Rattle.snap_content.specs.Quotes.{needs_quotes}
 use Rattle.snap_content.specs.Spell.{spell_bool}
 use Rattle.snap_content.specs.Typed.{Typed, value, real, typed}
-use Rattle.snap_owed.specs.Layouts.{Scalar, bare, quote, Leaf, word, empty, Collection, list as a_list, dict as a_dict, Items, last, item, Item, piece, beside, below, Value, piece_of, below_key, level, Entry, simple, complex, Entries, only, pair, Layout, leaf, collection, Document}
+use Rattle.snap_owed.specs.Layouts.{Scalar, bare, quote, Leaf, word, empty, block, Collection, list as a_list, dict as a_dict, Items, last, item, Item, piece, beside, below, Value, piece_of, below_key, level, Entry, simple, complex, Entries, only, pair, Layout, leaf, collection, Document}
 use Rattle.snap_owed.specs.LayoutTexts.{spelled}
 use Rattle.snap_owed.specs.LayoutRules.{Position, inside, ending, is_gap, IsRest, are_letters}
 
@@ -27,9 +27,11 @@ IsScalar (quote s) = are_letters s ≡ true
 abbrev pub IsKey : Scalar → Type 0
 IsKey s = IsScalar s × (nat_le (length (spelled s)) 1024 ≡ true)
 
+-- no block stands in it
 abbrev pub IsLeaf : Position → Leaf → Type 0
 IsLeaf p (word s r) = IsScalar s × IsRest p r
 IsLeaf p (empty q r) = IsRest p r
+IsLeaf p (block w kept more) = ⊥
 
 abbrev mutual
   pub IsCollection : Position → Collection → Type 0

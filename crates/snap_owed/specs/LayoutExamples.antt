@@ -1,8 +1,9 @@
 -- Layouts that were worked out by hand.
-use Rattle.std.specs.Prelude.{◌≡◌, ℕ, List, [], ◌∷◌, codes}
+use Rattle.std.specs.Prelude.{◌≡◌, ℕ, List, [], ◌∷◌, true, false, codes}
 use Rattle.snap_owed.specs.FreeLayouts.{IsFree}
+use Rattle.snap_owed.specs.LayoutRules.{IsDocument}
 use Rattle.snap_owed.specs.Forms.{square}
-use Rattle.snap_owed.specs.Layouts.{Gap, feed, return_feed, no_filler, filler, blank, comment, next, half, Letters, letter, no_letter, as_is, short, code, bare, quote, Leaf, word, empty, Collection, list, dict, item, last, piece, beside, below, piece_of, below_key, level, Entry, simple, pair, only, collection, Document}
+use Rattle.snap_owed.specs.Layouts.{Gap, feed, return_feed, no_filler, filler, blank, comment, next, half, Letters, letter, no_letter, as_is, short, code, bare, quote, Leaf, word, empty, block, Collection, list, dict, item, last, piece, beside, below, piece_of, below_key, level, Entry, simple, pair, only, collection, Document}
 use Rattle.snap_owed.specs.LayoutTexts.{document_text}
 
 abbrev fed : Gap
@@ -69,6 +70,15 @@ hand_list = record {
       (only (simple (bare (codes "7")) (piece_of 0 (word (bare (codes "x y")) (half fed (comment 3 (codes "#")))))))));
 }
 
+-- a literal block before another key, whose second line is empty, and one that ends the text in an empty line
+abbrev pub blocks : Document
+blocks = record {
+  gap = fed;
+  column = 0;
+  tree = collection (dict (pair (simple (bare (codes "a")) (piece_of 0 (block (codes "x\n\n y") 1 true)))
+      (only (simple (bare (codes "b")) (level fed (last (piece 0 (block (codes "z") 2 false))))))));
+}
+
 pub record AreLaid : Type 0 where
   pub header : document_text hand_header ≡ codes "---\r\nsource:   src/a.rs\r\n# note\r\nexpression: \"x\"\r\ninfo:\r\n    - 1\r\n    -   b: 2\r\n"
   pub header_free : IsFree hand_header
@@ -76,3 +86,5 @@ pub record AreLaid : Type 0 where
   pub request_free : IsFree hand_request
   pub list_text : document_text hand_list ≡ codes "---\n  \n \"\\t\\x4a\\u00E9\\U0001f600\":\n -\n   null: []\n -  -.inf\n 7: x y\n   ##"
   pub list_free : IsFree hand_list
+  pub blocks_text : document_text blocks ≡ codes "---\na: |\n  x\n  \n   y\n\nb:\n- |+\n  z\n\n"
+  pub blocks_laid : IsDocument blocks

@@ -4,8 +4,8 @@ use Rattle.std.specs.Prelude.{ℕ, ◌+◌, ◌==◌, ◌&&◌, ◌||◌, ◌≡
 use Rattle.std.specs.List.{list_all}
 use Rattle.snap_token.specs.Characters.{is_break}
 use Rattle.snap_token.specs.Quoted.{escaped, further_digits, hexadecimal, is_code, value_of}
-use Rattle.snap_owed.specs.Forms.{is_bare}
-use Rattle.snap_owed.specs.Layouts.{Filler, blank, comment, Fillers, no_filler, filler, Gap, Rest, next, unended, half, Letter, as_is, short, code, Letters, no_letter, letter, Scalar, bare, quote, Leaf, word, empty, Collection, list, dict, Items, last, item, Item, piece, beside, below, Value, piece_of, below_key, level, Entry, simple, complex, Entries, only, pair, Layout, leaf, collection, Document}
+use Rattle.snap_owed.specs.Forms.{is_bare, is_block}
+use Rattle.snap_owed.specs.Layouts.{Filler, blank, comment, Fillers, no_filler, filler, Gap, Rest, next, unended, half, Letter, as_is, short, code, Letters, no_letter, letter, Scalar, bare, quote, Leaf, word, empty, block, Collection, list, dict, Items, last, item, Item, piece, beside, below, Value, piece_of, below_key, level, Entry, simple, complex, Entries, only, pair, Layout, leaf, collection, Document}
 use Rattle.snap_owed.specs.LayoutTexts.{spelled, number_from}
 
 -- where a part stands: before other lines of the text, or at its end
@@ -56,6 +56,7 @@ is_key s = is_scalar s && nat_le (length (spelled s)) 1024
 abbrev pub IsLeaf : Position → Leaf → Type 0
 IsLeaf p (word s r) = (is_scalar s ≡ true) × IsRest p r
 IsLeaf p (empty q r) = IsRest p r
+IsLeaf p (block w kept more) = is_block w ≡ true
 
 abbrev mutual
   pub IsCollection : Position → Collection → Type 0

@@ -1,8 +1,8 @@
 -- The text of a layout: of each part before what follows it.
 use Rattle.std.specs.Prelude.{ℕ, ◌+◌, List, [], ◌∷◌, ◌++◌, codes}
 use Rattle.snap_token.specs.Quoted.{escaped, value_of, with_digit}
-use Rattle.snap_owed.specs.Forms.{open_sign, close_sign, blanks}
-use Rattle.snap_owed.specs.Layouts.{Break, feed, return_feed, Filler, blank, comment, Fillers, no_filler, filler, Gap, Rest, next, unended, half, Letter, as_is, short, code, Letters, no_letter, letter, Scalar, bare, quote, Leaf, word, empty, Collection, list, dict, Items, last, item, Item, piece, beside, below, Value, piece_of, below_key, level, Entry, simple, complex, Entries, only, pair, Layout, leaf, collection, Document}
+use Rattle.snap_owed.specs.Forms.{open_sign, close_sign, blanks, block_at}
+use Rattle.snap_owed.specs.Layouts.{Break, feed, return_feed, Filler, blank, comment, Fillers, no_filler, filler, Gap, Rest, next, unended, half, Letter, as_is, short, code, Letters, no_letter, letter, Scalar, bare, quote, Leaf, word, empty, block, Collection, list, dict, Items, last, item, Item, piece, beside, below, Value, piece_of, below_key, level, Entry, simple, complex, Entries, only, pair, Layout, leaf, collection, Document}
 
 abbrev pub break_onto : Break → List ℕ → List ℕ
 break_onto feed rest = 10 ∷ rest
@@ -37,10 +37,12 @@ abbrev pub spelled : Scalar → List ℕ
 spelled (bare w) = w
 spelled (quote s) = 34 ∷ letters_text s
 
--- the column is that of the mark or the key before the leaf; what stands on one line doesn't ask for it
+-- the column is that of the mark or the key before the leaf; what stands on one line doesn't ask for it, and the lines of a block
+-- stand two columns right of it
 abbrev pub leaf_onto : ℕ → Leaf → List ℕ → List ℕ
 leaf_onto k (word s r) rest = spelled s ++ rest_onto r rest
 leaf_onto k (empty q r) rest = open_sign q ∷ close_sign q ∷ rest_onto r rest
+leaf_onto k (block w kept more) rest = block_at (k + 1 + 1) w kept more ++ rest
 
 abbrev mutual
   -- at column k

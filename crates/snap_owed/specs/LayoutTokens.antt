@@ -3,8 +3,8 @@ use Rattle.std.specs.Prelude.{List, [], ◌∷◌, ◌++◌}
 use Rattle.snap_token.specs.declared.token.TokenType.{TokenType}
 use Rattle.snap_token.specs.declared.token.TokenType.TheVariants as k
 use Rattle.snap_token.specs.declared.token.TScalarStyle.TheVariants as style
-use Rattle.snap_owed.specs.Forms.{open_token, close_token}
-use Rattle.snap_owed.specs.Layouts.{Scalar, bare, quote, Leaf, word, empty, Collection, list, dict, Items, last, item, Item, piece, beside, below, Value, piece_of, below_key, level, Entry, simple, complex, Entries, only, pair, Layout, leaf, collection}
+use Rattle.snap_owed.specs.Forms.{open_token, close_token, line_ends}
+use Rattle.snap_owed.specs.Layouts.{Scalar, bare, quote, Leaf, word, empty, block, Collection, list, dict, Items, last, item, Item, piece, beside, below, Value, piece_of, below_key, level, Entry, simple, complex, Entries, only, pair, Layout, leaf, collection}
 use Rattle.snap_owed.specs.LayoutTexts.{characters}
 
 abbrev pub scalar_token : Scalar → TokenType
@@ -14,6 +14,7 @@ scalar_token (quote s) = k.Scalar style.DoubleQuoted (characters s)
 abbrev pub leaf_tokens : Leaf → List TokenType
 leaf_tokens (word s r) = scalar_token s ∷ []
 leaf_tokens (empty q r) = open_token q ∷ close_token q ∷ []
+leaf_tokens (block w kept more) = k.Scalar style.Literal (w ++ line_ends kept) ∷ []
 
 abbrev mutual
   pub collection_tokens : Collection → List TokenType

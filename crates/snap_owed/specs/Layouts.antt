@@ -1,5 +1,5 @@
 -- How a tree may stand in a text: the tree, and all that its writer chose.
-use Rattle.std.specs.Prelude.{ℕ, List}
+use Rattle.std.specs.Prelude.{ℕ, List, Bool}
 use Rattle.snap_owed.specs.Forms.{Brackets}
 
 -- a line's end: LF, or CR LF
@@ -43,10 +43,12 @@ pub data Scalar : Type 0 where
   bare : List ℕ → Scalar
   quote : Letters → Scalar
 
--- a scalar or an empty collection, and what follows it
+-- a scalar or an empty collection, and what follows it; or a literal block: its text without the line ends at its end, how many
+-- these are, and whether anything follows
 pub data Leaf : Type 0 where
   word : Scalar → Rest → Leaf
   empty : Brackets → Rest → Leaf
+  block : List ℕ → ℕ → Bool → Leaf
 
 mutual
   pub data Collection : Type 0 where

@@ -4,6 +4,8 @@ use Rattle.std.specs.Fmt.{signed_decimal}
 use Rattle.snap_content.specs.Plain.{Plain, null, bool, int, text, list, dict, Plains, no_items, item, Entries, no_entries, entry}
 use Rattle.snap_content.specs.Quotes.{needs_quotes}
 use Rattle.snap_content.specs.Spell.{spell_bool}
+use Rattle.snap_print.specs.Blocks.{Blocks, before_more, is_inside, core, kept_ends, as_block}
+use Rattle.snap_print.specs.Lines.{before_items, before_entries}
 use Rattle.snap_owed.specs.Forms as f
 
 abbrev pub text_scalar : List ℕ → f.Scalar
@@ -22,21 +24,29 @@ scalar_of (text s) = Some (text_scalar s)
 scalar_of (list _) = None
 scalar_of (dict _) = None
 
+-- an item or a value: a block, or another form
+abbrev pub child_of : Blocks → Option (List ℕ) → f.Form → f.Form
+child_of w None t = t
+child_of w (Some s) t = f.block (core s) (kept_ends s) (is_inside w)
+
 abbrev mutual
-  pub form_of : Plain → f.Form
-  form_of null = f.scalar (f.bare (126 ∷ []))
-  form_of (bool b) = f.scalar (f.bare (spell_bool b))
-  form_of (int z) = f.scalar (f.bare (signed_decimal z))
-  form_of (text s) = f.scalar (text_scalar s)
-  form_of (list no_items) = f.hollow f.square
-  form_of (list (item p ps)) = f.list (forms_of (form_of p) ps)
-  form_of (dict no_entries) = f.hollow f.curly
-  form_of (dict (entry k v es)) = f.dict (entries_of (entry_of (scalar_of k) (form_of k) (form_of v)) es)
+  pub form_of : Blocks → Plain → f.Form
+  form_of w null = f.scalar (f.bare (126 ∷ []))
+  form_of w (bool b) = f.scalar (f.bare (spell_bool b))
+  form_of w (int z) = f.scalar (f.bare (signed_decimal z))
+  form_of w (text s) = f.scalar (text_scalar s)
+  form_of w (list no_items) = f.hollow f.square
+  form_of w (list (item p ps)) = f.list (forms_of w (child_of (before_items w ps) (as_block (before_items w ps) p) (form_of (before_items w ps) p)) ps)
+  form_of w (dict no_entries) = f.hollow f.curly
+  form_of w (dict (entry k v es)) =
+      f.dict (entries_of w (entry_of (scalar_of k) (form_of (before_more w) k) (child_of (before_entries w es) (as_block (before_entries w es) v) (form_of (before_entries w es) v))) es)
 
-  pub forms_of : f.Form → Plains → f.Forms
-  forms_of first no_items = f.last first
-  forms_of first (item p ps) = f.item first (forms_of (form_of p) ps)
+  pub forms_of : Blocks → f.Form → Plains → f.Forms
+  forms_of w first no_items = f.last first
+  forms_of w first (item p ps) = f.item first (forms_of w (child_of (before_items w ps) (as_block (before_items w ps) p) (form_of (before_items w ps) p)) ps)
 
-  pub entries_of : f.Entry → Entries → f.Entries
-  entries_of first no_entries = f.only first
-  entries_of first (entry k v es) = f.pair first (entries_of (entry_of (scalar_of k) (form_of k) (form_of v)) es)
+  pub entries_of : Blocks → f.Entry → Entries → f.Entries
+  entries_of w first no_entries = f.only first
+  entries_of w first (entry k v es) =
+      f.pair first
+      (entries_of w (entry_of (scalar_of k) (form_of (before_more w) k) (child_of (before_entries w es) (as_block (before_entries w es) v) (form_of (before_entries w es) v))) es)

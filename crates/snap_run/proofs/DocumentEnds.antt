@@ -2,6 +2,7 @@
 use Rattle.snap_run.proofs.Prelude.{◌≡◌, ◌&&◌, not, inl, inr, ℕ, List, [], ◌∷◌, ◌++◌, map, Option, Some, refl, sym, ap, ◌∙◌, subst, Result, Ok, Err, encode_utf8_all, append-nil, empty, get, Rose, Files, HoldsFront, asked_path, verdict_of, is_failure, RequestView, Spells, ReadsAs, RunWords, place_by, settings_by, printed_by, asked_by, assertion_by, line_text, line_of, KeptBy, IsOwn, FaultIsOwn, words_of, Ran, AssertionStops, IsInWork, MemoryFails, LineFails, IsDocumentAnswered, CountedIf, is_store_fault, DocumentError, Outcome, Runner, step_keeps}
 use Rattle.std.specs.Result.{IfErr, IsErrAnd}
 use Rattle.snap_content.specs.Tree.{Tree}
+use Rattle.snap_print.specs.Blocks.{blocks_if}
 use Rattle.snap_select.specs.Put.{Objects}
 use Rattle.snap_select.specs.declared.replacement.Replacement.{Replacement}
 use Rattle.snap_select.specs.declared.selector.Selector.{Selector}
@@ -33,13 +34,13 @@ pub answered_in_work : (words : RunWords) (document : List ℕ) (outcome : Outco
 answered_in_work words document outcome f g d = inr (record {
   request = d.answer.request;
   reads = d.reads;
-  kept = λ m told. step_keeps words.update words.force_update (asked_by words.workspace d.answer.request) d.answer.passed m g (d.stands m told);
+  kept = λ m told. step_keeps words.update words.force_update (asked_by words d.answer.request) d.answer.passed m g (d.stands m told);
 })
 
 -- new settings and the place of a request ask at the path that the request asks at
-pub path_is : (settings : SettingsView) (place : PlaceView) (workspace : List ℕ) (r : RequestView) → settings ≡ settings_by r → place ≡ place_by workspace r
-    → asked_path settings place r.name ≡ (asked_by workspace r).path
-path_is settings place workspace r new is = ap (λ s. asked_path s place r.name) new ∙ ap (λ p. asked_path (settings_by r) p r.name) is
+pub path_is : (settings : SettingsView) (place : PlaceView) (words : RunWords) (r : RequestView) → settings ≡ settings_by r → place ≡ place_by words.workspace r
+    → asked_path settings place r.name ≡ (asked_by words r).path
+path_is settings place words r new is = ap (λ s. asked_path s place r.name) new ∙ ap (λ p. asked_path (settings_by r) p r.name) is
 
 -- what is printed with the redactions of a request is what the request prints
 pub printed_is : {X : Type 0} {P : X → Type 0} {Y : Type 0} {Q : Y → Type 0} {g : _} (objects : Objects X P) (settings : Settings X Y P Q g)
@@ -50,17 +51,17 @@ printed_is objects settings ps r out new are same prints =
     ∙ ap (λ s. redacted_by (replacements_of ps) (sorted_where s.sort_maps r.value)) new
     ∙ ap (λ rs. redacted_by rs (sorted_where r.sort r.value)) (sym same)
 
-pub assertion_is : (settings : SettingsView) (place : PlaceView) (workspace : List ℕ) (r : RequestView) (printed : Tree) → settings ≡ settings_by r
-    → place ≡ place_by workspace r → printed ≡ printed_by r → assertion_of settings place r.name printed ≡ assertion_by workspace r
-assertion_is settings place workspace r printed new is same =
-    ap (λ s. assertion_of s place r.name printed) new ∙ ap (λ p. assertion_of (settings_by r) p r.name printed) is
-    ∙ ap (λ t. assertion_of (settings_by r) (place_by workspace r) r.name t) same
+pub assertion_is : (settings : SettingsView) (place : PlaceView) (words : RunWords) (r : RequestView) (printed : Tree) → settings ≡ settings_by r
+    → place ≡ place_by words.workspace r → printed ≡ printed_by r → assertion_of (blocks_if words.literal) settings place r.name printed ≡ assertion_by words r
+assertion_is settings place words r printed new is same =
+    let made : SettingsView → PlaceView → Tree → Assertion = λ s p t. assertion_of (blocks_if words.literal) s p r.name t in
+    ap (λ s. made s place printed) new ∙ ap (λ p. made (settings_by r) p printed) is ∙ ap (made (settings_by r) (place_by words.workspace r)) same
 
 one_verdict : (answer : Result Verdict AssertError) (a b : Verdict) → answer ≡ Ok a → answer ≡ Ok b → a ≡ b
 one_verdict answer a b is also = cc
 
 pub document_answered : (runner : Runner) (document : List ℕ) (r : RequestView) (assertion : Assertion) (outcome : Outcome) (f g : Option Files)
-    → ReadsAs document r → assertion ≡ assertion_by runner.workspace r → IsAnswered runner.config assertion outcome f g empty_session empty_session
+    → ReadsAs document r → assertion ≡ assertion_by (words_of runner) r → IsAnswered runner.config assertion outcome f g empty_session empty_session
     → IsDocumentAnswered (words_of runner) document outcome f g
 document_answered runner document r assertion outcome f g reads is x =
     let says : verdict_of runner.config.update x.passed ≡ outcome.verdict =
@@ -71,12 +72,12 @@ document_answered runner document r assertion outcome f g reads is x =
       verdict = sym says;
       fails = x.fails ∙ ap (λ v. is_failure v && not runner.config.force_pass) (sym says);
       path = x.path ∙ ap (λ a. (asked_in a empty_session).path) is;
-      allowed = λ m e. subst (λ a. May x.passed (get m (asked_in a empty_session).path) (asked_in a empty_session).tree) is (x.allowed m e);
+      allowed = λ m e. subst (λ a. May x.passed (get m (asked_in a empty_session).path) (asked_in a empty_session).blocks (asked_in a empty_session).tree) is (x.allowed m e);
       stands = λ m e. x.stands m e ∙ ap (λ a. Some (left_by runner.config a x.passed m empty_session).files) is;
     }
 
 pub document_in_work : (runner : Runner) (document : List ℕ) (r : RequestView) (path : List ℕ) (f g : Option Files)
-    → ReadsAs document r → path ≡ (asked_by runner.workspace r).path → KeptBy runner.config.update path f g → IsInWork (words_of runner) document f g
+    → ReadsAs document r → path ≡ (asked_by (words_of runner) r).path → KeptBy runner.config.update path f g → IsInWork (words_of runner) document f g
 document_in_work runner document r path f g reads is kept =
     record { request = r; reads = reads; kept = subst (λ p. KeptBy runner.config.update p f g) is kept }
 
@@ -127,7 +128,7 @@ only_two before now refusal.JsonKey P cause file memory = absurd cause
 -- a document whose assertion is refused
 pub refused_stops : (runner : Runner) (document : List ℕ) (r : RequestView) (at : List ℕ) (f g : Option Files) (before now : ℕ) (refused : AssertError)
     → ErrorCause before now refused → FaultIsOwn runner.config.update at refused
-    → ReadsAs document r → at ≡ (asked_by runner.workspace r).path → KeptBy runner.config.update at f g → AssertionStops (words_of runner) (unanswered refused) document f g
+    → ReadsAs document r → at ≡ (asked_by (words_of runner) r).path → KeptBy runner.config.update at f g → AssertionStops (words_of runner) (unanswered refused) document f g
 unfolding document_in_work
 refused_stops runner document r at f g before now refused cause own reads is kept =
     let work : IsInWork (words_of runner) document f g = document_in_work runner document r at f g reads is kept in

@@ -6,3 +6,4 @@ mod DocumentEnds
 mod RunEnds
 mod RunKept
 mod Messages
+mod FlagWords

@@ -8,15 +8,15 @@ use Rattle.snap_run.specs.declared.document_error.DocumentError.TheVariants as e
 use Rattle.snap_run.specs.declared.status.Status.TheVariants as status
 
 -- one step, at one path
-kept_at_step : (words : RunWords) (a : Answer) (m : Files) → Keeps (is_written words.update (asked_by words.workspace a.request).path) (may_change words.update (asked_by words.workspace a.request).path) m (Some (step_of words a m))
-kept_at_step words a m = step_keeps words.update words.force_update (asked_by words.workspace a.request) a.passed m _ refl
+kept_at_step : (words : RunWords) (a : Answer) (m : Files) → Keeps (is_written words.update (asked_by words a.request).path) (may_change words.update (asked_by words a.request).path) m (Some (step_of words a m))
+kept_at_step words a m = step_keeps words.update words.force_update (asked_by words a.request) a.passed m _ refl
 
-step_unwritten : (words : RunWords) (a : Answer) (m : Files) (q : List ℕ) → is_written words.update (asked_by words.workspace a.request).path q ≡ false → IsKeptOrGone (get m q) (get (step_of words a m) q)
+step_unwritten : (words : RunWords) (a : Answer) (m : Files) (q : List ℕ) → is_written words.update (asked_by words a.request).path q ≡ false → IsKeptOrGone (get m q) (get (step_of words a m) q)
 step_unwritten words a m q h =
     let k = kept_at_step words a m in
     subst (λ f. IsKeptOrGone (get m q) (get f q)) (sym (some_same (step_of words a m) k.files k.told)) (k.unwritten q h)
 
-step_other : (words : RunWords) (a : Answer) (m : Files) (q : List ℕ) → may_change words.update (asked_by words.workspace a.request).path q ≡ false → get (step_of words a m) q ≡ get m q
+step_other : (words : RunWords) (a : Answer) (m : Files) (q : List ℕ) → may_change words.update (asked_by words a.request).path q ≡ false → get (step_of words a m) q ≡ get m q
 step_other words a m q h =
     let k = kept_at_step words a m in
     ap (λ f. get f q) (some_same (step_of words a m) k.files k.told) ∙ k.others q h

@@ -1,10 +1,12 @@
 -- The answers of a run: its requests in turn, what they leave and the lines that tell of them.
-use Rattle.std.specs.Prelude.{◌&&◌, ◌||◌, ℕ, Bool, true, false, not, List, [], ◌∷◌, ◌++◌, codes, encode_utf8_all, Option, None, Some, if◌then◌else◌}
+use Rattle.std.specs.Prelude.{◌&&◌, ◌||◌, ℕ, Bool, true, false, not, List, [], ◌∷◌, ◌++◌, codes, encode_utf8_all, Option, None, Some, option_and_then, if◌then◌else◌}
+use Rattle.std.specs.List.{list_any}
 use Rattle.std.specs.Str.{bytes_eq}
 use Rattle.std.specs.FinMap.{get}
 use Rattle.snap_content.specs.Spell.{spell_text}
 use Rattle.snap_content.specs.Tree.{Tree}
 use Rattle.snap_outside.specs.Files.{Files}
+use Rattle.snap_print.specs.Blocks.{blocks_if}
 use Rattle.snap_settings.specs.Replaced.{redacted_by}
 use Rattle.snap_settings.specs.Settings.{SettingsView, new_settings, sorted_where}
 use Rattle.snap_place.specs.Place.{PlaceView}
@@ -26,6 +28,7 @@ pub record RunWords : Type 0 where
   pub update : Update
   pub force_update : Bool
   pub force_pass : Bool
+  pub literal : Bool
 
 -- the modes
 abbrev pub mode_of : List ℕ → Option Update
@@ -35,8 +38,8 @@ mode_of word =
     else if bytes_eq word (codes "no") then Some NoUpdate
     else None
 
-abbrev pub flags_of : Bool → Bool → Flags
-flags_of force_update force_pass = record { force_update = force_update; force_pass = force_pass }
+abbrev pub no_flags : Flags
+no_flags = record { force_update = false; force_pass = false; literal = false }
 
 abbrev pub is_force : List ℕ → Bool
 is_force word = bytes_eq word (codes "--force")
@@ -44,19 +47,51 @@ is_force word = bytes_eq word (codes "--force")
 abbrev pub is_force_pass : List ℕ → Bool
 is_force_pass word = bytes_eq word (codes "--force-pass")
 
-abbrev pub one_flag : List ℕ → Option Flags
-one_flag word = if is_force word then Some (flags_of true false) else if is_force_pass word then Some (flags_of false true) else None
+abbrev pub is_literal : List ℕ → Bool
+is_literal word = bytes_eq word (codes "--literal")
 
--- none, one, or both in either order
+-- a flag more, where it is one that is not set yet
+abbrev pub with_flag : List ℕ → Flags → Option Flags
+with_flag word flags =
+    if is_force word && not flags.force_update then Some (record flags { force_update = true })
+    else if is_force_pass word && not flags.force_pass then Some (record flags { force_pass = true })
+    else if is_literal word && not flags.literal then Some (record flags { literal = true })
+    else None
+
+-- the flags and those of the words, each in turn
+abbrev pub with_flags : Flags → List (List ℕ) → Option Flags
+with_flags flags [] = Some flags
+with_flags flags (word ∷ words) = option_and_then (λ more. with_flags more words) (with_flag word flags)
+
+-- each flag stands at most once, in any order; law `flags_are_what_stands` says which are set
 abbrev pub flags_mean : List (List ℕ) → Option Flags
-flags_mean [] = Some (flags_of false false)
-flags_mean (word ∷ []) = one_flag word
-flags_mean (first ∷ second ∷ []) =
-    if (is_force first && is_force_pass second) || (is_force second && is_force_pass first) then Some (flags_of true true) else None
-flags_mean (first ∷ second ∷ third ∷ more) = None
+flags_mean words = with_flags no_flags words
+
+-- the word stands among others
+abbrev pub stands : List ℕ → List (List ℕ) → Bool
+stands word words = list_any (λ other. bytes_eq other word) words
+
+-- each is a flag, and none stands twice
+abbrev pub are_flags : List (List ℕ) → Bool
+are_flags [] = true
+are_flags (word ∷ words) = (is_force word || (is_force_pass word || is_literal word)) && (not (stands word words) && are_flags words)
+
+-- those are set that stand among the words
+abbrev pub flags_told : List (List ℕ) → Flags
+flags_told words = record {
+  force_update = stands (codes "--force") words;
+  force_pass = stands (codes "--force-pass") words;
+  literal = stands (codes "--literal") words;
+}
 
 abbrev pub words_at : List ℕ → Update → Flags → RunWords
-words_at workspace update flags = record { workspace = workspace; update = update; force_update = flags.force_update; force_pass = flags.force_pass }
+words_at workspace update flags = record {
+  workspace = workspace;
+  update = update;
+  force_update = flags.force_update;
+  force_pass = flags.force_pass;
+  literal = flags.literal;
+}
 
 abbrev pub said_of : List ℕ → Option Update → Option Flags → Option RunWords
 said_of workspace (Some mode) (Some flags) = Some (words_at workspace mode flags)
@@ -95,11 +130,11 @@ settings_by request = record new_settings { sort_maps = request.sort }
 abbrev pub printed_by : RequestView → Tree
 printed_by request = redacted_by request.redactions (sorted_where request.sort request.value)
 
-abbrev pub asked_by : List ℕ → RequestView → Asked
-asked_by workspace request = asked_of (settings_by request) (place_by workspace request) request.name (printed_by request)
+abbrev pub asked_by : RunWords → RequestView → Asked
+asked_by words request = asked_of (blocks_if words.literal) (settings_by request) (place_by words.workspace request) request.name (printed_by request)
 
-abbrev pub assertion_by : List ℕ → RequestView → Assertion
-assertion_by workspace request = assertion_of (settings_by request) (place_by workspace request) request.name (printed_by request)
+abbrev pub assertion_by : RunWords → RequestView → Assertion
+assertion_by words request = assertion_of (blocks_if words.literal) (settings_by request) (place_by words.workspace request) request.name (printed_by request)
 
 -- a request, and whether it passed
 pub record Answer : Type 0 where
@@ -112,11 +147,11 @@ requests_of (a ∷ more) = a.request ∷ requests_of more
 
 -- the files after one answer; no request opens a block, so nothing is remembered from one to the next
 abbrev pub step_of : RunWords → Answer → Files → Files
-step_of words a files = (assertion_step words.update words.force_update (assertion_by words.workspace a.request) a.passed files empty_session).files
+step_of words a files = (assertion_step words.update words.force_update (assertion_by words a.request) a.passed files empty_session).files
 
 -- whether a request may pass is decided by the file that stands at its path at that moment
 abbrev pub IsAllowed : RunWords → Answer → Files → Type 0
-IsAllowed words a files = May a.passed (get files (asked_by words.workspace a.request).path) (asked_by words.workspace a.request).tree
+IsAllowed words a files = May a.passed (get files (asked_by words a.request).path) (asked_by words a.request).blocks (asked_by words a.request).tree
 
 abbrev pub AreAllowed : RunWords → List Answer → Files → Type 0
 AreAllowed words [] files = Unit {0}
@@ -137,7 +172,7 @@ abbrev pub line_text : Verdict → List ℕ → List ℕ
 line_text verdict path = word_of verdict ++ (spell_text path ++ 10 ∷ [])
 
 abbrev pub line_of : RunWords → Answer → List ℕ
-line_of words a = encode_utf8_all (line_text (verdict_of words.update a.passed) (asked_by words.workspace a.request).path)
+line_of words a = encode_utf8_all (line_text (verdict_of words.update a.passed) (asked_by words a.request).path)
 
 abbrev pub lines_of : RunWords → List Answer → List ℕ
 lines_of words [] = []

@@ -16,7 +16,7 @@ AreRead (d ∷ ds) (r ∷ rs) = ReadsAs d r × AreRead ds rs
 
 -- the path fails the test for the request
 abbrev pub IsSpared : RunWords → (Update → List ℕ → List ℕ → Bool) → List ℕ → RequestView → Type 0
-IsSpared words test q request = test words.update (asked_by words.workspace request).path q ≡ false
+IsSpared words test q request = test words.update (asked_by words request).path q ≡ false
 
 -- now is known, and requests were read: a file that the mode writes for none of them is as before or gone, and one that none may
 -- change as before

@@ -9,9 +9,9 @@ words_of runner = record {
   update = runner.config.update;
   force_update = runner.config.force_update;
   force_pass = runner.config.force_pass;
+  literal = runner.config.literal;
 }
 
 -- no flag that is not built
 pub record IsReady (runner : Runner) : Type 0 where
   pub loose : runner.config.require_full_match ≡ false
-  pub no_blocks : runner.config.literal ≡ false

@@ -30,12 +30,12 @@ pub record RanOne (words : RunWords) (document : List ℕ) (fails : Bool) (files
 pub record IsInWork (words : RunWords) (document : List ℕ) (files files' : Option Files) : Type 0 where
   pub request : RequestView
   pub reads : ReadsAs document request
-  pub kept : KeptBy words.update (asked_by words.workspace request).path files files'
+  pub kept : KeptBy words.update (asked_by words request).path files files'
 
 -- the store failed in that work at one of the request's own paths
 pub record FileFails (words : RunWords) (document named : List ℕ) (files files' : Option Files) : Type 0 where
   pub work : IsInWork words document files files'
-  pub own : IsOwn words.update (asked_by words.workspace work.request).path named
+  pub own : IsOwn words.update (asked_by words work.request).path named
 
 -- the document was run, and a part of its line is written
 pub record LineFails (words : RunWords) (document : List ℕ) (files files' : Option Files) (written written' : Option (List ℕ)) : Type 0 where
@@ -55,7 +55,7 @@ pub record IsDocumentAnswered (words : RunWords) (document : List ℕ) (outcome 
   pub reads : ReadsAs document answer.request
   pub verdict : outcome.verdict ≡ verdict_of words.update answer.passed
   pub fails : outcome.fails ≡ answer_fails words answer
-  pub path : outcome.path ≡ (asked_by words.workspace answer.request).path
+  pub path : outcome.path ≡ (asked_by words answer.request).path
   pub allowed : (m : Files) → files ≡ Some m → IsAllowed words answer m
   pub stands : (m : Files) → files ≡ Some m → files' ≡ Some (step_of words answer m)
 

@@ -32,7 +32,7 @@ impl Runner {
             force_update: flags.force_update,
             require_full_match: false,
             force_pass: flags.force_pass,
-            literal: false,
+            literal: flags.literal,
             run_id: Text::empty(),
         };
         let workspace = workspace.try_clone(alloc)?;

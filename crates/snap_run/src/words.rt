@@ -1,6 +1,6 @@
 //! The words of the command line.
-ghost use Rattle.std.specs.Prelude.{◌≡◌, ◌&&◌, None, Some, MatchOption};
-ghost use Rattle.snap_run.specs.Answers.{mode_of, is_force, is_force_pass, one_flag, flags_mean, words_mean, words_at};
+ghost use Rattle.std.specs.Prelude.{◌≡◌, None, Some, MatchOption};
+ghost use Rattle.snap_run.specs.Answers.{mode_of, with_flag, flags_mean, words_mean, words_at};
 
 use snap_content::Text;
 use snap_content::characters::is_same;
@@ -28,18 +28,24 @@ fn mode_in(word: &Text) -> Option<Update>
     }
 }
 
-fn flag_in(word: &Text) -> Option<Flags>
-    ensures { result ≡ one_flag word.now }
+/// The flags and one more, where the word is one that is not set yet.
+fn with_flag(word: &Text, flags: Flags) -> Option<Flags>
+    ensures { result ≡ with_flag word.now flags }
 {
-    if is_same(word.as_str(), "--force") {
+    if is_same(word.as_str(), "--force") && !flags.force_update {
         Some(Flags {
             force_update: true,
-            force_pass: false,
+            ..flags
         })
-    } else if is_same(word.as_str(), "--force-pass") {
+    } else if is_same(word.as_str(), "--force-pass") && !flags.force_pass {
         Some(Flags {
-            force_update: false,
             force_pass: true,
+            ..flags
+        })
+    } else if is_same(word.as_str(), "--literal") && !flags.literal {
+        Some(Flags {
+            literal: true,
+            ..flags
         })
     } else {
         None
@@ -50,31 +56,15 @@ fn flag_in(word: &Text) -> Option<Flags>
 fn flags_in(words: &[Text]) -> Option<Flags>
     ensures { result ≡ flags_mean words.now }
 {
-    match words {
-        [] => Some(Flags {
-            force_update: false,
-            force_pass: false,
-        }),
-        [word] => flag_in(word),
-        [first, second] => {
-            if is_both(first, second) || is_both(second, first) {
-                Some(Flags {
-                    force_update: true,
-                    force_pass: true,
-                })
-            } else {
-                None
-            }
-        }
-        _ => None,
+    let mut flags = Flags {
+        force_update: false,
+        force_pass: false,
+        literal: false,
+    };
+    for word in words {
+        flags = with_flag(word, flags)?;
     }
-}
-
-/// Whether these are the flags, in this order.
-fn is_both(force: &Text, force_pass: &Text) -> bool
-    ensures { result ≡ (is_force force.now && is_force_pass force_pass.now) }
-{
-    is_same(force.as_str(), "--force") && is_same(force_pass.as_str(), "--force-pass")
+    Some(flags)
 }
 
 /// What the words `run MODE WORKSPACE FLAG*` say.

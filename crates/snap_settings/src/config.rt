@@ -19,6 +19,8 @@ pub struct Flags {
     pub force_update: bool,
     /// `--force-pass`: no answer fails.
     pub force_pass: bool,
+    /// `--literal`: texts of several lines are written as literal blocks.
+    pub literal: bool,
 }
 
 /// How a run treats its assertions.

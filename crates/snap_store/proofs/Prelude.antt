@@ -10,13 +10,15 @@ pub use denote.Shadow.{shadow}
 pub use denote.Text.{Utf8}
 pub use Rattle.snap_content.proofs.Booleans.{or_left, or_right}
 pub use Rattle.snap_content.proofs.Views.{tree-Map}
-pub use Rattle.snap_content.specs.Lines.{document_of, text_of, lines_of, ended, behind, is_simple, indented, item_lines, entry_lines}
+pub use Rattle.snap_content.specs.Lines.{ended}
 pub use Rattle.snap_content.specs.Plain.{plain, text, int, dict, Entries, entry, no_entries, pair_entries, Plain, content_of, null, bool, list, no_items, item}
 pub use Rattle.snap_content.specs.Readable.{IsWithin}
 pub use Rattle.snap_content.specs.View.{tree, pair_list, pair_trees, Pairs}
 pub use Rattle.snap_content.specs.declared.content.Content.{Content, String, U32, Map, the_lemmas}
 pub use Rattle.snap_content.specs.declared.error.Error.{Error}
 pub use Rattle.snap_outside.specs.Files.{Files, SameBut}
+pub use Rattle.snap_print.specs.Blocks.{Blocks}
+pub use Rattle.snap_print.specs.Lines.{document_of, text_of, lines_of}
 pub use Rattle.snap_str.specs.Lines.{ended_lines, onto}
 pub use Rattle.snap_text.specs.Lines.{is_line_end, IsUnbroken}
 pub use Rattle.snap_store.specs.Fields.{is_text, binary_kind, is_named, later_or, last_value, is_filled, last_filled, text_value, line_value, is_binary, kind_in, fields}

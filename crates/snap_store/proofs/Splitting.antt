@@ -1,12 +1,18 @@
 -- A file that is made of two printed texts falls into them again.
-use Rattle.snap_store.proofs.Prelude.{◌≡◌, ◌==◌, ℕ, List, [], ◌∷◌, ◌++◌, Bool, true, false, ◌||◌, cond, codes, map, refl, sym, ap, ◌∙◌, append_assoc, append-nil, subst, drop, list_any, flat_map, bytes_eq, Plain, null, bool, int, text, list, dict, no_items, item, no_entries, entry, lines_of, text_of, document_of, ended, behind, is_simple, indented, item_lines, entry_lines, is_line_end, IsUnbroken, ended_lines, line_of, joined_lines, up_to_fence, past_fence, header_text, lines_text, first_is_fence, is_headed, file_text, FallsInto, or_left, or_right, concat}
+use Rattle.snap_store.proofs.Prelude.{◌≡◌, ◌==◌, ℕ, List, [], ◌∷◌, ◌++◌, Bool, true, false, ◌||◌, cond, codes, map, refl, sym, ap, ◌∙◌, append_assoc, append-nil, subst, drop, list_any, flat_map, bytes_eq, Option, None, Some, Plain, null, bool, int, text, list, dict, no_items, item, no_entries, entry, lines_of, text_of, document_of, ended, is_line_end, IsUnbroken, ended_lines, line_of, joined_lines, up_to_fence, past_fence, header_text, lines_text, first_is_fence, is_headed, file_text, FallsInto, or_left, or_right, concat}
 use Rattle.std.proofs.lemmas.Slice.Eq.{bytes_eq-Decides}
-use Rattle.snap_content.specs.Printed.{IsLine, AreLines, is_break, begins_dashes}
+use Rattle.snap_print.specs.Blocks.{Blocks, before_more, as_block, kept_ends, block_sign}
+use Rattle.snap_print.specs.Lines.{behind, marked, keyed, block_lines, is_simple, indented, before_items, before_entries, item_lines, entry_lines}
+use Rattle.snap_print.specs.Printed.{IsRow, AreRows, is_break, begins_dashes}
 use Rattle.snap_content.specs.Spell.{spelling, is_flat}
 use Rattle.snap_store.proofs.Pieces.{pieces-line}
 use Rattle.snap_store.proofs.LineEnds.{ended_by_feed}
 use Rattle.snap_store.proofs.Bodies.{body-headed}
-use Rattle.snap_text.proofs.Trimming.{trimmed-push, trimmed-well}
+use Rattle.snap_content.proofs.Booleans.{and_nothing}
+use Rattle.snap_literal.specs.Normal.{before_trimmed}
+use Rattle.snap_text.proofs.Trimming.{trimmed-push}
+use Rattle.snap_text.specs.Normal.{trimmed}
+use Rattle.std.specs.Char.{is_whitespace}
 use Rattle.snap_store.specs.FileSplit.{is_fence}
 
 -- a line holds no LF, and ends in no CR
@@ -20,33 +26,50 @@ no_return : (front : List ℕ) → list_any is_break (front ++ 13 ∷ []) ≡ fa
 no_return [] h = cc
 no_return (c ∷ cs) h = no_return cs (or_right (is_break c) (list_any is_break (cs ++ 13 ∷ [])) h)
 
-line-ended : (line : List ℕ) → IsLine line → line_of (ended line) ≡ line
+line-ended : (line : List ℕ) → IsRow line → line_of (ended line) ≡ line
 line-ended line h = ended_by_feed line (λ front e. no_return front (ap (list_any is_break) (sym e) ∙ h.unbroken))
 
--- no line is a fence
+-- no row is a fence, whatever white space ends it
+alone_dashes : (c : ℕ) (b : Bool) → begins_dashes (cond b [] (c ∷ [])) ≡ false
+alone_dashes c true = refl
+alone_dashes c false = and_nothing (c == 45)
+
+trimmed_dashes : (line : List ℕ) → begins_dashes line ≡ false → begins_dashes (trimmed line) ≡ false
+trimmed_dashes [] h = refl
+trimmed_dashes (c ∷ []) h = alone_dashes c (is_whitespace c)
+trimmed_dashes (c ∷ d ∷ ds) h = by (trimmed ds)
+  where
+    two : (b : Bool) → begins_dashes (before_trimmed c (cond b [] (d ∷ []))) ≡ false
+    two true = alone_dashes c (is_whitespace c)
+    two false = h
+
+    by : (x : List ℕ) → begins_dashes (before_trimmed c (before_trimmed d x)) ≡ false
+    by [] = two (is_whitespace d)
+    by (x ∷ xs) = h
+
 no_dashes : (line : List ℕ) → begins_dashes line ≡ false → (same : Bool) → bytes_eq line (codes "---") ≡ same → same ≡ false
 no_dashes line h true is = absurd (let e = ap begins_dashes (sym ((bytes_eq-Decides line (codes "---")).0 is)) ∙ h in cc (e))
 no_dashes line h false is = refl
 
-no_fence : (line : List ℕ) → IsLine line → is_fence (ended line) ≡ false
+no_fence : (line : List ℕ) → IsRow line → is_fence (ended line) ≡ false
 no_fence line h =
-    ap (λ t. bytes_eq t (codes "---")) (trimmed-push line 10 refl ∙ trimmed-well line h.trimmed)
-    ∙ no_dashes line h.no_dashes (bytes_eq line (codes "---")) refl
+    ap (λ t. bytes_eq t (codes "---")) (trimmed-push line 10 refl)
+    ∙ no_dashes (trimmed line) (trimmed_dashes line h.no_dashes) (bytes_eq (trimmed line) (codes "---")) refl
 
 -- the pieces of lines are those lines with their ends
-pub pieces-lines : (lines : List (List ℕ)) (more : List ℕ) → AreLines lines → ended_lines (flat_map ended lines ++ more) ≡ map ended lines ++ ended_lines more
+pub pieces-lines : (lines : List (List ℕ)) (more : List ℕ) → AreRows lines → ended_lines (flat_map ended lines ++ more) ≡ map ended lines ++ ended_lines more
 pieces-lines [] more h = refl
 pieces-lines (line ∷ lines) more h =
     ap ended_lines (append_assoc (ended line) (flat_map ended lines) more ∙ append_assoc line (10 ∷ []) (flat_map ended lines ++ more))
     ∙ pieces-line line (flat_map ended lines ++ more) (unbroken_line line h.0.unbroken)
     ∙ ap (λ ps. ended line ∷ ps) (pieces-lines lines more h.1)
 
-up_to : (lines more : List (List ℕ)) → AreLines lines → up_to_fence (map ended lines ++ codes "---\n" ∷ more) ≡ map ended lines
+up_to : (lines more : List (List ℕ)) → AreRows lines → up_to_fence (map ended lines ++ codes "---\n" ∷ more) ≡ map ended lines
 up_to [] more h = refl
 up_to (line ∷ lines) more h =
     ap (λ b. cond b [] (ended line ∷ up_to_fence (map ended lines ++ codes "---\n" ∷ more))) (no_fence line h.0) ∙ ap (λ ps. ended line ∷ ps) (up_to lines more h.1)
 
-past : (lines more : List (List ℕ)) → AreLines lines → past_fence (map ended lines ++ codes "---\n" ∷ more) ≡ more
+past : (lines more : List (List ℕ)) → AreRows lines → past_fence (map ended lines ++ codes "---\n" ∷ more) ≡ more
 past [] more h = refl
 past (line ∷ lines) more h =
     ap (λ b. cond b (map ended lines ++ codes "---\n" ∷ more) (past_fence (map ended lines ++ codes "---\n" ∷ more))) (no_fence line h.0) ∙ past lines more h.1
@@ -55,7 +78,7 @@ concat-ended : (lines : List (List ℕ)) → concat (map ended lines) ≡ flat_m
 concat-ended [] = refl
 concat-ended (line ∷ lines) = ap (λ t. ended line ++ t) (concat-ended lines)
 
-lines-ended : (lines : List (List ℕ)) → AreLines lines → map line_of (map ended lines) ≡ lines
+lines-ended : (lines : List (List ℕ)) → AreRows lines → map line_of (map ended lines) ≡ lines
 lines-ended [] h = refl
 lines-ended (line ∷ lines) h = ap (λ l. l ∷ map line_of (map ended lines)) (line-ended line h.0) ∙ ap (λ ls. line ∷ ls) (lines-ended lines h.1)
 
@@ -65,7 +88,7 @@ joined-ended line (next ∷ lines) =
     append_assoc line (10 ∷ joined_lines (next ∷ lines)) (10 ∷ []) ∙ ap (λ t. line ++ 10 ∷ t) (joined-ended next lines)
     ∙ sym (append_assoc line (10 ∷ []) (flat_map ended (next ∷ lines)))
 
-pub lines-split : (header : List (List ℕ)) (line : List ℕ) (lines : List (List ℕ)) → AreLines header → AreLines (line ∷ lines)
+pub lines-split : (header : List (List ℕ)) (line : List ℕ) (lines : List (List ℕ)) → AreRows header → AreRows (line ∷ lines)
     → FallsInto ((codes "---\n" ++ flat_map ended header) ++ codes "---\n" ++ flat_map ended (line ∷ lines)) (codes "---\n" ++ flat_map ended header) (flat_map ended (line ∷ lines))
 lines-split header line lines h k =
     let body = flat_map ended (line ∷ lines) in
@@ -100,29 +123,44 @@ behind_line mark lines more h = record {
   is = ap (λ ls. behind mark ls ++ more) h.is;
 }
 
-entry_line : (simple flat : Bool) (key value : List ℕ) (key_lines value_lines more : List (List ℕ)) → HasLine key_lines
-    → HasLine (cond simple (cond flat ((key ++ 58 ∷ 32 ∷ value) ∷ []) ((key ++ 58 ∷ []) ∷ map indented value_lines)) (behind 63 key_lines ++ behind 58 value_lines) ++ more)
-entry_line true true key value key_lines value_lines more h = record { first = key ++ 58 ∷ 32 ∷ value; others = more; is = refl }
-entry_line true false key value key_lines value_lines more h = record { first = key ++ 58 ∷ []; others = map indented value_lines ++ more; is = refl }
-entry_line false flat key value key_lines value_lines more h =
-    let both = behind_line 63 key_lines (behind 58 value_lines ++ more) h in
-    record { first = both.first; others = both.others; is = append_assoc (behind 63 key_lines) (behind 58 value_lines) more ∙ both.is }
+marked_line : (w : Blocks) (mark : ℕ) (o : Option (List ℕ)) (lines more : List (List ℕ)) → HasLine lines → HasLine (marked w mark o lines ++ more)
+marked_line w mark None lines more h = behind_line mark lines more h
+marked_line w mark (Some s) lines more h = record { first = mark ∷ 32 ∷ block_sign (kept_ends s); others = block_lines w s ++ more; is = refl }
 
-pub has_line : (t : Plain) → HasLine (lines_of t)
-has_line null = record { first = codes "~"; others = []; is = refl }
-has_line (bool b) = record { first = spelling (bool b); others = []; is = refl }
-has_line (int z) = record { first = spelling (int z); others = []; is = refl }
-has_line (text s) = record { first = spelling (text s); others = []; is = refl }
-has_line (list no_items) = record { first = codes "[]"; others = []; is = refl }
-has_line (list (item t ts)) = behind_line 45 (lines_of t) (item_lines ts) (has_line t)
-has_line (dict no_entries) = record { first = codes "{}"; others = []; is = refl }
-has_line (dict (entry k v es)) = entry_line (is_simple k) (is_flat v) (spelling k) (spelling v) (lines_of k) (lines_of v) (entry_lines es) (has_line k)
+flat_line : (flat : Bool) (key value : List ℕ) (lines more : List (List ℕ)) → HasLine (cond flat ((key ++ 58 ∷ 32 ∷ value) ∷ []) ((key ++ 58 ∷ []) ∷ map indented lines) ++ more)
+flat_line true key value lines more = record { first = key ++ 58 ∷ 32 ∷ value; others = more; is = refl }
+flat_line false key value lines more = record { first = key ++ 58 ∷ []; others = map indented lines ++ more; is = refl }
+
+keyed_line : (w : Blocks) (key : List ℕ) (v : Plain) (o : Option (List ℕ)) (lines more : List (List ℕ)) → HasLine (keyed w key v o lines ++ more)
+keyed_line w key v None lines more = flat_line (is_flat v) key (spelling v) lines more
+keyed_line w key v (Some s) lines more = record { first = key ++ 58 ∷ 32 ∷ block_sign (kept_ends s); others = block_lines w s ++ more; is = refl }
+
+entry_line : (simple : Bool) (w : Blocks) (key : List ℕ) (v : Plain) (o : Option (List ℕ)) (key_lines lines more : List (List ℕ)) → HasLine key_lines
+    → HasLine (cond simple (keyed w key v o lines) (behind 63 key_lines ++ marked w 58 o lines) ++ more)
+entry_line true w key v o key_lines lines more h = keyed_line w key v o lines more
+entry_line false w key v o key_lines lines more h =
+    let both = behind_line 63 key_lines (marked w 58 o lines ++ more) h in
+    record { first = both.first; others = both.others; is = append_assoc (behind 63 key_lines) (marked w 58 o lines) more ∙ both.is }
+
+pub has_line : (w : Blocks) (t : Plain) → HasLine (lines_of w t)
+has_line w null = record { first = codes "~"; others = []; is = refl }
+has_line w (bool b) = record { first = spelling (bool b); others = []; is = refl }
+has_line w (int z) = record { first = spelling (int z); others = []; is = refl }
+has_line w (text s) = record { first = spelling (text s); others = []; is = refl }
+has_line w (list no_items) = record { first = codes "[]"; others = []; is = refl }
+has_line w (list (item t ts)) =
+    let u = before_items w ts in
+    marked_line u 45 (as_block u t) (lines_of u t) (item_lines w ts) (has_line u t)
+has_line w (dict no_entries) = record { first = codes "{}"; others = []; is = refl }
+has_line w (dict (entry k v es)) =
+    let u = before_entries w es in
+    entry_line (is_simple k) u (spelling k) v (as_block u v) (lines_of (before_more w) k) (lines_of u v) (entry_lines w es) (has_line (before_more w) k)
 
 -- the file of a header and a body that are printed falls into both
-pub file-split : (header body : Plain) → AreLines (lines_of header) → AreLines (lines_of body)
-    → FallsInto (file_text header body) (document_of header) (text_of body)
-file-split header body h k =
-    let filled = has_line body in
-    let P : List (List ℕ) → Type 0 = λ lines. FallsInto (document_of header ++ codes "---\n" ++ flat_map ended lines) (document_of header) (flat_map ended lines) in
-    let Q : List (List ℕ) → Type 0 = λ lines. AreLines lines in
-    subst P (sym filled.is) (lines-split (lines_of header) filled.first filled.others h (subst Q filled.is k))
+pub file-split : (v w : Blocks) (header body : Plain) → AreRows (lines_of v header) → AreRows (lines_of w body)
+    → FallsInto (file_text v header w body) (document_of v header) (text_of w body)
+file-split v w header body h k =
+    let filled = has_line w body in
+    let P : List (List ℕ) → Type 0 = λ lines. FallsInto (document_of v header ++ codes "---\n" ++ flat_map ended lines) (document_of v header) (flat_map ended lines) in
+    let Q : List (List ℕ) → Type 0 = λ lines. AreRows lines in
+    subst P (sym filled.is) (lines-split (lines_of v header) filled.first filled.others h (subst Q filled.is k))

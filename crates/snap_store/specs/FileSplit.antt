@@ -4,8 +4,9 @@ use Rattle.std.specs.Option.{option_or}
 use Rattle.std.specs.Char.{is_whitespace, to_ascii_lowercase}
 use Rattle.std.specs.List.{concat}
 use Rattle.std.specs.Str.{bytes_eq}
-use Rattle.snap_content.specs.Lines.{document_of, text_of}
 use Rattle.snap_content.specs.Plain.{Plain}
+use Rattle.snap_print.specs.Blocks.{Blocks}
+use Rattle.snap_print.specs.Lines.{document_of, text_of}
 use Rattle.snap_str.specs.Lines.{ended_lines}
 use Rattle.snap_text.specs.Normal.{trimmed}
 
@@ -119,6 +120,6 @@ pub record FallsInto (text header body : List ℕ) : Type 0 where
   pub header_is : header_of text ≡ header
   pub body_is : body_of text ++ 10 ∷ [] ≡ body
 
--- a file of a header and a body that are printed
-abbrev pub file_text : Plain → Plain → List ℕ
-file_text header body = document_of header ++ codes "---\n" ++ text_of body
+-- a file of a header and a body that are printed, each with literal blocks or without
+abbrev pub file_text : Blocks → Plain → Blocks → Plain → List ℕ
+file_text v header w body = document_of v header ++ codes "---\n" ++ text_of w body

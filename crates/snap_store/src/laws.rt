@@ -1,8 +1,10 @@
 //! Laws of snapshots.
-ghost use Rattle.std.specs.Prelude.{◌≡◌, ◌<◌, ◌^◌, ℕ, List, IfSome};
-ghost use Rattle.snap_content.specs.Lines.{text_of};
+ghost use Rattle.std.specs.Prelude.{◌≡◌, ◌<◌, ◌^◌, ℕ, List, IfSome, true};
 ghost use Rattle.snap_content.specs.Plain.{Plain, plain};
 ghost use Rattle.snap_content.specs.Readable.{IsWithin};
+ghost use Rattle.snap_print.specs.Blocks.{Blocks};
+ghost use Rattle.snap_print.specs.Lines.{text_of};
+ghost use Rattle.snap_print.specs.Printed.{is_trimmed};
 ghost use Rattle.snap_text.specs.Normal.{normal};
 ghost use Rattle.snap_store.specs.Agreement.{Agree};
 ghost use Rattle.snap_store.specs.Image.{file_of, saved_text};
@@ -16,11 +18,12 @@ pub const fn agreement_goes_both_ways()
     ensures symmetric { (a b : SnapshotContents) → Agree a b → Agree b a }
 {}
 
-/// A text whose normal form is that of a printed tree is saved as the file of that tree, without the line of its assertion.
+/// A text whose normal form is that of a printed tree is saved as the file of that tree, without the line of its assertion,
+/// where the tree was printed for a place at which white space at the end is lost.
 pub const fn an_agreeing_text_is_saved_as_the_tree()
-    ensures { (meta : Meta) (raw : List ℕ) (p : Plain) → IsWithin p
-        → normal raw ≡ normal (text_of p)
-        → saved_text meta raw ≡ file_of (header_tree (without_line meta)) p }
+    ensures { (meta : Meta) (raw : List ℕ) (w : Blocks) (p : Plain) → is_trimmed w ≡ true
+        → IsWithin p → normal raw ≡ normal (text_of w p)
+        → saved_text meta raw ≡ file_of (header_tree (without_line meta)) w p }
 {}
 
 /// The tree that metadata are made as tells them again, but for a nil info.

@@ -8,7 +8,8 @@ ghost use Rattle.snap_store.specs.Image.{text_under, saved_text, pending_path};
 ghost use Rattle.snap_store.specs.Reading.{SaveEnd};
 ghost use Rattle.snap_store.specs.Meta.{Meta, header_tree};
 ghost use Rattle.snap_store.specs.Views.{meta_in, meta_of, contents_in, text_in};
-ghost use Rattle.snap_content.specs.Lines.{document_of};
+ghost use Rattle.snap_print.specs.Blocks.{off};
+ghost use Rattle.snap_print.specs.Lines.{document_of};
 
 use crate::contents::SnapshotContents;
 use crate::header::header_content;
@@ -89,9 +90,9 @@ fn write_text<S: Store>(alloc: Global, store: &mut S, path: &Text, text: &Text) 
     }
 }
 
-/// The text of the header of these metadata. The line of the assertion is the one given.
+/// The text of the header of these metadata, which has no literal blocks. The line of the assertion is the one given.
 fn header_text(alloc: Global, metadata: &MetaData, line: Option<u32>) -> Result<Text, OutOfMemory>
-    ensures { IfOk result (λ text. text ≡ document_of
+    ensures { IfOk result (λ text. text ≡ document_of off
         (header_tree (record (meta_of metadata.now) { assertion_line = line }))) }
 {
     let header = header_content(alloc, metadata, line)?;

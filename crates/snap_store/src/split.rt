@@ -5,9 +5,10 @@ ghost use Rattle.std.specs.Str.{chars};
 ghost use Rattle.snap_str.specs.Lines.{ended_lines};
 ghost use Rattle.snap_store.specs.FileSplit.{is_fence, line_of, lines_text, up_to_fence, past_fence, is_headed, FallsInto, file_text};
 ghost use Rattle.snap_store.specs.Split.{IsSplit};
-ghost use Rattle.snap_content.specs.Lines.{lines_of, text_of, document_of};
 ghost use Rattle.snap_content.specs.Plain.{Plain};
-ghost use Rattle.snap_content.specs.Printed.{AreLines};
+ghost use Rattle.snap_print.specs.Blocks.{Blocks};
+ghost use Rattle.snap_print.specs.Lines.{lines_of, text_of, document_of};
+ghost use Rattle.snap_print.specs.Printed.{AreRows};
 
 use snap_content::characters::{is_same, split_last};
 use snap_content::{OutOfMemory, Text};
@@ -118,8 +119,9 @@ pub fn split_file(alloc: Global, text: &str) -> Result<Option<Headed>, OutOfMemo
     Ok(Some(Headed { header, body }))
 }
 
-/// A file of a printed header and a printed body falls into both again.
+/// A file of a printed header and a printed body falls into both again, whichever of them has literal blocks.
 pub const fn printed_files_split()
-    ensures { (header body : Plain) → AreLines (lines_of header) → AreLines (lines_of body)
-        → FallsInto (file_text header body) (document_of header) (text_of body) }
+    ensures { (v w : Blocks) (header body : Plain) → AreRows (lines_of v header)
+        → AreRows (lines_of w body)
+        → FallsInto (file_text v header w body) (document_of v header) (text_of w body) }
 {}

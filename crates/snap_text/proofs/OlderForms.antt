@@ -1,6 +1,8 @@
 -- The older form of printed texts is their normal form.
-use Rattle.snap_text.proofs.Prelude.{◌≡◌, ◌==◌, ◌||◌, ◌&&◌, ℕ, List, [], ◌∷◌, ◌++◌, Bool, true, false, cond, refl, sym, ap, ◌∙◌, list_any, flat_map, ended, IsLine, begins_dashes, is_break, normal, or_left}
+use Rattle.snap_text.proofs.Prelude.{◌≡◌, ◌==◌, ◌||◌, ◌&&◌, ℕ, List, [], ◌∷◌, ◌++◌, Bool, true, false, cond, refl, sym, ap, ◌∙◌, list_any, flat_map, subst, ended, Plain, IsWithin, Blocks, text_of, IsLine, AreRows, EndsWell, is_trimmed, begins_dashes, is_break, normal, or_left}
 use Rattle.snap_content.specs.Front.{begins}
+use Rattle.snap_print.proofs.Rows.{printed-first, printed-rows, printed-end}
+use Rattle.snap_text.proofs.NormalForms.{normal-rows}
 use Rattle.snap_text.specs.Legacy.{without_breaks, without_fence, legacy}
 
 or_swap : (a b : Bool) → (a || b) ≡ false → (b || a) ≡ false
@@ -43,7 +45,7 @@ older_is (x ∷ m) more rest f unbroken dashes e =
     ap (λ t. without_fence (cond t (without_breaks m) (x ∷ m))) no_break
     ∙ keeps_front x m (begins_same m more rest behind (x == 45) (ap (λ c. c == 45 && begins 45 more) is ∙ dashes))
 
--- a text of printed lines, which is its own normal form but for the end of its last line
+-- a text of lines the first of which is one, which is its own normal form but for the end of its last line
 pub legacy-lines : (line : List ℕ) (lines : List (List ℕ)) → IsLine line → normal (flat_map ended (line ∷ lines)) ++ 10 ∷ [] ≡ flat_map ended (line ∷ lines)
     → legacy (flat_map ended (line ∷ lines)) ≡ normal (flat_map ended (line ∷ lines))
 legacy-lines line lines h e =
@@ -51,3 +53,10 @@ legacy-lines line lines h e =
     (or_left (is_break h.first) (list_any is_break h.more) (ap (list_any is_break) (sym h.is) ∙ h.unbroken))
     (ap begins_dashes (sym h.is) ∙ h.no_dashes)
     (e ∙ ap (λ l. ended l ++ flat_map ended lines) h.is)
+
+-- a printed text, where the end is trimmed
+pub legacy-printed : (w : Blocks) (p : Plain) → is_trimmed w ≡ true → IsWithin p → legacy (text_of w p) ≡ normal (text_of w p)
+legacy-printed w p t h =
+    let f = printed-first p w h in
+    let P : List (List ℕ) → Type 0 = λ ls. legacy (flat_map ended ls) ≡ normal (flat_map ended ls) in
+    subst P (sym f.is) (legacy-lines f.first f.others f.line (normal-rows f.first f.others (subst AreRows f.is (printed-rows w p h)) (subst EndsWell f.is (printed-end w p t h))))

@@ -1,5 +1,6 @@
 use Rattle.snap_assert.proofs.Prelude.{◌∙◌, ◌++◌, ap, codes, settings_of, place_of}
 use Rattle.snap_place.proofs.FilePaths.{path_of-file}
+use Rattle.snap_assert.proofs.Below.{trimmed-if}
 use Rattle.snap_assert.proofs.prepare.prepare.Goals as goal
 
 pub returns : goal.returns
@@ -9,7 +10,8 @@ returns g c = record {
   pending = c.in_ok-push_ascii.ensures.ok ∙ ap (λ t. t ++ codes ".new") (c.in_ok-pending.ensures ∙ c.in_ok-path.ensures);
   printed = c.in_ok-snapshot.ensures.printed;
   in_file = c.in_ok-snapshot.ensures.in_file;
-  lines = c.in_ok-snapshot.ensures.lines;
+  trimmed = trimmed-if c.args.literal;
+  within = c.in_ok-snapshot.ensures.within;
   metadata = c.in_ok-snapshot.ensures.metadata;
   module_name = c.in_ok-snapshot.ensures.module_name;
   name = c.in_ok-snapshot.ensures.name;

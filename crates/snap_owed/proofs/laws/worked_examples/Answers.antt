@@ -28,4 +28,6 @@ returns c = record {
   );
   list_text = refl;
   list_free = (refl, (((refl, refl), (refl, ((refl, ((inr refl, refl), refl)), (tt, refl)))), ((seven, refl), (refl, (refl, refl, refl)))));
+  blocks_text = refl;
+  blocks_laid = (refl, ((refl, refl), (refl, (refl, refl))));
 }

@@ -22,7 +22,7 @@ returns-clause-ok g c =
     let printed = printed_is _ c.in-Ok.settings c.in_ok-request.request.redactions.items request answered.0 made.settings
     made.redactions refl answered.1 in
     document_answered c.args.runner.now c.args.document.now request _ _ _ _ c.in_ok-request.ensures.ok
-    (assertion_is _ _ _ request answered.0 made.settings c.in-Ok-place_of_request.ensures printed) answered.2
+    (assertion_is _ _ (words_of c.args.runner.now) request answered.0 made.settings c.in-Ok-place_of_request.ensures printed) answered.2
 
 pub returns-in_err-outcome-clause-err : goal.returns-in_err-outcome-clause-err
 returns-in_err-outcome-clause-err g c =
@@ -30,7 +30,7 @@ returns-in_err-outcome-clause-err g c =
     rw (told.1, told.2)
     (refused_stops c.args.runner.now c.args.document.now (request_of c.in_ok-request.request) _ _ _ _ _ c.in_err-outcome.field-0.0
     c.in_err-outcome.ensures.cause (c.in_err-outcome.ensures.named _ refl) c.in_ok-request.ensures.ok
-    (path_is _ _ _ (request_of c.in_ok-request.request) c.in-Ok.ensures.settings c.in-Ok-place_of_request.ensures)
+    (path_is _ _ (words_of c.args.runner.now) (request_of c.in_ok-request.request) c.in-Ok.ensures.settings c.in-Ok-place_of_request.ensures)
     (c.in_err-outcome.ensures.kept _ refl))
 
 pub returns-in_err-outcome-clause-store_count : goal.returns-in_err-outcome-clause-store_count
