@@ -8,11 +8,8 @@ use Rattle.snap_content.specs.Spell.{spelling, is_flat}
 use Rattle.snap_store.proofs.Pieces.{pieces-line}
 use Rattle.snap_store.proofs.LineEnds.{ended_by_feed}
 use Rattle.snap_store.proofs.Bodies.{body-headed}
-use Rattle.snap_content.proofs.Booleans.{and_nothing}
-use Rattle.snap_literal.specs.Normal.{before_trimmed}
-use Rattle.snap_text.proofs.Trimming.{trimmed-push}
+use Rattle.snap_text.proofs.Trimming.{trimmed-push, trimmed-dashes}
 use Rattle.snap_text.specs.Normal.{trimmed}
-use Rattle.std.specs.Char.{is_whitespace}
 use Rattle.snap_store.specs.FileSplit.{is_fence}
 
 -- a line holds no LF, and ends in no CR
@@ -30,23 +27,6 @@ line-ended : (line : List ℕ) → IsRow line → line_of (ended line) ≡ line
 line-ended line h = ended_by_feed line (λ front e. no_return front (ap (list_any is_break) (sym e) ∙ h.unbroken))
 
 -- no row is a fence, whatever white space ends it
-alone_dashes : (c : ℕ) (b : Bool) → begins_dashes (cond b [] (c ∷ [])) ≡ false
-alone_dashes c true = refl
-alone_dashes c false = and_nothing (c == 45)
-
-trimmed_dashes : (line : List ℕ) → begins_dashes line ≡ false → begins_dashes (trimmed line) ≡ false
-trimmed_dashes [] h = refl
-trimmed_dashes (c ∷ []) h = alone_dashes c (is_whitespace c)
-trimmed_dashes (c ∷ d ∷ ds) h = by (trimmed ds)
-  where
-    two : (b : Bool) → begins_dashes (before_trimmed c (cond b [] (d ∷ []))) ≡ false
-    two true = alone_dashes c (is_whitespace c)
-    two false = h
-
-    by : (x : List ℕ) → begins_dashes (before_trimmed c (before_trimmed d x)) ≡ false
-    by [] = two (is_whitespace d)
-    by (x ∷ xs) = h
-
 no_dashes : (line : List ℕ) → begins_dashes line ≡ false → (same : Bool) → bytes_eq line (codes "---") ≡ same → same ≡ false
 no_dashes line h true is = absurd (let e = ap begins_dashes (sym ((bytes_eq-Decides line (codes "---")).0 is)) ∙ h in cc (e))
 no_dashes line h false is = refl
@@ -54,7 +34,7 @@ no_dashes line h false is = refl
 no_fence : (line : List ℕ) → IsRow line → is_fence (ended line) ≡ false
 no_fence line h =
     ap (λ t. bytes_eq t (codes "---")) (trimmed-push line 10 refl)
-    ∙ no_dashes (trimmed line) (trimmed_dashes line h.no_dashes) (bytes_eq (trimmed line) (codes "---")) refl
+    ∙ no_dashes (trimmed line) (trimmed-dashes line h.no_dashes) (bytes_eq (trimmed line) (codes "---")) refl
 
 -- the pieces of lines are those lines with their ends
 pub pieces-lines : (lines : List (List ℕ)) (more : List ℕ) → AreRows lines → ended_lines (flat_map ended lines ++ more) ≡ map ended lines ++ ended_lines more

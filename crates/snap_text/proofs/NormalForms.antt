@@ -18,14 +18,14 @@ last_line line h =
     record { first = h.first; more = h.more; is = e ∙ h.is; less = ap (λ t. t ++ 10 ∷ []) e ∙ sym (append-nil (ended line)) }
 
 -- a line with its end, and more, has a first character
-record IsBegun (line behind : List ℕ) : Type 0 where
+record IsBegun (line rest : List ℕ) : Type 0 where
   first : ℕ
   more : List ℕ
-  is : ended line ++ behind ≡ first ∷ more
+  is : ended line ++ rest ≡ first ∷ more
 
-begun : (line behind : List ℕ) → IsBegun line behind
-begun [] behind = record { first = 10; more = behind; is = refl }
-begun (c ∷ cs) behind = record { first = c; more = ended cs ++ behind; is = refl }
+begun : (line rest : List ℕ) → IsBegun line rest
+begun [] rest = record { first = 10; more = rest; is = refl }
+begun (c ∷ cs) rest = record { first = c; more = ended cs ++ rest; is = refl }
 
 further_line : (line text : List ℕ) → IsTrimmedLess text → IsTrimmedLess (ended line ++ text)
 further_line line text t =
