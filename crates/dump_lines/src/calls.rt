@@ -6,8 +6,8 @@ use snap_emitter::printing::{print_body, printed_document};
 use snap_emitter::{Blocks, EmitError, YamlEmitter, written_len};
 use snap_yaml::{Array, Yaml};
 use std::alloc::Global;
-use tree_lines::tree_of_line;
-use value_lines::value_of_line;
+use rows::tree_of_line;
+use rows::value_of_line;
 
 /// The text that a call gives.
 pub(crate) fn called(alloc: Global, name: &str, given: &str) -> Result<Text, anyhow::Error> {
