@@ -5,6 +5,9 @@
 //! `document VALUE` is a document of the value, `documents VALUE` one of each item of an array, one behind the other, and
 //! `dumps VALUE` what one emitter adds to the text `before` and a line's end when it dumps each item. `length VALUE` is how long a
 //! scalar is written. `printed TREE` is the document of a tree, as `tree_lines` reads it, and `lines TREE` its lines alone.
+//! With literal blocks: `inside VALUE`, `end VALUE` and `last VALUE` are a document that stands there, `literal VALUE` is the dump of a
+//! value, `switched VALUE` what one emitter adds that is switched after each item, with blocks for the second one; and
+//! `literal printed TREE` and `literal lines TREE` are as above.
 //! `want of memory` is the name of that error.
 //! In an answer `\n`, `\r`, `\0`, `\t` and `\\` stand for these characters. A line that is no value is answered by an empty one,
 //! and a call that has no answer by `! ` and why.

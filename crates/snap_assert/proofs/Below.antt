@@ -13,7 +13,7 @@ trimmed-if false = refl
 pub splits-file_of : (d : Plain) (w : Blocks) (p : Plain) → IsWithin d → IsWithin p → FallsInto (file_of d w p) (document_of off d) (text_of w p)
 splits-file_of d w p h k =
     let P : List ℕ → Type 0 = λ t. FallsInto t (document_of off d) (text_of w p) in
-    subst P (append_assoc (document_of off d) (codes "---\n") (text_of w p)) (file-split off d w p (printed-rows off d h) (printed-rows w p k))
+    subst P (append_assoc (document_of off d) (codes "---\n") (text_of w p)) (file-split off w d p (printed-rows off d h) (printed-rows w p k))
 
 -- a line's end behind a text is no part of its normal form
 pub normal-ended : (text : List ℕ) → normal (text ++ 10 ∷ []) ≡ normal text

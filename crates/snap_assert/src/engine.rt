@@ -93,8 +93,8 @@ fn assert_printed<S: Store>(
     printed: &Content,
 ) -> Result<Outcome, AssertError>
     ensures answered { IfOk result (λ outcome.
-        IsAnswered config.now (assertion_of (blocks_if config.now.literal) (settings_of settings.now) (place_of place.now) name.now
-        (tree printed.now)) outcome
+        IsAnswered config.now (assertion_of (blocks_if config.now.literal)
+        (settings_of settings.now) (place_of place.now) name.now (tree printed.now)) outcome
         (S.files store.old) (S.files store.new) empty_session empty_session) }
     ensures kept { KeptBy config.now.update
         (asked_path (settings_of settings.now) (place_of place.now) name.now)
@@ -128,8 +128,8 @@ fn assert_named<S: Store>(
 ) -> Result<Outcome, AssertError>
     ensures answered { IfOk result (λ outcome. (printed : Tree)
         × PrintsAs (λ v. (⟦<dyn Redactor as Redactor>⟧ v).allows) settings.now (tree content) printed
-        × IsAnswered config.now (assertion_of (blocks_if config.now.literal) (settings_of settings.now) (place_of place.now) name.now
-        printed) outcome
+        × IsAnswered config.now (assertion_of (blocks_if config.now.literal)
+        (settings_of settings.now) (place_of place.now) name.now printed) outcome
         (S.files store.old) (S.files store.new) empty_session empty_session) }
     ensures kept { KeptBy config.now.update
         (asked_path (settings_of settings.now) (place_of place.now) name.now)
@@ -169,8 +169,8 @@ pub fn assert_content<S: Store>(
     ensures answered { IfOk result (λ outcome. (given : List ℕ)
         → option_copied name.entry ≡ Some given → (printed : Tree)
         × PrintsAs (λ v. (⟦<dyn Redactor as Redactor>⟧ v).allows) settings.now (tree content) printed
-        × IsAnswered config.now (assertion_of (blocks_if config.now.literal) (settings_of settings.now) (place_of place.now) given
-        printed) outcome
+        × IsAnswered config.now (assertion_of (blocks_if config.now.literal)
+        (settings_of settings.now) (place_of place.now) given printed) outcome
         (S.files store.old) (S.files store.new) (session_of session.old) (session_of session.new)) }
     // Whatever is answered: no file is written but the one of the mode, so the approved one only in place.
     ensures kept { (given : List ℕ) → option_copied name.entry ≡ Some given

@@ -19,8 +19,13 @@ pub const fn flags_are_what_stands()
 pub const fn worked_examples()
     ensures version { text_asked (codes "--version" ∷ []) ≡ Some (codes "snap 0.1.0\n") }
     ensures literal { words_mean (codes "run" ∷ codes "inplace" ∷ codes "w" ∷ codes "--literal"
-        ∷ codes "--force" ∷ []) ≡ Some (record { workspace = codes "w"; update = InPlace;
-        force_update = true; force_pass = false; literal = true }) }
+        ∷ codes "--force" ∷ []) ≡ Some (record {
+          workspace = codes "w";
+          update = InPlace;
+          force_update = true;
+          force_pass = false;
+          literal = true;
+        }) }
     ensures twice { words_mean (codes "run" ∷ codes "inplace" ∷ codes "w" ∷ codes "--literal"
         ∷ codes "--literal" ∷ []) ≡ None }
 {}
