@@ -1,13 +1,12 @@
 //! The calls of the emitter, by their names.
 use crate::error::CallError;
+use rows::{tree_of_line, value_of_line};
 use snap_content::{Content, OutOfMemory, Text};
 use snap_emitter::documents::{document_text, push_document};
 use snap_emitter::printing::{print_body, printed_document};
 use snap_emitter::{Blocks, EmitError, YamlEmitter, written_len};
 use snap_yaml::{Array, Yaml};
 use std::alloc::Global;
-use rows::tree_of_line;
-use rows::value_of_line;
 
 /// The text that a call gives.
 pub(crate) fn called(alloc: Global, name: &str, given: &str) -> Result<Text, anyhow::Error> {

@@ -19,12 +19,11 @@ mod calls;
 mod error;
 
 use crate::calls::called;
-use rows::{add_escaped, answer_rows, first_column};
+use rows::{add_escaped, answer_rows, first_column, value_of_line};
 use snap_content::Text;
 use snap_emitter::{EmitError, YamlEmitter};
 use snap_yaml::Yaml;
 use std::alloc::Global;
-use rows::value_of_line;
 
 /// The dump of a value.
 fn dumped(alloc: Global, value: &Yaml) -> Result<Text, EmitError> {

@@ -6,11 +6,10 @@
 //! with what the original wrote.
 #![tactic(auto)]
 
-use rows::{add_escaped, answer_lines};
+use rows::{LineError, add_escaped, answer_lines, tree_of_line};
 use snap_content::{Content, OutOfMemory, Text};
 use snap_json::{JsonError, to_string, to_string_compact, to_string_pretty};
 use std::alloc::Global;
-use rows::{LineError, tree_of_line};
 
 /// Adds a text as it stands on a line, or why there is none.
 fn add_text(
