@@ -67,6 +67,8 @@ fn answer(alloc: Global, line: &str) -> Result<Text, anyhow::Error> {
     match name {
         "document" | "documents" | "dumps" | "length" | "printed" | "lines" | "want of memory" =>
             call_line(alloc, name, given),
+        "inside" | "end" | "last" | "literal" | "switched" => call_line(alloc, name, given),
+        "literal printed" | "literal lines" => call_line(alloc, name, given),
         _ => value_line(alloc, line),
     }
 }

@@ -21,6 +21,6 @@ fn told_line(alloc: Global, header: &Header) -> Result<Text, OutOfMemory> {
         "false\t"
     };
     let mut line = Text::from_ascii(alloc, kept)?;
-    add_printed(alloc, &mut line, &header.content)?;
+    add_printed(alloc, &mut line, &header.content, false)?;
     Ok(line)
 }

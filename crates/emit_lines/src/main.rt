@@ -6,7 +6,8 @@
 //! `tree` has the words of a tree, as `rows` reads them, and is answered by what is printed of it. `read` has a text, and is
 //! answered by what is printed of the tree that it is read as, or by `!`, why it is refused, and the path of the refusal. `header`
 //! has the text of a header, and is answered like `read`, with whether a number in it is kept as its text in front. `quotes` has a
-//! text, and is answered by whether it needs quotes.
+//! text, and is answered by whether it needs quotes. `literal tree` and `literal read` are `tree` and `read`, printed with literal
+//! blocks.
 //! A line that begins with `# ` is a heading, and is answered by itself.
 //!
 //! The gate runs it on what insta 1.49.0 wrote for trees and read of texts, and on worked rows for what it leaves open.
@@ -26,7 +27,8 @@ use std::alloc::Global;
 /// The answer to a call that is given a text.
 fn text_call(alloc: Global, call: &str, text: &str) -> Result<Text, OutOfMemory> {
     match call {
-        "read" => read_line(alloc, text),
+        "read" => read_line(alloc, text, false),
+        "literal read" => read_line(alloc, text, true),
         "header" => header_line(alloc, text),
         "quotes" => quotes_line(alloc, text),
         _ => Text::from_str(alloc, "! NoCall"),
@@ -39,14 +41,19 @@ fn quotes_line(alloc: Global, text: &str) -> Result<Text, OutOfMemory> {
     Text::from_str(alloc, answer)
 }
 
+fn text_line(alloc: Global, call: &str, given: &str) -> Result<Text, OutOfMemory> {
+    let text = text_of(alloc, given)?;
+    text_call(alloc, call, text.as_str())
+}
+
 /// The answer to a call on a line.
 fn called(alloc: Global, line: &str) -> Result<Text, OutOfMemory> {
     let (call, given) = first_column(line);
-    if call == "tree" {
-        return tree_line(alloc, given);
+    match call {
+        "tree" => tree_line(alloc, given, false),
+        "literal tree" => tree_line(alloc, given, true),
+        _ => text_line(alloc, call, given),
     }
-    let text = text_of(alloc, given)?;
-    text_call(alloc, call, text.as_str())
 }
 
 /// The line that answers a line.
