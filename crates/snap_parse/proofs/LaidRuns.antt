@@ -19,6 +19,7 @@ leaf-fits : (v : w.Leaf) (b i : Bool) → IsFit b i (leaf_tree v)
 leaf-fits (w.word s r) b i = scalar-fits s b i
 leaf-fits (w.empty square r) b i = tt
 leaf-fits (w.empty curly r) b i = tt
+leaf-fits (w.block u count more) b i = tt
 
 mutual
   collection-fits : (t : w.Collection) (i : Bool) → IsFit true i (collection_tree t)
@@ -59,6 +60,7 @@ leaf-tokens : (v : w.Leaf) (rest : List TokenType) → tokens_onto (leaf_tree v)
 leaf-tokens (w.word s r) rest = scalar-tokens s rest
 leaf-tokens (w.empty square r) rest = refl
 leaf-tokens (w.empty curly r) rest = refl
+leaf-tokens (w.block u count more) rest = refl
 
 mutual
   collection-tokens : (t : w.Collection) (rest : List TokenType) → tokens_onto (collection_tree t) rest ≡ o.collection_tokens t ++ rest

@@ -51,6 +51,7 @@ leaf-value : (x : w.Leaf) → HasValue (tree_node (leaf_tree x)) (leaf_value x)
 leaf-value (w.word s r) = scalar-value s
 leaf-value (w.empty square r) = record { is = refl; fine = refl }
 leaf-value (w.empty curly r) = record { is = refl; fine = refl }
+leaf-value (w.block u count more) = record { is = refl; fine = refl }
 
 more-values : (node : n.Node) (nodes : n.Nodes) (x : v.Value) (xs : v.Values) → HasValue node x → HaveValues nodes xs → HaveValues (n.node node nodes) (v.value x xs)
 more-values node nodes x xs one rest = item-read (node_value node) x (values_in nodes) one.is ∙ ap (v.value x) rest

@@ -1,5 +1,5 @@
 -- What is loaded of a whole stream.
-use Rattle.snap_parse.proofs.Prelude.{◌≡◌, List, [], ◌∷◌, map, sym, ap, ◌∙◌, subst, document_of, Plain, document_tokens, plain-source, json_node, Owes, start_scan, before_nul, TokenType, Parsing, WillGive, start_spot, Yields, node_of, Event, Node, stream_events, ℕ, Result, IfOk, Value, document_value, steps, start, AreLoaded, scan_error}
+use Rattle.snap_parse.proofs.Prelude.{◌≡◌, List, [], ◌∷◌, map, sym, ap, ◌∙◌, subst, Blocks, document_of, Plain, document_tokens, plain-source, json_node, Owes, start_scan, before_nul, TokenType, Parsing, WillGive, start_spot, Yields, node_of, Event, Node, stream_events, ℕ, Result, IfOk, Value, document_value, steps, start, AreLoaded, scan_error}
 use Rattle.snap_owed_json.specs.Bounded.{IsJsonOf}
 use Rattle.snap_owed_json.specs.Tokens.{json_stream_tokens}
 use Rattle.snap_owed_json.proofs.Events.{json-events}
@@ -55,12 +55,12 @@ founded source l.InsideDocument h = tt
 founded source l.OutOfMemory h = tt
 
 -- the events that a parser of a printed text will give
-pub printed-given : (source : List ℕ) (p : Plain) (parser : Parsing) → source ≡ document_of p
+pub printed-given : (source : List ℕ) (w : Blocks) (p : Plain) (parser : Parsing) → source ≡ document_of w p
     → ((tokens : List TokenType) (events : List Event) → Owes (start_scan (before_nul source)).state tokens → Yields start_spot tokens events → WillGive parser events)
-    → WillGive parser (stream_events (node_of p ∷ []))
-printed-given source p parser is gives =
-    let P : List ℕ → Type 0 = λ v. Owes (start_scan (before_nul v)).state (document_tokens p) in
-    gives (document_tokens p) (stream_events (node_of p ∷ [])) (subst P (sym is) (plain-source p)) (printed-events p)
+    → WillGive parser (stream_events (node_of w p ∷ []))
+printed-given source w p parser is gives =
+    let P : List ℕ → Type 0 = λ v. Owes (start_scan (before_nul v)).state (document_tokens w p) in
+    gives (document_tokens w p) (stream_events (node_of w p ∷ [])) (subst P (sym is) (plain-source w p)) (printed-events w p)
 
 -- the same of the JSON text of a bounded tree
 pub json-given : (source : List ℕ) (p : Plain) (parser : Parsing) → IsJsonOf p source

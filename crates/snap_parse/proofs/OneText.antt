@@ -1,5 +1,5 @@
 -- A text has one document, whether it is printed of a tree or lies in a layout.
-use Rattle.snap_parse.proofs.Prelude.{◌≡◌, ℕ, List, [], ◌∷◌, map, true, false, Some, sym, ap, ◌∙◌, refl, subst, document_of, Plain, document_tokens, plain-source, fetched, Steps, none_more, one_more, type_of, Owes, start_scan, before_nul, TokenType, Event, Node, stream_events, Spot, start_spot, Parsed, parse_step, stage_step, Yields, finished, then_one, Value, document_value, node_of, read_value, IsWithin, steps, start}
+use Rattle.snap_parse.proofs.Prelude.{◌≡◌, ℕ, List, [], ◌∷◌, map, true, false, Some, sym, ap, ◌∙◌, refl, subst, Blocks, document_of, Plain, document_tokens, plain-source, fetched, Steps, none_more, one_more, type_of, Owes, start_scan, before_nul, TokenType, Event, Node, stream_events, Spot, start_spot, Parsed, parse_step, stage_step, Yields, finished, then_one, Value, document_value, node_of, read_value, IsWithin, steps, start}
 use Rattle.snap_owed.specs.LayoutRules.{IsDocument}
 use Rattle.snap_owed.specs.LayoutTexts.{document_text}
 use Rattle.snap_owed.specs.LayoutTokens.{layout_tokens}
@@ -75,8 +75,9 @@ pub record HasValue (text : List ℕ) (value : Value) : Type 0 where
   pub yields : Yields start_spot tokens (stream_events (node ∷ []))
   pub value_is : document_value node ≡ value
 
-pub printed-value : (p : Plain) → IsWithin p → HasValue (document_of p) (read_value p)
-printed-value p within = record { node = node_of p; tokens = document_tokens p; owes = plain-source p; yields = printed-events p; value_is = document-read p within }
+-- whether texts are written as literal blocks doesn't matter
+pub printed-value : (w : Blocks) (p : Plain) → IsWithin p → HasValue (document_of w p) (read_value p)
+printed-value w p within = record { node = node_of w p; tokens = document_tokens w p; owes = plain-source w p; yields = printed-events w p; value_is = document-read w p within }
 
 pub laid-one-value : (d : Document) → IsDocument d → HasValue (document_text d) (layout_value d.tree)
 laid-one-value d is = record {

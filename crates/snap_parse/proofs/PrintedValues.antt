@@ -1,11 +1,13 @@
 -- The value of the node of a printed tree.
-use Rattle.snap_parse.proofs.Prelude.{◌≡◌, ℕ, ℤ, List, [], ◌∷◌, Bool, true, false, ◌==◌, ◌||◌, ◌&&◌, nat_lt, if◌then◌else◌, Option, None, Some, unwrap_or, refl, sym, ap, ◌∙◌, codes, bytes_eq, needs_quotes, IsNumber, IsWithin, AreWithin, AreEntriesWithin, is_bad, paired, and_some, scalar_value, node_value, values_in, values_in_pairs, document_value, node_of, nodes_of, pairs_of, read_number, read_value, read_values, read_pairs}
+use Rattle.snap_parse.proofs.Prelude.{◌≡◌, ℕ, ℤ, List, [], ◌∷◌, Bool, true, false, ◌==◌, ◌||◌, ◌&&◌, nat_lt, if◌then◌else◌, Option, None, Some, unwrap_or, refl, sym, ap, ◌∙◌, codes, bytes_eq, needs_quotes, IsNumber, IsWithin, AreWithin, AreEntriesWithin, is_bad, paired, and_some, scalar_value, node_value, values_in, values_in_pairs, document_value, Blocks, before_more, before_items, before_entries, as_block, child_node, node_of, nodes_of, pairs_of, read_number, read_value, read_values, read_pairs}
 use Rattle.std.specs.Char.{digit_value, is_ascii_digit}
 use Rattle.std.specs.Fmt.{signed_decimal}
 use Rattle.std.specs.List.{list_all}
 use Rattle.snap_content.specs.Numbers.{is_digits, is_integer_text}
 use Rattle.snap_content.specs.Plain as p
 use Rattle.snap_content.specs.Typed as t
+use Rattle.snap_event.specs.Nodes as n
+use Rattle.snap_print.specs.Blocks.{is_block}
 use Rattle.snap_token.specs.declared.token.TScalarStyle.TheVariants as style
 use Rattle.snap_yaml.specs.Through.{plain_typed}
 use Rattle.snap_yaml.specs.Typing.{is_digits_in, is_integer_in, integer_of, behind_zero, prefixed_number, is_real_text, integer_or, typed_number, typed_word, typed_yaml}
@@ -171,31 +173,50 @@ pair-read a b k x vs e f h = let g : List (v.Value × v.Value) → v.ValuePairs 
 pub item-read : (a : Option v.Value) (x : v.Value) (vs : List v.Value) → a ≡ Some x → v.values_of (and_some a vs) ≡ v.value x (v.values_of vs)
 item-read a x vs e = rw e refl
 
+-- a text is the same text, whether it is a literal block or not
+block-read : (b : Bool) (s : List ℕ) (node : n.Node) → node_value node ≡ Some (v.string s) → node_value (child_node (if b then Some s else None) node) ≡ Some (v.string s)
+block-read true s node h = refl
+block-read false s node h = h
+
+abbrev node_in : Blocks → p.Plain → n.Node
+node_in w x = child_node (as_block w x) (node_of w x)
+
+child-read : (w : Blocks) (x : p.Plain) → node_value (node_of w x) ≡ Some (read_value x) → node_value (node_in w x) ≡ Some (read_value x)
+child-read w p.null h = h
+child-read w (p.bool b) h = h
+child-read w (p.int z) h = h
+child-read w (p.text s) h = block-read (is_block w s) s (node_of w (p.text s)) h
+child-read w (p.list items) h = h
+child-read w (p.dict held) h = h
+
 mutual
-  pub value-read : (x : p.Plain) → IsWithin x → node_value (node_of x) ≡ Some (read_value x)
-  value-read p.null within = refl
-  value-read (p.bool true) within = refl
-  value-read (p.bool false) within = refl
-  value-read (p.int z) within = ap Some (number-read z within)
-  value-read (p.text s) within = ap Some (text-if (needs_quotes s) s refl)
-  value-read (p.list items) within = let f : v.Values → Option v.Value = λ u. Some (v.array u) in ap f (values-read items within)
-  value-read (p.dict entries) within = let f : v.ValuePairs → Option v.Value = λ u. Some (v.hash u) in ap f (pairs-read entries within)
+  pub value-read : (w : Blocks) (x : p.Plain) → IsWithin x → node_value (node_of w x) ≡ Some (read_value x)
+  value-read w p.null within = refl
+  value-read w (p.bool true) within = refl
+  value-read w (p.bool false) within = refl
+  value-read w (p.int z) within = ap Some (number-read z within)
+  value-read w (p.text s) within = ap Some (text-if (needs_quotes s) s refl)
+  value-read w (p.list items) within = let f : v.Values → Option v.Value = λ u. Some (v.array u) in ap f (values-read w items within)
+  value-read w (p.dict entries) within = let f : v.ValuePairs → Option v.Value = λ u. Some (v.hash u) in ap f (pairs-read w entries within)
 
-  values-read : (xs : p.Plains) → AreWithin xs → v.values_of (values_in (nodes_of xs)) ≡ read_values xs
-  values-read p.no_items within = refl
-  values-read (p.item x xs) within =
+  values-read : (w : Blocks) (xs : p.Plains) → AreWithin xs → v.values_of (values_in (nodes_of w xs)) ≡ read_values xs
+  values-read w p.no_items within = refl
+  values-read w (p.item x xs) within =
       let f : v.Values → v.Values = λ u. v.value (read_value x) u in
-      item-read (node_value (node_of x)) (read_value x) (values_in (nodes_of xs)) (value-read x within.0) ∙ ap f (values-read xs within.1)
+      let first = child-read (before_items w xs) x (value-read (before_items w xs) x within.0) in
+      item-read (node_value (node_in (before_items w xs) x)) (read_value x) (values_in (nodes_of w xs)) first ∙ ap f (values-read w xs within.1)
 
-  pairs-read : (es : p.Entries) → AreEntriesWithin es → v.pairs_of (paired (values_in_pairs (pairs_of es))) ≡ read_pairs es
-  pairs-read p.no_entries within = refl
-  pairs-read (p.entry k x es) within =
+  pairs-read : (w : Blocks) (es : p.Entries) → AreEntriesWithin es → v.pairs_of (paired (values_in_pairs (pairs_of w es))) ≡ read_pairs es
+  pairs-read w p.no_entries within = refl
+  pairs-read w (p.entry k x es) within =
       let f : v.ValuePairs → v.ValuePairs = λ u. v.pair (read_value k) (read_value x) u in
-      pair-read (node_value (node_of k)) (node_value (node_of x)) (read_value k) (read_value x) (values_in_pairs (pairs_of es)) (value-read k within.0) (value-read x within.1.0) (never-bad k)
-      ∙ ap f (pairs-read es within.1.1)
+      let key = value-read (before_more w) k within.0 in
+      let first = child-read (before_entries w es) x (value-read (before_entries w es) x within.1.0) in
+      pair-read (node_value (node_of (before_more w) k)) (node_value (node_in (before_entries w es) x)) (read_value k) (read_value x) (values_in_pairs (pairs_of w es)) key first (never-bad k)
+      ∙ ap f (pairs-read w es within.1.1)
 
 pub value-of : (a : Option v.Value) (x : v.Value) → a ≡ Some x → unwrap_or a v.bad_value ≡ x
 value-of a x e = rw e refl
 
-pub document-read : (x : p.Plain) → IsWithin x → document_value (node_of x) ≡ read_value x
-document-read x within = value-of (node_value (node_of x)) (read_value x) (value-read x within)
+pub document-read : (w : Blocks) (x : p.Plain) → IsWithin x → document_value (node_of w x) ≡ read_value x
+document-read w x within = value-of (node_value (node_of w x)) (read_value x) (value-read w x within)

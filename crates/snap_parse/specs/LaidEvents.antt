@@ -1,6 +1,7 @@
 -- The tree of tokens of a layout.
+use Rattle.std.specs.Prelude.{◌++◌}
 use Rattle.snap_token.specs.declared.token.TScalarStyle.TheVariants as style
-use Rattle.snap_owed.specs.Forms.{square, curly}
+use Rattle.snap_owed.specs.Forms.{square, curly, line_ends}
 use Rattle.snap_owed.specs.Layouts as w
 use Rattle.snap_owed.specs.LayoutTexts as laid
 use Rattle.snap_parser.specs.TokenTrees.{Tree, scalar, block_list, indentless_list, block_dict, flow_list, flow_dict, Trees, no_items, item, Entries, no_entries, entry}
@@ -13,6 +14,7 @@ abbrev pub leaf_tree : w.Leaf → Tree
 leaf_tree (w.word s r) = scalar_tree s
 leaf_tree (w.empty square r) = flow_list no_items
 leaf_tree (w.empty curly r) = flow_dict no_entries
+leaf_tree (w.block u count more) = scalar style.Literal (u ++ line_ends count)
 
 abbrev mutual
   pub collection_tree : w.Collection → Tree

@@ -1,6 +1,7 @@
--- The value of a layout: that of its tree, a bare text typed as it is, and a text in quotes the characters that its letters stand
--- for. How lines end, where blanks and comments stand and in which columns doesn't matter.
-use Rattle.snap_owed.specs.Forms.{square, curly}
+-- The value of a layout: that of its tree, a bare text typed as it is, a text in quotes the characters that its letters stand for,
+-- and a literal block its text. How lines end, where blanks and comments stand and in which columns doesn't matter.
+use Rattle.std.specs.Prelude.{◌++◌}
+use Rattle.snap_owed.specs.Forms.{square, curly, line_ends}
 use Rattle.snap_owed.specs.Layouts as w
 use Rattle.snap_owed.specs.LayoutTexts.{characters}
 use Rattle.snap_yaml.specs.Typing.{typed_yaml}
@@ -14,6 +15,7 @@ abbrev pub leaf_value : w.Leaf → v.Value
 leaf_value (w.word s r) = scalar_value s
 leaf_value (w.empty square r) = v.array v.no_values
 leaf_value (w.empty curly r) = v.hash v.no_pairs
+leaf_value (w.block u count more) = v.string (u ++ line_ends count)
 
 abbrev mutual
   pub collection_value : w.Collection → v.Value

@@ -38,7 +38,7 @@ nothing : (c : ℕ) (rest : List ℕ) → [] ≡ c ∷ rest → ⊥
 nothing c rest e = cc
 
 pub empty_is_unspelled : (line : List ℕ) → line ≡ [] → IsUnspelled line
-empty_is_unspelled line none t within (inl is) = nothing _ _ (sym none ∙ is)
+empty_is_unspelled line none t within (inl is) = nothing _ _ (sym none ∙ is.text_is)
 empty_is_unspelled line none t within (inr s) = nothing _ _ (sym none ∙ s.header.text_is)
 
 -- the JSON text of a tree is not empty

@@ -1,8 +1,8 @@
 -- What reading a file comes to, exit by exit.
 use Rattle.snap_store.proofs.Prelude.{◌≡◌, ℕ, Bool, false, List, Option, Result, Ok, Err, refl, ap, sym, ◌∙◌, subst, IsErrAnd, Plain, dict, Entries, content_of, tree, Content, Error, headed_body, is_headed, body_of, FieldsEnd, HasFields, Meta, meta_of, meta_in, contents_in, legacy_in, number_text_in, SnapshotContents, SnapshotKind}
 use Rattle.snap_content.specs.declared.error.Error.TheVariants.{FailedParsingYaml, UnexpectedDataType, MissingField, FileIo, FloatText, JsonKey, NotText, NoFile, OutOfMemory}
-use Rattle.snap_emit.specs.Parsed.{IsHeaderReadFrom, MayBeHeaderOf}
-use Rattle.snap_emit.specs.Spelled.{KeepsNumber}
+use Rattle.snap_emit.specs.Parsed.{IsHeaderReadFrom, MayBeHeaderOf, HeaderRefusalEnd}
+use Rattle.snap_emit.specs.Spelled.{IsHeaderOf, KeepsNumber}
 use Rattle.snap_outside.specs.Causes.{CountedIf}
 use Rattle.snap_store.specs.Causes.{is_file_fault}
 use Rattle.snap_store.specs.Reading.{IsTextFile, ReadsHeader, HoldsBody, KeepsNumberIn, IsRefused, FileEnd, IsReadAs, Tells}
@@ -35,6 +35,21 @@ number_kept text shown headed kept told split same keeps is =
 -- none without a header
 pub none_kept : (text : List ℕ) (kept : Bool) → is_headed text ≡ false → kept ≡ false → KeepsNumberIn text kept
 none_kept text kept closed none = (λ opens. absurd (let clash = sym opens ∙ closed in cc clash), λ _. none)
+
+-- a header of no tree refuses the file
+pub refused_header : (text shown path : List ℕ) (file : Option (List ℕ)) (headed : Headed) (e : Error) → IsTextFile file text → IsSplit headed text → shown ≡ headed.header
+    → HeaderRefusalEnd shown path e → IsRefused path file e
+refused_header text shown path file headed (FailedParsingYaml named) there split same h =
+    let is = sym (same ∙ split.header_is) in
+    (h.0, record { text = text; there = there; headed = split.headed_is; unspelled = λ tree has. h.1 tree has.within (subst (λ x. IsHeaderOf x tree) is has.header) })
+refused_header text shown path file headed UnexpectedDataType there split same h = absurd h
+refused_header text shown path file headed MissingField there split same h = absurd h
+refused_header text shown path file headed (FileIo named) there split same h = absurd h
+refused_header text shown path file headed (FloatText named) there split same h = absurd h
+refused_header text shown path file headed JsonKey there split same h = absurd h
+refused_header text shown path file headed (NotText named) there split same h = absurd h
+refused_header text shown path file headed (NoFile named) there split same h = absurd h
+refused_header text shown path file headed OutOfMemory there split same h = tt
 
 other_header : (text : List ℕ) (file : Option (List ℕ)) (plain : Plain) (held : Entries) → ReadsHeader text plain → plain ≡ dict held → ReadsHeader text (dict held)
 other_header text file plain held has is = let P : Plain → Type 0 = λ t. ReadsHeader text t in subst P is has

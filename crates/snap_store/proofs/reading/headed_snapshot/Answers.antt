@@ -1,7 +1,12 @@
 use Rattle.snap_store.proofs.Prelude.{sym, ◌∙◌}
-use Rattle.snap_store.proofs.Outcomes.{header_read, number_kept, refused_fields, fields_no_fault, read_as}
+use Rattle.snap_store.proofs.Outcomes.{header_read, number_kept, refused_header, refused_fields, fields_no_fault, read_as}
 use Rattle.std.proofs.lemmas.Result.{err_from_is_err_and}
 use Rattle.snap_store.proofs.reading.headed_snapshot.Goals as goal
+
+pub returns-in_err-header-clause-end : goal.returns-in_err-header-clause-end
+returns-in_err-header-clause-end c = λ file text there split.
+    let told = err_from_is_err_and c.from_residual-in_err-header.result c.from_residual-in_err-header.ensures.1 in
+    rw (told.1, told.2) (refused_header text _ c.args.path file c.args.headed c.in_err-header.field-0.0 there split c.as_str.ensures c.in_err-header.ensures.end)
 
 pub returns-in_err-metadata-clause-end : goal.returns-in_err-metadata-clause-end
 returns-in_err-metadata-clause-end c = λ file text there split.

@@ -12,14 +12,14 @@ returns-in-Ok-clause-documents c =
 
 pub returns-in-Ok-clause-printed : goal.returns-in-Ok-clause-printed
 returns-in-Ok-clause-printed c =
-    λ p is.
-    let will = printed-given (chars c.args.source.now) p c.new-parser.result is c.new-parser.ensures.gives in
-    made-one c.load.new.receiver c.into_documents.result (node_of p) (c.in-Ok.ensures.gives _ _ refl will [] c.new-loader.ensures) c.into_documents.ensures.ok
+    λ w p is.
+    let will = printed-given (chars c.args.source.now) w p c.new-parser.result is c.new-parser.ensures.gives in
+    made-one c.load.new.receiver c.into_documents.result (node_of w p) (c.in-Ok.ensures.gives _ _ refl will [] c.new-loader.ensures) c.into_documents.ensures.ok
 
 pub returns-clause-memory : goal.returns-clause-memory
 returns-clause-memory c =
-    λ p is.
-    let will = printed-given (chars c.args.source.now) p c.new-parser.result is c.new-parser.ensures.gives in
+    λ w p is.
+    let will = printed-given (chars c.args.source.now) w p c.new-parser.result is c.new-parser.ensures.gives in
     let f : Parsing → Bool = λ v. is_inside (meaning v) in
     let e : c.in-Err.error ≡ OutOfMemory = c.in-Err.ensures.memory _ (ap f c.new-parser.ensures.start) will in
     c.refusal.ensures ∙ ap scan_error e
