@@ -1,5 +1,5 @@
 //! Assertions under the name `one`.
-use row_lines::add_text_column;
+use rows::add_text_column;
 use snap_assert::{
     AssertError, BadPlace, Config, Outcome, Place, Session, Settings, Update, assert_content,
 };

@@ -1,5 +1,5 @@
 //! The columns of a line.
-use row_lines::add_text_column;
+use rows::add_text_column;
 use snap_content::{OutOfMemory, Text};
 use snap_select::SelectError;
 use std::alloc::Global;

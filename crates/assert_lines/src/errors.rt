@@ -1,5 +1,5 @@
 //! What is written of errors.
-use row_lines::{first_column, text_of};
+use rows::{first_column, text_of};
 use snap_assert::{AssertError, DuplicateKey};
 use snap_content::{OutOfMemory, Text};
 use snap_store::SnapshotContents;

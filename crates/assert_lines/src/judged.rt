@@ -1,6 +1,6 @@
 //! What a stored file is taken for.
 use crate::asserted::{Value, config_of, outcome_of, place_in};
-use row_lines::{add_text_column, first_column, text_of};
+use rows::{add_text_column, first_column, text_of};
 use snap_assert::{Config, Outcome, Place, Settings, Update, Verdict, Warning};
 use snap_content::{OutOfMemory, Text};
 use snap_outside::SteadyStore;

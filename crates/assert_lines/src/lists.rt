@@ -2,7 +2,7 @@
 //!
 //! Each function that asks for a redaction makes it: a function may not make one and hand it out.
 use crate::columns::add_taken;
-use row_lines::{add_text_column, first_column, text_of};
+use rows::{add_text_column, first_column, text_of};
 use snap_assert::Redactions;
 use snap_content::{Content, OutOfMemory, Text};
 use snap_emit::yaml;

@@ -35,7 +35,7 @@ use crate::news::new_settings_line;
 use crate::places::{path_line, place_line};
 use crate::settings::settings_line;
 use crate::stored::{depth_line, function_line, object_line};
-use row_lines::{answer_rows, first_column};
+use rows::{answer_rows, first_column};
 use snap_content::Text;
 use std::alloc::Global;
 

@@ -1,5 +1,5 @@
 //! What new settings say.
-use row_lines::add_text_column;
+use rows::add_text_column;
 use snap_assert::Settings;
 use snap_content::{OutOfMemory, Text};
 use std::alloc::Global;

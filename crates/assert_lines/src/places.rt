@@ -1,6 +1,6 @@
 //! Where an assertion stands.
 use crate::asserted::{outcome_of, place_in};
-use row_lines::{add_text_column, text_of};
+use rows::{add_text_column, text_of};
 use snap_assert::{Place, Settings, Update};
 use snap_content::Text;
 use snap_outside::SteadyStore;

@@ -1,7 +1,7 @@
 //! Redactions by stored functions and by an object of one's own.
 use crate::asserted::add_saved;
 use crate::columns::add_taken;
-use row_lines::first_column;
+use rows::first_column;
 use snap_assert::Settings;
 use snap_content::{Content, OutOfMemory, Text};
 use snap_select::{ContentPath, FnRedactor, PathItem, Redaction, Redactor, SelectError};

@@ -3,21 +3,28 @@ use crate::error::CallError;
 use snap_content::{Content, OutOfMemory, Text};
 use snap_emitter::documents::{document_text, push_document};
 use snap_emitter::printing::{print_body, printed_document};
-use snap_emitter::{EmitError, YamlEmitter, written_len};
+use snap_emitter::{Blocks, EmitError, YamlEmitter, written_len};
 use snap_yaml::{Array, Yaml};
 use std::alloc::Global;
-use tree_lines::tree_of_line;
-use value_lines::value_of_line;
+use rows::tree_of_line;
+use rows::value_of_line;
 
 /// The text that a call gives.
 pub(crate) fn called(alloc: Global, name: &str, given: &str) -> Result<Text, anyhow::Error> {
     match name {
-        "document" => document(alloc, given),
+        "document" => document(alloc, given, Blocks::Off),
+        "inside" => document(alloc, given, Blocks::Inside),
+        "end" => document(alloc, given, Blocks::End),
+        "last" => document(alloc, given, Blocks::Last),
         "documents" => documents(alloc, given),
         "dumps" => dumps(alloc, given),
+        "literal" => literal_dump(alloc, given),
+        "switched" => switched_dumps(alloc, given),
         "length" => length(alloc, given),
-        "printed" => printed(alloc, given),
-        "lines" => tree_body(alloc, given),
+        "printed" => printed(alloc, given, false),
+        "literal printed" => printed(alloc, given, true),
+        "lines" => tree_body(alloc, given, false),
+        "literal lines" => tree_body(alloc, given, true),
         "want of memory" => Err(EmitError::from(OutOfMemory).into()),
         _ => Err(CallError::NoCall.into()),
     }
@@ -39,13 +46,13 @@ fn given_items(alloc: Global, given: &str) -> Result<Array, anyhow::Error> {
     }
 }
 
-fn document(alloc: Global, given: &str) -> Result<Text, anyhow::Error> {
+fn document(alloc: Global, given: &str, blocks: Blocks) -> Result<Text, anyhow::Error> {
     let value = given_value(alloc, given)?;
-    document_of(alloc, &value)
+    document_of(alloc, &value, blocks)
 }
 
-fn document_of(alloc: Global, value: &Yaml) -> Result<Text, anyhow::Error> {
-    Ok(document_text(alloc, value)?)
+fn document_of(alloc: Global, value: &Yaml, blocks: Blocks) -> Result<Text, anyhow::Error> {
+    Ok(document_text(alloc, value, blocks)?)
 }
 
 fn documents(alloc: Global, given: &str) -> Result<Text, anyhow::Error> {
@@ -56,7 +63,7 @@ fn documents(alloc: Global, given: &str) -> Result<Text, anyhow::Error> {
 fn documents_of(alloc: Global, items: &[Yaml]) -> Result<Text, anyhow::Error> {
     let mut text = Text::empty();
     for item in items {
-        push_document(&mut text, alloc, item)?;
+        push_document(&mut text, alloc, item, Blocks::Off)?;
     }
     Ok(text)
 }
@@ -81,6 +88,49 @@ fn dump_each(alloc: Global, text: &mut Text, items: &[Yaml]) -> Result<(), EmitE
     Ok(())
 }
 
+/// What an emitter adds for a value, with literal blocks.
+fn literal_dump(alloc: Global, given: &str) -> Result<Text, anyhow::Error> {
+    let value = given_value(alloc, given)?;
+    literal_dump_of(alloc, &value)
+}
+
+fn literal_dump_of(alloc: Global, value: &Yaml) -> Result<Text, anyhow::Error> {
+    let mut text = Text::empty();
+    dump_literal(alloc, &mut text, value)?;
+    Ok(text)
+}
+
+/// Adds the dump of a value with literal blocks.
+fn dump_literal(alloc: Global, text: &mut Text, value: &Yaml) -> Result<(), EmitError> {
+    let mut emitter = YamlEmitter::new(alloc, text);
+    emitter.use_literal_blocks(true);
+    emitter.dump(value)
+}
+
+/// What one emitter adds for each item of an array, with literal blocks for the second and for each other item after it.
+fn switched_dumps(alloc: Global, given: &str) -> Result<Text, anyhow::Error> {
+    let items = given_items(alloc, given)?;
+    switched_dumps_of(alloc, items.as_slice())
+}
+
+fn switched_dumps_of(alloc: Global, items: &[Yaml]) -> Result<Text, anyhow::Error> {
+    let mut text = Text::empty();
+    dump_switched(alloc, &mut text, items)?;
+    Ok(text)
+}
+
+/// Adds the dump of each value, by one emitter that is switched after each.
+fn dump_switched(alloc: Global, text: &mut Text, items: &[Yaml]) -> Result<(), EmitError> {
+    let mut emitter = YamlEmitter::new(alloc, text);
+    let mut literal = false;
+    for item in items {
+        emitter.dump(item)?;
+        literal = !literal;
+        emitter.use_literal_blocks(literal);
+    }
+    Ok(())
+}
+
 /// How long a scalar is written, in digits.
 fn length(alloc: Global, given: &str) -> Result<Text, anyhow::Error> {
     let value = given_value(alloc, given)?;
@@ -92,23 +142,23 @@ fn digits_of(alloc: Global, number: u128) -> Result<Text, anyhow::Error> {
     Ok(Text::from_str(alloc, digits.as_str())?)
 }
 
-fn printed(alloc: Global, given: &str) -> Result<Text, anyhow::Error> {
+fn printed(alloc: Global, given: &str, literal: bool) -> Result<Text, anyhow::Error> {
     let tree = tree_of_line(alloc, given)?;
-    printed_of(alloc, &tree)
+    printed_of(alloc, &tree, literal)
 }
 
-fn printed_of(alloc: Global, tree: &Content) -> Result<Text, anyhow::Error> {
-    Ok(printed_document(alloc, tree)?)
+fn printed_of(alloc: Global, tree: &Content, literal: bool) -> Result<Text, anyhow::Error> {
+    Ok(printed_document(alloc, tree, literal)?)
 }
 
 /// The lines of a tree, without `---`.
-fn tree_body(alloc: Global, given: &str) -> Result<Text, anyhow::Error> {
+fn tree_body(alloc: Global, given: &str, literal: bool) -> Result<Text, anyhow::Error> {
     let tree = tree_of_line(alloc, given)?;
-    body_of(alloc, &tree)
+    body_of(alloc, &tree, literal)
 }
 
-fn body_of(alloc: Global, tree: &Content) -> Result<Text, anyhow::Error> {
+fn body_of(alloc: Global, tree: &Content, literal: bool) -> Result<Text, anyhow::Error> {
     let mut text = Text::empty();
-    print_body(&mut text, alloc, tree)?;
+    print_body(&mut text, alloc, tree, literal)?;
     Ok(text)
 }

@@ -1,10 +1,13 @@
 //! Prints values and trees as the emitter writes them: for `compare/dump`, which holds this against the original's emitter.
-//! Each line of standard input is a value as `value_lines` reads it, and is answered by its dump; or a call's name, and behind a tab
+//! Each line of standard input is a value as `rows` reads it, and is answered by its dump; or a call's name, and behind a tab
 //! what it is given; or a heading, `# ` and a text, which is answered by itself.
 //!
 //! `document VALUE` is a document of the value, `documents VALUE` one of each item of an array, one behind the other, and
 //! `dumps VALUE` what one emitter adds to the text `before` and a line's end when it dumps each item. `length VALUE` is how long a
-//! scalar is written. `printed TREE` is the document of a tree, as `tree_lines` reads it, and `lines TREE` its lines alone.
+//! scalar is written. `printed TREE` is the document of a tree, as `rows` reads it, and `lines TREE` its lines alone.
+//! With literal blocks: `inside VALUE`, `end VALUE` and `last VALUE` are a document that stands there, `literal VALUE` is the dump of a
+//! value, `switched VALUE` what one emitter adds that is switched after each item, with blocks for the second one; and
+//! `literal printed TREE` and `literal lines TREE` are as above.
 //! `want of memory` is the name of that error.
 //! In an answer `\n`, `\r`, `\0`, `\t` and `\\` stand for these characters. A line that is no value is answered by an empty one,
 //! and a call that has no answer by `! ` and why.
@@ -16,12 +19,12 @@ mod calls;
 mod error;
 
 use crate::calls::called;
-use row_lines::{add_escaped, answer_rows, first_column};
+use rows::{add_escaped, answer_rows, first_column};
 use snap_content::Text;
 use snap_emitter::{EmitError, YamlEmitter};
 use snap_yaml::Yaml;
 use std::alloc::Global;
-use value_lines::value_of_line;
+use rows::value_of_line;
 
 /// The dump of a value.
 fn dumped(alloc: Global, value: &Yaml) -> Result<Text, EmitError> {

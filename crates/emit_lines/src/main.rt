@@ -3,7 +3,7 @@
 //! Each line of standard input is the name of a call and what it is given, with a tab between them; its answer stands on one line.
 //! A text stands there with `\n`, `\r`, `\0`, `\t` and `\\` for these characters.
 //!
-//! `tree` has the words of a tree, as `tree_lines` reads them, and is answered by what is printed of it. `read` has a text, and is
+//! `tree` has the words of a tree, as `rows` reads them, and is answered by what is printed of it. `read` has a text, and is
 //! answered by what is printed of the tree that it is read as, or by `!`, why it is refused, and the path of the refusal. `header`
 //! has the text of a header, and is answered like `read`, with whether a number in it is kept as its text in front. `quotes` has a
 //! text, and is answered by whether it needs quotes.
@@ -18,7 +18,7 @@ mod refusals;
 
 use crate::headers::header_line;
 use crate::prints::{read_line, tree_line};
-use row_lines::{answer_rows, first_column, text_of};
+use rows::{answer_rows, first_column, text_of};
 use snap_content::{OutOfMemory, Text};
 use snap_emit::need_quotes;
 use std::alloc::Global;

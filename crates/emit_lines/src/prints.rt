@@ -1,10 +1,10 @@
 //! What is printed of trees: of one that stands on the line, and of one that a text is read as.
 use crate::refusals::refusal_line;
-use row_lines::add_escaped;
+use rows::add_escaped;
 use snap_content::{Content, OutOfMemory, Text};
 use snap_emit::{parse_str, to_string};
 use std::alloc::Global;
-use tree_lines::{LineError, tree_of_line};
+use rows::{LineError, tree_of_line};
 
 /// What is printed of the tree of which these are the words.
 pub(crate) fn tree_line(alloc: Global, words: &str) -> Result<Text, OutOfMemory> {

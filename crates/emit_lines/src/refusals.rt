@@ -1,5 +1,5 @@
 //! Why a text is refused, in words.
-use row_lines::add_escaped;
+use rows::add_escaped;
 use snap_content::{Error, OutOfMemory, Text};
 use std::alloc::Global;
 

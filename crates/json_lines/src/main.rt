@@ -1,16 +1,16 @@
 //! Prints trees as JSON, in each layout: for `compare/json`, which holds them against the original's texts.
-//! Each line of standard input is a tree as `tree_lines` reads it. For each tree three lines: its condensed, its compact and its pretty
+//! Each line of standard input is a tree as `rows` reads it. For each tree three lines: its condensed, its compact and its pretty
 //! text, in which `\n`, `\r`, `\0`, `\t` and `\\` stand for these characters; `! JsonKey` in place of a text where the tree has a key
 //! that JSON refuses. For a line that is no tree an empty one.
 //! The gate runs it on lines of 120 and 121 characters, on every kind of key and of number, and on random trees, and compares
 //! with what the original wrote.
 #![tactic(auto)]
 
-use row_lines::{add_escaped, answer_lines};
+use rows::{add_escaped, answer_lines};
 use snap_content::{Content, OutOfMemory, Text};
 use snap_json::{JsonError, to_string, to_string_compact, to_string_pretty};
 use std::alloc::Global;
-use tree_lines::{LineError, tree_of_line};
+use rows::{LineError, tree_of_line};
 
 /// Adds a text as it stands on a line, or why there is none.
 fn add_text(

@@ -1,5 +1,5 @@
 //! What the loader makes of a text, as lines.
-use row_lines::add_escaped;
+use rows::add_escaped;
 use snap_content::{OutOfMemory, Text};
 use snap_parse::{Array, Hash, ScanError, Yaml, YamlLoader};
 use std::alloc::Global;

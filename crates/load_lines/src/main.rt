@@ -8,7 +8,7 @@
 mod lines;
 
 use crate::lines::document_lines;
-use row_lines::{answer_lines, text_of};
+use rows::{answer_lines, text_of};
 use snap_content::Text;
 use std::alloc::Global;
 

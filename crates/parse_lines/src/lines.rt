@@ -3,7 +3,7 @@ ghost use Rattle.std.specs.Prelude.{◌≡◌, ◌<◌, IfOk, true};
 ghost use Rattle.snap_event.specs.Meaning.{is_stream_end};
 ghost use Rattle.snap_parser.specs.Parsing.{events_left};
 
-use row_lines::add_text_column;
+use rows::add_text_column;
 use snap_content::{OutOfMemory, Text};
 use snap_event::{Event, Tag};
 use snap_parser::Parser;

@@ -1,5 +1,5 @@
 //! Batches that are loaded and saved again.
-use row_lines::add_escaped;
+use rows::add_escaped;
 use snap_content::{Error, OutOfMemory, Text};
 use snap_outside::MemoryStore;
 use snap_pending::PendingInlineSnapshot;

@@ -8,7 +8,7 @@
 mod batches;
 
 use crate::batches::batch_line;
-use row_lines::{answer_lines, text_of};
+use rows::{answer_lines, text_of};
 use snap_content::Text;
 use std::alloc::Global;
 

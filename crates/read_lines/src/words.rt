@@ -1,5 +1,5 @@
 //! The tree of a text as words.
-use row_lines::add_escaped;
+use rows::add_escaped;
 use snap_content::{Content, Error, Items, OutOfMemory, Pairs, Text};
 use snap_emit::parse_str;
 use std::alloc::Global;

@@ -7,7 +7,7 @@
 use crate::records::{saved, saved_again};
 use crate::steps::taken;
 use crate::stored::store_line;
-use row_lines::first_column;
+use rows::first_column;
 use snap_content::{OutOfMemory, Text};
 use snap_outside::MemoryStore;
 use std::alloc::Global;

@@ -11,7 +11,7 @@ mod steps;
 mod stored;
 
 use crate::calls::called;
-use row_lines::answer_rows;
+use rows::answer_rows;
 use snap_content::Text;
 use std::alloc::Global;
 

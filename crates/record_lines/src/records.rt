@@ -1,11 +1,11 @@
 //! Records with snapshots, and batches.
-use row_lines::{first_column, text_of};
+use rows::{first_column, text_of};
 use snap_content::{Error, OutOfMemory, Text};
 use snap_outside::MemoryStore;
 use snap_pending::PendingInlineSnapshot;
 use snap_store::Snapshot;
 use snap_text::TextSnapshotKind;
-use snapshot_lines::snapshot_of;
+use rows_snapshots::snapshot_of;
 use std::alloc::Global;
 
 /// The snapshot of the first columns, in the module `m`; none where there are no more columns.

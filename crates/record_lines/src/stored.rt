@@ -1,5 +1,5 @@
 //! What a call has come to.
-use row_lines::add_file;
+use rows::add_file;
 use snap_content::{Error, OutOfMemory, Text};
 use snap_outside::MemoryStore;
 use std::alloc::Global;

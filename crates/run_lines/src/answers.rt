@@ -1,6 +1,6 @@
 //! What a run leaves, as columns.
 use crate::columns::add_bytes;
-use row_lines::{add_number_column, add_text_column};
+use rows::{add_number_column, add_text_column};
 use snap_content::Text;
 use snap_outside::Store;
 use snap_run::Status;

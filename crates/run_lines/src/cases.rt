@@ -1,5 +1,5 @@
 //! What a line says of a run.
-use row_lines::{first_column, text_of};
+use rows::{first_column, text_of};
 use snap_content::{Blob, OutOfMemory, Text};
 use std::alloc::Global;
 

@@ -1,7 +1,7 @@
 //! Runs over forms of which a call may fail.
 use crate::answers::{add_ending, add_files};
 use crate::cases::{Case, case_of, files_of, input_of, words_of};
-use row_lines::add_number_column;
+use rows::add_number_column;
 use snap_content::{OutOfMemory, Text};
 use snap_outside::{MemorySink, MemorySource, MemoryStore};
 use snap_run::run;

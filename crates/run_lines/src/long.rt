@@ -3,7 +3,7 @@ ghost use Rattle.std.specs.Prelude.{None};
 
 use crate::answers::add_ending;
 use crate::cases::words_of;
-use row_lines::{add_number_column, first_column};
+use rows::{add_number_column, first_column};
 use snap_content::Text;
 use snap_outside::{Fault, MemorySink, MemoryStore, Source};
 use snap_run::{Status, run};

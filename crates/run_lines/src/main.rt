@@ -32,7 +32,7 @@ use crate::requests::request_line;
 use crate::statuses::{conclude_line, status_line};
 use crate::steady::steady_line;
 use crate::usage::{usage_length_line, usage_line};
-use row_lines::{answer_rows, first_column};
+use rows::{answer_rows, first_column};
 use snap_content::Text;
 use std::alloc::Global;
 

@@ -1,6 +1,6 @@
 //! The text of each status.
 use crate::columns::add_bytes;
-use row_lines::{add_number_column, add_text_column, first_column, text_of};
+use rows::{add_number_column, add_text_column, first_column, text_of};
 use snap_content::{OutOfMemory, Text};
 use snap_outside::SteadySink;
 use snap_run::command::conclude;

@@ -1,5 +1,5 @@
 //! What the usage text holds.
-use row_lines::text_of;
+use rows::text_of;
 use snap_content::{OutOfMemory, Text};
 use snap_run::usage::USAGE;
 use std::alloc::Global;

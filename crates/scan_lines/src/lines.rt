@@ -1,5 +1,5 @@
 //! What the scanner makes of a text, as lines.
-use row_lines::add_text_column;
+use rows::add_text_column;
 use snap_content::{OutOfMemory, Text};
 use snap_scan::{Marker, ScanError, Scanner, TScalarStyle, Token, TokenType};
 use std::alloc::Global;

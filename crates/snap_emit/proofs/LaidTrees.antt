@@ -83,6 +83,7 @@ leaf-reads : (x : w.Leaf) → Reads (leaf_value x) (m.leaf_plain x) (m.leaf_keep
 leaf-reads (w.word s r) = scalar-reads s
 leaf-reads (w.empty square r) = record { plainly = refl; numbers = refl }
 leaf-reads (w.empty curly r) = record { plainly = refl; numbers = refl }
+leaf-reads (w.block u count more) = record { plainly = refl; numbers = refl }
 
 record ReadItems (values : v.Values) (plains : p.Plains) (keep : Bool) : Type 0 where
   plainly : plains_read values ≡ Some plains

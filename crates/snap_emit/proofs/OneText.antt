@@ -1,11 +1,11 @@
 -- Trees that have a text in common are one tree.
-use Rattle.snap_emit.proofs.Prelude.{◌≡◌, ◌++◌, ℕ, List, Some, refl, ap, sym, subst, ◌∙◌, codes, text_of, document_of, Plain, IsWithin, read_value, plain_read}
+use Rattle.snap_emit.proofs.Prelude.{◌≡◌, ◌++◌, ℕ, List, Some, refl, ap, sym, subst, ◌∙◌, codes, text_of, document_of, Plain, IsWithin, Blocks, read_value, plain_read}
 use Rattle.std.proofs.Common.{inl, inr}
 use Rattle.snap_owed.proofs.FreeLayouts.{free-is-laid}
 use Rattle.snap_yaml.specs.Value.{Value}
 use Rattle.snap_parse.specs.LaidValues.{layout_value}
 use Rattle.snap_parse.proofs.OneText.{HasValue, printed-value, laid-one-value, values-same}
-use Rattle.snap_emit.specs.Spelled.{IsTextOf, IsHeaderOf}
+use Rattle.snap_emit.specs.Spelled.{IsPrintedOf, IsTextOf, IsHeaderOf}
 use Rattle.snap_emit.proofs.LaidTrees.{layout-reads}
 use Rattle.snap_emit.proofs.ReadBack.{read-back}
 
@@ -21,7 +21,7 @@ record Given (text : List ℕ) (t : Plain) : Type 0 where
 given : (text : List ℕ) (t : Plain) → IsWithin t → IsHeaderOf text t → Given text t
 given text t within (inl is) =
     let P : List ℕ → Type 0 = λ x. HasValue x (read_value t) in
-    record { value = read_value t; has = subst P (sym is) (printed-value t within); plainly = read-back t within }
+    record { value = read_value t; has = subst P (sym is.text_is) (printed-value is.blocks t within); plainly = read-back t within }
 given text t within (inr s) =
     let P : List ℕ → Type 0 = λ x. HasValue x (layout_value s.layout.tree) in
     record {
@@ -44,5 +44,6 @@ as-header text t (inr s) = inr s.header
 pub one_tree : (text : List ℕ) (a b : Plain) → IsWithin a → IsWithin b → IsTextOf text a → IsTextOf text b → a ≡ b
 one_tree text a b h k one other = headers_same text a b h k (as-header text a one) (as-header text b other)
 
-pub texts_same : (a b : Plain) → IsWithin a → IsWithin b → text_of a ≡ text_of b → a ≡ b
-texts_same a b h k same = headers_same (document_of a) a b h k (inl refl) (inl (ap (λ text. codes "---\n" ++ text) same))
+pub texts_same : (v w : Blocks) (a b : Plain) → IsWithin a → IsWithin b → text_of v a ≡ text_of w b → a ≡ b
+texts_same v w a b h k same =
+    headers_same (document_of v a) a b h k (inl (record { blocks = v; text_is = refl })) (inl (record { blocks = w; text_is = ap (λ text. codes "---\n" ++ text) same }))

@@ -1,5 +1,5 @@
 -- What a text is read as.
-use Rattle.snap_emit.proofs.Prelude.{◌≡◌, ℕ, Bool, false, List, Option, Some, None, option_map, Result, Ok, Err, sym, ap, subst, ◌∙◌, IfOk, IfSome, IsSomeAnd, IfOk-weaker, document_of, Plain, plain, content_of, IsWithin, tree, Content, read_value, document-read, IsPlain, plain_read, has_number_text}
+use Rattle.snap_emit.proofs.Prelude.{◌≡◌, ℕ, Bool, false, List, Option, Some, None, option_map, Result, Ok, Err, sym, ap, subst, ◌∙◌, IfOk, IfSome, IsSomeAnd, IfOk-weaker, document_of, Blocks, Plain, plain, content_of, IsWithin, tree, Content, read_value, document-read, IsPlain, plain_read, has_number_text}
 use Rattle.std.proofs.Common.{inl, inr}
 use Rattle.snap_content.proofs.PlainMade.{plain_made}
 use Rattle.snap_owed.proofs.FreeLayouts.{free-is-laid}
@@ -15,7 +15,7 @@ use Rattle.snap_parse.specs.PrintedEvents.{node_of}
 use Rattle.snap_parse.proofs.JsonValues.{json-read}
 use Rattle.snap_emit.specs.LayoutTrees.{layout_plain, layout_keeps}
 use Rattle.snap_emit.specs.Parsed.{IsReadFrom, IsHeaderReadFrom}
-use Rattle.snap_emit.specs.Spelled.{IsTextOf, IsHeaderOf, KeepsNumber}
+use Rattle.snap_emit.specs.Spelled.{IsPrintedOf, IsTextOf, IsHeaderOf, KeepsNumber}
 use Rattle.snap_emit.specs.declared.loaded.Loaded.{Loaded}
 use Rattle.snap_emit.proofs.LaidTrees.{Reads, layout-reads}
 use Rattle.snap_emit.proofs.OneText.{as-header}
@@ -41,8 +41,8 @@ reads-back value p within is = record {
   numbers = ap has_number_text is ∙ no-number-text p within;
 }
 
-pub printed-reads : (value : Value) (p : Plain) → IsWithin p → value ≡ document_value (node_of p) → Reads value p false
-printed-reads value p within is = reads-back value p within (is ∙ document-read p within)
+pub printed-reads : (value : Value) (w : Blocks) (p : Plain) → IsWithin p → value ≡ document_value (node_of w p) → Reads value p false
+printed-reads value w p within is = reads-back value p within (is ∙ document-read w p within)
 
 pub json-reads : (value : Value) (p : Plain) → IsWithin p → value ≡ document_value (json_node p) → Reads value p false
 json-reads value p within is = reads-back value p within (is ∙ json-read p within)
@@ -54,26 +54,26 @@ laid-reads value d is =
 
 -- a fact on each tree that the text is printed of, and on that of each free layout whose text it is, is one on each tree of which
 -- it is a header
-pub header-of : (P : Plain → Type 0) (text : List ℕ) → ((t : Plain) → IsWithin t → text ≡ document_of t → P t)
+pub header-of : (P : Plain → Type 0) (text : List ℕ) → ((t : Plain) → IsWithin t → IsPrintedOf text t → P t)
     → ((d : Document) → IsFree d → text ≡ document_text d → P (layout_plain d.tree)) → (t : Plain) → IsWithin t → IsHeaderOf text t → P t
 header-of P text printed laid t within (inl is) = printed t within is
 header-of P text printed laid t within (inr s) = subst P s.tree_is (laid s.layout s.free s.text_is)
 
 -- the value of the one document of a text
 pub record IsValueIn (text : List ℕ) (value : Value) : Type 0 where
-  pub printed : (p : Plain) → text ≡ document_of p → value ≡ document_value (node_of p)
+  pub printed : (w : Blocks) (p : Plain) → text ≡ document_of w p → value ≡ document_value (node_of w p)
   pub laid : (d : Document) → IsDocument d → text ≡ document_text d → value ≡ layout_value d.tree
 
 pub header-plain : (text : List ℕ) (value : Value) → IsValueIn text value → (t : Plain) → IsWithin t → IsHeaderOf text t → plain_read value ≡ Some t
 header-plain text value told =
-    header-of (λ t. plain_read value ≡ Some t) text (λ p within is. (printed-reads value p within (told.printed p is)).plainly)
+    header-of (λ t. plain_read value ≡ Some t) text (λ p within is. (printed-reads value is.blocks p within (told.printed is.blocks p is.text_is)).plainly)
     (λ d free is. (laid-reads value d (told.laid d (free-is-laid d free) is)).plainly)
 
 laid-keeps : (text : List ℕ) (value : Value) → IsValueIn text value → (d : Document) → IsFree d → text ≡ document_text d → has_number_text value ≡ layout_keeps d.tree
 laid-keeps text value told d free is = (laid-reads value d (told.laid d (free-is-laid d free) is)).numbers
 
 text-whole : (text : List ℕ) (value : Value) → IsValueIn text value → (t : Plain) → IsWithin t → IsTextOf text t → has_number_text value ≡ false
-text-whole text value told t within (inl is) = (printed-reads value t within (told.printed t is)).numbers
+text-whole text value told t within (inl is) = (printed-reads value is.blocks t within (told.printed is.blocks t is.text_is)).numbers
 text-whole text value told t within (inr s) = laid-keeps text value told s.header.layout s.header.free s.header.text_is ∙ s.no_number
 
 -- what is made of a document's value

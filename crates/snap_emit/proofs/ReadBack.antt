@@ -1,5 +1,5 @@
 -- The value that is read of a printed tree is read as that tree.
-use Rattle.snap_emit.proofs.Prelude.{◌≡◌, ℕ, ℤ, Bool, true, false, not, ◌||◌, List, Option, Some, option_map, if◌then◌else◌, refl, sym, ap, ◌∙◌, option_and_then, IsNumber, IsWithin, AreWithin, AreEntriesWithin, typed_word, read_value, read_values, read_pairs, document-read, is_whole, plain_read, plains_read, entries_read, has_number_text, have_number_texts, are_number_texts_in, or_from}
+use Rattle.snap_emit.proofs.Prelude.{◌≡◌, ℕ, ℤ, Bool, true, false, not, ◌||◌, List, Option, Some, option_map, if◌then◌else◌, refl, sym, ap, ◌∙◌, option_and_then, IsNumber, IsWithin, AreWithin, AreEntriesWithin, typed_word, read_value, read_values, read_pairs, document-read, off, is_whole, plain_read, plains_read, entries_read, has_number_text, have_number_texts, are_number_texts_in, or_from}
 use Rattle.std.specs.Fmt.{signed_decimal}
 use Rattle.snap_content.specs.Plain as p
 use Rattle.snap_content.specs.Typed.{has_64_bits, number_in}
@@ -17,7 +17,7 @@ kept-is false y z h = absurd (cc)
 kept : (z : ℤ) → IsNumber z → has_64_bits z ≡ false → (is_whole (signed_decimal z) ≡ true) × (number_in 10 (signed_decimal z) ≡ z)
 kept z h wide =
     let w : List ℕ = signed_decimal z in
-    let read : typed_yaml w ≡ v.real w = document-read (p.int z) h ∙ ap (λ b. if b then v.integer z else v.real w) wide in
+    let read : typed_yaml w ≡ v.real w = document-read off (p.int z) h ∙ ap (λ b. if b then v.integer z else v.real w) wide in
     kept-is (is_whole w) (number_in 10 w) z (ap plain_typed (sym read) ∙ sym (typed_through w) ∙ typed_word (p.int z) refl h)
 
 whole-read : (b : Bool) (y z : ℤ) (w : List ℕ) → b ≡ true → y ≡ z → (if b then p.int y else p.text w) ≡ p.int z

@@ -1,8 +1,8 @@
 -- What a layout spells: its plain tree, and whether a number stands in it that is kept as its text.
-use Rattle.std.specs.Prelude.{◌||◌, ℕ, List, Bool, true, false}
+use Rattle.std.specs.Prelude.{◌||◌, ◌++◌, ℕ, List, Bool, true, false}
 use Rattle.snap_content.specs.Plain as p
 use Rattle.snap_content.specs.Typed.{Typed, value, real, typed}
-use Rattle.snap_owed.specs.Forms.{square, curly}
+use Rattle.snap_owed.specs.Forms.{square, curly, line_ends}
 use Rattle.snap_owed.specs.Layouts as w
 use Rattle.snap_owed.specs.LayoutTexts.{characters}
 
@@ -23,6 +23,7 @@ abbrev pub leaf_plain : w.Leaf → p.Plain
 leaf_plain (w.word s r) = scalar_plain s
 leaf_plain (w.empty square r) = p.list p.no_items
 leaf_plain (w.empty curly r) = p.dict p.no_entries
+leaf_plain (w.block u count more) = p.text (u ++ line_ends count)
 
 abbrev mutual
   pub collection_plain : w.Collection → p.Plain
@@ -64,6 +65,7 @@ scalar_keeps (w.quote s) = false
 abbrev pub leaf_keeps : w.Leaf → Bool
 leaf_keeps (w.word s r) = scalar_keeps s
 leaf_keeps (w.empty q r) = false
+leaf_keeps (w.block u count more) = false
 
 abbrev mutual
   pub collection_keeps : w.Collection → Bool

@@ -1,5 +1,5 @@
 -- A text that begins neither as a reserved word nor as a number is neither.
-use Rattle.snap_emitter.proofs.Prelude.{◌≡◌, ℕ, ◌+◌, List, [], ◌∷◌, Bool, true, false, ◌==◌, ◌||◌, ◌&&◌, refl, sym, ap, ◌∙◌, arith, nat_tests, if◌then◌else◌, drop, codes, Option, Some, None, is_ascii_digit, list_any, list_all, bytes_eq, or_from, and_parts}
+use Rattle.snap_emitter.proofs.Prelude.{◌≡◌, ℕ, List, [], ◌∷◌, Bool, true, false, ◌==◌, ◌||◌, ◌&&◌, refl, sym, ap, ◌∙◌, arith, nat_tests, if◌then◌else◌, drop, codes, Some, None, is_ascii_digit, list_any, list_all, bytes_eq, or_from, and_parts}
 use Rattle.std.proofs.lemmas.Slice.Eq.{bytes_eq-Decides}
 use Rattle.snap_content.specs.Front.{begins}
 use Rattle.snap_content.specs.Numbers as n

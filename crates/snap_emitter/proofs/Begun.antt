@@ -1,9 +1,13 @@
--- What want of memory leaves of a text: step by step.
-use Rattle.snap_emitter.proofs.Prelude.{◌≡◌, ℕ, List, [], ◌++◌, refl, sym, ap, ◌∙◌, append_assoc, Result, Ok, Err, OnErr, OnOk, IfOk, append-nil, IsBegun}
+-- What a text has after some steps, and what being out of memory leaves of it.
+use Rattle.snap_emitter.proofs.Prelude.{◌≡◌, ℕ, List, [], ◌++◌, refl, sym, ap, ◌∙◌, append_assoc, Result, Ok, Err, OnErr, OnOk, append-nil, IsBegun}
 
 -- nothing was added
 pub unmoved : (old new full : List ℕ) → new ≡ old → IsBegun old new full
 unmoved old new full same = record { added = []; rest = full; whole = refl; is = same ∙ sym (append-nil old) }
+
+-- what was added in two steps
+pub added_twice : (old mid new a b : List ℕ) → mid ≡ old ++ a → new ≡ mid ++ b → new ≡ old ++ (a ++ b)
+added_twice old mid new a b first second = second ∙ ap (λ x. x ++ b) first ∙ append_assoc old a b
 
 -- the first of two parts was begun
 pub begun_first : (old new a b : List ℕ) → IsBegun old new a → IsBegun old new (a ++ b)

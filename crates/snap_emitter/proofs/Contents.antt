@@ -1,5 +1,5 @@
 -- What is printed of each kind of `Content` that holds a list.
-use Rattle.snap_emitter.proofs.Prelude.{◌≡◌, ℕ, ◌+◌, ◌<◌, List, [], ◌∷◌, ◌++◌, length, take, get_or, map, refl, sym, ap, ◌∙◌, rules, pos, take_more, map-append, spell_text, tree, item_list, item_trees, pair_list, pair_trees, field_list, field_trees, Items, Pairs, Fields, Content, array_list, hash_list, Array, Hash, content_shape, pair_shape, field_shape, byte_shape, shape_of, pair_shapes}
+use Rattle.snap_emitter.proofs.Prelude.{◌≡◌, ℕ, ◌+◌, ◌<◌, List, [], ◌∷◌, ◌++◌, length, take, get_or, map, refl, sym, ap, ◌∙◌, rules, take_more, map-append, tree, item_list, item_trees, pair_list, pair_trees, field_list, field_trees, Items, Pairs, Fields, Content, array_list, hash_list, Array, Hash, content_shape, pair_shape, field_shape, byte_shape, shape_of, pair_shapes}
 use Rattle.snap_content.specs.Tree as t
 use Rattle.snap_content.specs.Plain as p
 use Rattle.snap_content.specs.declared.content.Content as content
@@ -17,7 +17,7 @@ pairs_shapes (q ∷ ps) = ap (s.pair (content_shape q.0) (content_shape q.1)) (p
 
 fields_shapes : (fs : List (List ℕ × Content)) → s.plain_pairs (p.field_entries (field_trees fs)) ≡ shape_pairs_of (map field_shape fs)
 fields_shapes [] = refl
-fields_shapes (f ∷ fs) = ap (s.pair (s.scalar (spell_text f.0)) (content_shape f.1)) (fields_shapes fs)
+fields_shapes (f ∷ fs) = ap (s.pair (s.text f.0) (content_shape f.1)) (fields_shapes fs)
 
 bytes_shapes : (bs : List ℕ) → s.plain_shapes (p.bytes_plain bs) ≡ shapes_of (map byte_shape bs)
 bytes_shapes [] = refl
@@ -71,7 +71,7 @@ struct_made whole name fields h is same =
 
 -- the one pair of a variant
 abbrev pub one_pair : List ℕ → s.Shape → s.Shape
-one_pair name inner = s.dict (s.pair (s.scalar (spell_text name)) inner s.no_pairs)
+one_pair name inner = s.dict (s.pair (s.text name) inner s.no_pairs)
 
 pub tuple_variant_made : (whole : Content) (name : List ℕ) (index : ℕ) (variant : List ℕ) (items : Items) (a : Array)
     → whole ≡ content.TupleVariant name index variant items → map shape_of (array_list a) ≡ map content_shape (item_list items)
@@ -106,10 +106,10 @@ pub pair_same : (k v : yaml.Yaml) (p : Content × Content) → shape_of k ≡ co
     → two (shape_of k) (shape_of v) ≡ pair_shape p
 pair_same k v p key value = ap (λ x. two x (shape_of v)) key ∙ ap (two (content_shape p.0)) value
 
-shape-String : (text : List ℕ) → shape_of (yaml.String text) ≡ s.scalar (spell_text text)
+shape-String : (text : List ℕ) → shape_of (yaml.String text) ≡ s.text text
 shape-String text = search (rules, yaml.the_lemmas)
 
 pub field_same : (text : List ℕ) (v : yaml.Yaml) (f : List ℕ × Content) → text ≡ f.0 → shape_of v ≡ content_shape f.1
     → two (shape_of (yaml.String text)) (shape_of v) ≡ field_shape f
 field_same text v f name value =
-    ap (λ x. two x (shape_of v)) (shape-String text ∙ ap (λ t. s.scalar (spell_text t)) name) ∙ ap (two (s.scalar (spell_text f.0))) value
+    ap (λ x. two x (shape_of v)) (shape-String text ∙ ap s.text name) ∙ ap (two (s.text f.0)) value

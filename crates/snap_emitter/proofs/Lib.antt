@@ -1,5 +1,6 @@
 mod Prelude
 pub mod Columned
+pub mod PlainShapes
 pub mod Contents
 pub mod ContentsWithin
 pub mod Begun
@@ -8,4 +9,6 @@ pub mod Quoting
 pub mod Trees
 pub mod Walked
 pub mod Beginnings
+pub mod Shifting
 mod Bytes
+mod LineEnds

@@ -1,5 +1,5 @@
 -- Blanks of a constant.
-use Rattle.snap_emitter.proofs.Prelude.{◌≡◌, ℕ, zero, suc, ◌+◌, ◌-◌, ◌<◌, ◌≤◌, List, [], ◌∷◌, ◌++◌, length, take, Bool, true, refl, sym, ap, ◌∙◌, append_assoc, arith, zero-add, IsTrue, is_ascii, list_all, IsBegun, blanks, break_at}
+use Rattle.snap_emitter.proofs.Prelude.{◌≡◌, ℕ, zero, suc, ◌+◌, ◌-◌, ◌≤◌, List, ◌∷◌, ◌++◌, take, refl, sym, ap, ◌∙◌, append_assoc, arith, zero-add, IsTrue, is_ascii, list_all, IsBegun, blanks, break_at}
 use Rattle.snap_emitter.proofs.Begun.{unmoved, begun_then, begun_as}
 
 pub blanks-add : (i j : ℕ) → blanks (i + j) ≡ blanks i ++ blanks j

@@ -1,7 +1,9 @@
 -- One level of a `Yaml` that is printed.
-use Rattle.snap_emitter.proofs.Prelude.{◌≡◌, ℕ, ◌+◌, ◌++◌, List, [], ◌∷◌, map, length, Bool, eqb, refl, sym, ap, ◌∙◌, rules, arith, nat_tests, flat_map, value_of, array_list, array_values, hash_list, hash_values, Array, Hash, Yaml, the_lemmas, marked, text_at, items_at, pairs_at, item_line, list_text, pair_line, pair_of, dict_text, shape_of, pair_shapes}
+use Rattle.snap_emitter.proofs.Prelude.{◌≡◌, ℕ, ◌+◌, ◌++◌, List, [], ◌∷◌, map, length, Bool, false, eqb, refl, sym, ap, ◌∙◌, append_assoc, append-nil, rules, arith, nat_tests, value_of, array_list, array_values, hash_list, hash_values, Array, Hash, Yaml, the_lemmas, Blocks, before_more, break_at, text_at, items_at, pairs_at, child_of, item_of, on_lines, list_text, key_of, pair_of, dict_text, shape_of, pair_shapes}
+use Rattle.snap_print.specs.Blocks as blocks
 use Rattle.snap_yaml.specs.Value as v
 use Rattle.snap_yaml.specs.declared.yaml.Yaml.{Array as array, Hash as hash}
+use Rattle.snap_emitter.specs.Document.{ends_child, ends_in_block, items_end, pairs_end}
 use Rattle.snap_emitter.specs.Shape as s
 
 -- lists of shapes, as a shape holds them
@@ -47,25 +49,108 @@ flat_array whole a b is tested = tested ∙ sym (ap s.is_flat (ap shape_of is �
 pub flat_hash : (whole : Yaml) (h : Hash) (b : Bool) → whole ≡ hash h → b ≡ eqb (length (hash_list h)) 0 → b ≡ s.is_flat (shape_of whole)
 flat_hash whole h b is tested = tested ∙ sym (ap s.is_flat (ap shape_of is ∙ shape-hash h) ∙ flat-pairs (hash_list h))
 
-further_items : (k : ℕ) (ts : List Yaml) → items_at k (shapes_of (map shape_of ts)) ≡ flat_map (item_line k) ts
-further_items k [] = refl
-further_items k (t ∷ ts) = ap (λ x. item_line k t ++ x) (further_items k ts)
+-- pieces behind a line that ends, and pieces as a shape holds them: each behind the end of a line
+abbrev further : {X : Type 0} → ℕ → (X → List ℕ) → (X → List ℕ) → X → List X → List ℕ
+further k before last x [] = break_at k ++ last x ++ []
+further k before last x (y ∷ ys) = (break_at k ++ before x) ++ further k before last y ys
 
-further_pairs : (k : ℕ) (es : List (Yaml × Yaml)) → pairs_at k (shape_pairs_of (map pair_shapes es)) ≡ flat_map (pair_line k) es
-further_pairs k [] = refl
-further_pairs k (e ∷ es) = ap (λ x. pair_line k e ++ x) (further_pairs k es)
+further-lines : {X : Type 0} (k : ℕ) (before last : X → List ℕ) (x : X) (xs : List X)
+    → break_at k ++ on_lines k before last (x ∷ xs) ≡ further k before last x xs
+further-lines k before last x [] = sym (append-nil (break_at k ++ last x))
+further-lines k before last x (y ∷ ys) =
+    ap (λ (t : List ℕ). break_at k ++ t) (append_assoc (before x) (break_at k) (on_lines k before last (y ∷ ys)))
+    ∙ sym (append_assoc (break_at k) (before x) (break_at k ++ on_lines k before last (y ∷ ys)))
+    ∙ ap (λ (t : List ℕ). (break_at k ++ before x) ++ t) (further-lines k before last y ys)
 
-list_at : (k : ℕ) (ts : List Yaml) → list_text k ts ≡ text_at k (s.list (shapes_of (map shape_of ts)))
-list_at k [] = refl
-list_at k (t ∷ ts) = sym (ap (λ x. marked 45 (text_at (k + 2) (shape_of t)) ++ x) (further_items k ts))
+lines-further : {X : Type 0} (k : ℕ) (before last : X → List ℕ) (x y : X) (ys : List X)
+    → on_lines k before last (x ∷ y ∷ ys) ≡ before x ++ further k before last y ys
+lines-further k before last x y ys =
+    append_assoc (before x) (break_at k) (on_lines k before last (y ∷ ys)) ∙ ap (λ (t : List ℕ). before x ++ t) (further-lines k before last y ys)
 
-dict_at : (k : ℕ) (es : List (Yaml × Yaml)) → dict_text k es ≡ text_at k (s.dict (shape_pairs_of (map pair_shapes es)))
-dict_at k [] = refl
-dict_at k (e ∷ es) = sym (ap (λ x. pair_of k e ++ x) (further_pairs k es))
+further_items : (k : ℕ) (w : Blocks) (t : Yaml) (ts : List Yaml)
+    → further k (item_of k (before_more w)) (item_of k w) t ts ≡ items_at k w (shapes_of (map shape_of (t ∷ ts)))
+further_items k w t [] = refl
+further_items k w t (u ∷ ts) = ap (λ (x : List ℕ). (break_at k ++ item_of k (before_more w) t) ++ x) (further_items k w u ts)
 
-pub array_text : (k : ℕ) (whole : Yaml) (a : Array) (items : List Yaml) → whole ≡ array a → items ≡ array_list a → list_text k items ≡ text_at k (shape_of whole)
-array_text k whole a items is same = ap (list_text k) same ∙ list_at k (array_list a) ∙ sym (ap (text_at k) (ap shape_of is ∙ shape-array a))
+list_at : (k : ℕ) (w : Blocks) (ts : List Yaml) → list_text k w ts ≡ text_at k w (s.list (shapes_of (map shape_of ts)))
+list_at k w [] = refl
+list_at k w (t ∷ []) = sym (append-nil (item_of k w t))
+list_at k w (t ∷ u ∷ ts) =
+    lines-further k (item_of k (before_more w)) (item_of k w) t u ts ∙ ap (λ (x : List ℕ). item_of k (before_more w) t ++ x) (further_items k w u ts)
 
-pub hash_text : (k : ℕ) (whole : Yaml) (h : Hash) (pairs : List (Yaml × Yaml)) → whole ≡ hash h → pairs ≡ hash_list h
-    → dict_text k pairs ≡ text_at k (shape_of whole)
-hash_text k whole h pairs is same = ap (dict_text k) same ∙ dict_at k (hash_list h) ∙ sym (ap (text_at k) (ap shape_of is ∙ shape-hash h))
+-- a key stands before more, wherever its value stands
+pub twice : (w : Blocks) → before_more (before_more w) ≡ before_more w
+twice blocks.off = refl
+twice blocks.inside = refl
+twice blocks.end = refl
+twice blocks.last = refl
+
+-- a pair that something follows, with its key's place as that of the whole
+abbrev pair_inside : ℕ → Blocks → Yaml × Yaml → List ℕ
+pair_inside k w p = key_of k (before_more w) p.0 (s.is_flat (shape_of p.1)) ++ child_of (k + 2) (before_more w) p.1
+
+pair-same : (k : ℕ) (w : Blocks) (p : Yaml × Yaml) → pair_of k (before_more w) p ≡ pair_inside k w p
+pair-same k w p =
+    let at : Blocks → List ℕ = λ x. key_of k x p.0 (s.is_flat (shape_of p.1)) ++ child_of (k + 2) (before_more w) p.1 in
+    ap at (twice w)
+
+further_pairs : (k : ℕ) (w : Blocks) (p : Yaml × Yaml) (ps : List (Yaml × Yaml))
+    → further k (pair_of k (before_more w)) (pair_of k w) p ps ≡ pairs_at k w (shape_pairs_of (map pair_shapes (p ∷ ps)))
+further_pairs k w p [] = refl
+further_pairs k w p (q ∷ ps) =
+    ap (λ (x : List ℕ). (break_at k ++ pair_of k (before_more w) p) ++ x) (further_pairs k w q ps)
+    ∙ ap (λ (x : List ℕ). (break_at k ++ x) ++ pairs_at k w (shape_pairs_of (map pair_shapes (q ∷ ps)))) (pair-same k w p)
+
+dict_at : (k : ℕ) (w : Blocks) (ps : List (Yaml × Yaml)) → dict_text k w ps ≡ text_at k w (s.dict (shape_pairs_of (map pair_shapes ps)))
+dict_at k w [] = refl
+dict_at k w (p ∷ []) = sym (append-nil (pair_of k w p))
+dict_at k w (p ∷ q ∷ ps) =
+    lines-further k (pair_of k (before_more w)) (pair_of k w) p q ps
+    ∙ ap (λ (x : List ℕ). pair_of k (before_more w) p ++ x) (further_pairs k w q ps)
+    ∙ ap (λ (x : List ℕ). x ++ pairs_at k w (shape_pairs_of (map pair_shapes (q ∷ ps)))) (pair-same k w p)
+
+pub array_text : (k : ℕ) (w : Blocks) (whole : Yaml) (a : Array) (items : List Yaml) → whole ≡ array a → items ≡ array_list a
+    → list_text k w items ≡ text_at k w (shape_of whole)
+array_text k w whole a items is same = ap (list_text k w) same ∙ list_at k w (array_list a) ∙ sym (ap (text_at k w) (ap shape_of is ∙ shape-array a))
+
+pub hash_text : (k : ℕ) (w : Blocks) (whole : Yaml) (h : Hash) (pairs : List (Yaml × Yaml)) → whole ≡ hash h → pairs ≡ hash_list h
+    → dict_text k w pairs ≡ text_at k w (shape_of whole)
+hash_text k w whole h pairs is same = ap (dict_text k w) same ∙ dict_at k w (hash_list h) ∙ sym (ap (text_at k w) (ap shape_of is ∙ shape-hash h))
+
+-- the last item or value tells whether a block ends a collection
+items-last : (w : Blocks) (front : List Yaml) (t : Yaml)
+    → items_end w (shapes_of (map shape_of (front ++ t ∷ []))) ≡ ends_child (s.block_in w (shape_of t)) (ends_in_block w (shape_of t))
+items-last w [] t = refl
+items-last w (u ∷ []) t = refl
+items-last w (u ∷ v ∷ vs) t = items-last w (v ∷ vs) t
+
+pairs-last : (w : Blocks) (front : List (Yaml × Yaml)) (p : Yaml × Yaml)
+    → pairs_end w (shape_pairs_of (map pair_shapes (front ++ p ∷ []))) ≡ ends_child (s.block_in w (shape_of p.1)) (ends_in_block w (shape_of p.1))
+pairs-last w [] p = refl
+pairs-last w (q ∷ []) p = refl
+pairs-last w (q ∷ r ∷ rs) p = pairs-last w (r ∷ rs) p
+
+array-end : (w : Blocks) (whole : Yaml) (a : Array) (items : List Yaml) → whole ≡ array a → items ≡ array_list a
+    → items_end w (shapes_of (map shape_of items)) ≡ ends_in_block w (shape_of whole)
+array-end w whole a items is same =
+    ap (λ ts. items_end w (shapes_of (map shape_of ts))) same ∙ sym (ap (ends_in_block w) (ap shape_of is ∙ shape-array a))
+
+hash-end : (w : Blocks) (whole : Yaml) (h : Hash) (pairs : List (Yaml × Yaml)) → whole ≡ hash h → pairs ≡ hash_list h
+    → pairs_end w (shape_pairs_of (map pair_shapes pairs)) ≡ ends_in_block w (shape_of whole)
+hash-end w whole h pairs is same =
+    ap (λ ps. pairs_end w (shape_pairs_of (map pair_shapes ps))) same ∙ sym (ap (ends_in_block w) (ap shape_of is ∙ shape-hash h))
+
+pub array_ends : (w : Blocks) (whole : Yaml) (a : Array) (items front : List Yaml) (t : Yaml) → whole ≡ array a → items ≡ array_list a
+    → items ≡ front ++ t ∷ [] → ends_child (s.block_in w (shape_of t)) (ends_in_block w (shape_of t)) ≡ ends_in_block w (shape_of whole)
+array_ends w whole a items front t is same cut =
+    sym (items-last w front t) ∙ ap (λ ts. items_end w (shapes_of (map shape_of ts))) (sym cut) ∙ array-end w whole a items is same
+
+pub hash_ends : (w : Blocks) (whole : Yaml) (h : Hash) (pairs front : List (Yaml × Yaml)) (p : Yaml × Yaml) → whole ≡ hash h → pairs ≡ hash_list h
+    → pairs ≡ front ++ p ∷ [] → ends_child (s.block_in w (shape_of p.1)) (ends_in_block w (shape_of p.1)) ≡ ends_in_block w (shape_of whole)
+hash_ends w whole h pairs front p is same cut =
+    sym (pairs-last w front p) ∙ ap (λ ps. pairs_end w (shape_pairs_of (map pair_shapes ps))) (sym cut) ∙ hash-end w whole h pairs is same
+
+pub hash_empty : (w : Blocks) (whole : Yaml) (h : Hash) (pairs : List (Yaml × Yaml)) → whole ≡ hash h → pairs ≡ hash_list h → length pairs ≡ 0
+    → false ≡ ends_in_block w (shape_of whole)
+hash_empty w whole h [] is same none = hash-end w whole h [] is same
+hash_empty w whole h (p ∷ ps) is same none = absurd (omega (arith, none))

@@ -1,6 +1,10 @@
--- How far a walk came before memory was wanting.
-use Rattle.snap_emitter.proofs.Prelude.{◌≡◌, ℕ, zero, suc, ◌+◌, ◌-◌, ◌<◌, ◌≤◌, Bool, true, false, if◌then◌else◌, List, [], ◌∷◌, ◌++◌, length, take, drop, get_or, sym, ap, ◌∙◌, append_assoc, arith, take-append-drop, drop-cons, zero-add, flat_map-append, flat_map, IsBegun, gap, blanks, break_at, marked, text_at, item_line, list_text, key_of, pair_of, pair_line, dict_text, is_simple, is_flat, spelled, shape_of, Yaml}
-use Rattle.snap_emitter.proofs.Begun.{unmoved, begun_first, begun_then, begun_as}
+-- How far a walk came before it was out of memory.
+use Rattle.snap_emitter.proofs.Prelude.{◌≡◌, ℕ, suc, ◌+◌, ◌<◌, Bool, true, false, if◌then◌else◌, List, [], ◌∷◌, ◌++◌, length, take, drop, get_or, refl, sym, ap, ◌∙◌, append_assoc, append-nil, take_more, take-append-drop, drop-cons, flat_map-append, flat_map, IsBegun, Blocks, before_more, gap, break_at, mark_text, text_at, child_of, item_of, on_lines, list_text, key_of, pair_of, dict_text, is_simple, is_flat, spelled, shape_of, Yaml}
+use Rattle.snap_emitter.proofs.Begun.{added_twice, begun_first, begun_then, begun_as}
+
+-- a piece and the beginning of the next line
+abbrev pub ended_at : {X : Type 0} → ℕ → (X → List ℕ) → X → List ℕ
+ended_at k before x = before x ++ break_at k
 
 -- the pieces of a list, about one of them
 pieces : {X : Type 0} (f : X → List ℕ) (xs : List X) (i : ℕ) (x : X) → i < length xs → x ≡ get_or xs i x
@@ -10,103 +14,114 @@ pieces f xs i x below is =
     ∙ flat_map-append f (take i xs) (drop i xs)
     ∙ ap (λ ys. flat_map f (take i xs) ++ flat_map f ys) (drop-cons xs i x below ∙ ap (λ y. y ∷ drop (suc i) xs) (sym is))
 
--- a loop that failed within a piece
-pub begun_at : {X : Type 0} (f : X → List ℕ) (xs : List X) (i : ℕ) (x : X) (old opened mid new front : List ℕ) → opened ≡ old ++ front
-    → mid ≡ opened ++ flat_map f (take i xs) → i < length xs → x ≡ get_or xs i x → IsBegun mid new (f x) → IsBegun old new (front ++ flat_map f xs)
-begun_at f xs i x old opened mid new front first added below is h =
-    begun_then old opened new front (flat_map f xs) first
-    (begun_as opened new (flat_map f (take i xs) ++ (f x ++ flat_map f (drop (suc i) xs))) (flat_map f xs) (sym (pieces f xs i x below is))
-    (begun_then opened mid new (flat_map f (take i xs)) (f x ++ flat_map f (drop (suc i) xs)) added
-    (begun_first mid new (f x) (flat_map f (drop (suc i) xs)) h)))
+-- the pieces but the last, each with its end, and the last
+pub lines_whole : {X : Type 0} (k : ℕ) (before last : X → List ℕ) (front : List X) (x : X)
+    → on_lines k before last (front ++ x ∷ []) ≡ flat_map (ended_at k before) front ++ last x
+lines_whole k before last [] x = refl
+lines_whole k before last (y ∷ []) x = sym (append_assoc (ended_at k before y) [] (last x))
+lines_whole k before last (y ∷ z ∷ zs) x =
+    ap (λ t. ended_at k before y ++ t) (lines_whole k before last (z ∷ zs) x)
+    ∙ sym (append_assoc (ended_at k before y) (flat_map (ended_at k before) (z ∷ zs)) (last x))
 
--- what was added in two steps
-pub added_twice : (old mid new a b : List ℕ) → mid ≡ old ++ a → new ≡ mid ++ b → new ≡ old ++ (a ++ b)
-added_twice old mid new a b first second = second ∙ ap (λ x. x ++ b) first ∙ append_assoc old a b
+-- a loop over the pieces but the last: one more piece and its end
+pub lines_more : {X : Type 0} (k : ℕ) (before : X → List ℕ) (xs : List X) (i : ℕ) (x : X) (old mid added new : List ℕ)
+    → mid ≡ old ++ flat_map (ended_at k before) (take i xs) → added ≡ mid ++ before x → new ≡ added ++ break_at k → i < length xs → x ≡ get_or xs i x
+    → new ≡ old ++ flat_map (ended_at k before) (take (i + 1) xs)
+lines_more k before xs i x old mid added new so_far first second below is =
+    let f = ended_at k before in
+    let one : flat_map f (take (i + 1) xs) ≡ flat_map f (take i xs) ++ f x =
+    ap (flat_map f) (take_more xs i x below) ∙ flat_map-append f (take i xs) (get_or xs i x ∷ [])
+    ∙ ap (λ t. flat_map f (take i xs) ++ t) (append-nil (f (get_or xs i x)) ∙ ap f (sym is)) in
+    added_twice old mid new (flat_map f (take i xs)) (f x) so_far (added_twice mid added new (before x) (break_at k) first second)
+    ∙ ap (λ t. old ++ t) (sym one)
 
--- the two steps of an item: its mark, and its text
-pub item_mark : (mid new : List ℕ) (k : ℕ) (t : Yaml) → IsBegun mid new (break_at k ++ 45 ∷ 32 ∷ []) → IsBegun mid new (item_line k t)
-item_mark mid new k t h =
-    begun_as mid new ((break_at k ++ 45 ∷ 32 ∷ []) ++ text_at (k + 2) (shape_of t)) (item_line k t)
-    (append_assoc (break_at k) (45 ∷ 32 ∷ []) (text_at (k + 2) (shape_of t)))
-    (begun_first mid new (break_at k ++ 45 ∷ 32 ∷ []) (text_at (k + 2) (shape_of t)) h)
+-- the loop failed within a piece or its end, or behind it within the last piece
+pub begun_at : {X : Type 0} (k : ℕ) (before last : X → List ℕ) (xs : List X) (i : ℕ) (x y : X) (old mid new : List ℕ)
+    → mid ≡ old ++ flat_map (ended_at k before) (take i xs) → i < length xs → x ≡ get_or xs i x → IsBegun mid new (ended_at k before x)
+    → IsBegun old new (on_lines k before last (xs ++ y ∷ []))
+begun_at k before last xs i x y old mid new so_far below is h =
+    let f = ended_at k before in
+    begun_as old new (flat_map f xs ++ last y) (on_lines k before last (xs ++ y ∷ [])) (sym (lines_whole k before last xs y))
+    (begun_first old new (flat_map f xs) (last y)
+    (begun_as old new (flat_map f (take i xs) ++ (f x ++ flat_map f (drop (suc i) xs))) (flat_map f xs) (sym (pieces f xs i x below is))
+    (begun_then old mid new (flat_map f (take i xs)) (f x ++ flat_map f (drop (suc i) xs)) so_far
+    (begun_first mid new (f x) (flat_map f (drop (suc i) xs)) h))))
 
-pub item_text : (mid marked_text new : List ℕ) (k inner : ℕ) (t : Yaml) → inner ≡ k + 2 → marked_text ≡ mid ++ (break_at k ++ 45 ∷ 32 ∷ [])
-    → IsBegun marked_text new (text_at inner (shape_of t)) → IsBegun mid new (item_line k t)
-item_text mid marked_text new k inner t deep first h =
-    begun_as mid new ((break_at k ++ 45 ∷ 32 ∷ []) ++ text_at (k + 2) (shape_of t)) (item_line k t)
-    (append_assoc (break_at k) (45 ∷ 32 ∷ []) (text_at (k + 2) (shape_of t)))
-    (begun_then mid marked_text new (break_at k ++ 45 ∷ 32 ∷ []) (text_at (k + 2) (shape_of t)) first
-    (begun_as marked_text new (text_at inner (shape_of t)) (text_at (k + 2) (shape_of t)) (ap (λ n. text_at n (shape_of t)) deep) h))
+pub begun_last : {X : Type 0} (k : ℕ) (before last : X → List ℕ) (xs : List X) (y : X) (old mid new : List ℕ)
+    → mid ≡ old ++ flat_map (ended_at k before) xs → IsBegun mid new (last y) → IsBegun old new (on_lines k before last (xs ++ y ∷ []))
+begun_last k before last xs y old mid new so_far h =
+    begun_as old new (flat_map (ended_at k before) xs ++ last y) (on_lines k before last (xs ++ y ∷ [])) (sym (lines_whole k before last xs y))
+    (begun_then old mid new (flat_map (ended_at k before) xs) (last y) so_far h)
 
--- a list that failed at its first mark, and within a further item
-pub list_mark : (k : ℕ) (items rest : List Yaml) (first : Yaml) (old new : List ℕ) → items ≡ first ∷ rest → IsBegun old new (45 ∷ 32 ∷ [])
-    → IsBegun old new (list_text k items)
-list_mark k items rest first old new is h =
-    begun_as old new ((45 ∷ 32 ∷ []) ++ (text_at (k + 2) (shape_of first) ++ flat_map (item_line k) rest)) (list_text k items) (sym (ap (list_text k) is))
-    (begun_first old new (45 ∷ 32 ∷ []) (text_at (k + 2) (shape_of first) ++ flat_map (item_line k) rest) h)
+pub added_last : {X : Type 0} (k : ℕ) (before last : X → List ℕ) (xs : List X) (y : X) (old mid new : List ℕ)
+    → mid ≡ old ++ flat_map (ended_at k before) xs → new ≡ mid ++ last y → new ≡ old ++ on_lines k before last (xs ++ y ∷ [])
+added_last k before last xs y old mid new so_far h =
+    added_twice old mid new (flat_map (ended_at k before) xs) (last y) so_far h ∙ ap (λ t. old ++ t) (sym (lines_whole k before last xs y))
 
-pub list_loop : (k inner : ℕ) (items rest : List Yaml) (first t : Yaml) (i : ℕ) (old mark opened mid new : List ℕ) → items ≡ first ∷ rest → inner ≡ k + 2
-    → mark ≡ old ++ 45 ∷ 32 ∷ [] → opened ≡ mark ++ text_at inner (shape_of first) → mid ≡ opened ++ flat_map (item_line k) (take i rest)
-    → i < length rest → t ≡ get_or rest i t → IsBegun mid new (item_line k t) → IsBegun old new (list_text k items)
-list_loop k inner items rest first t i old mark opened mid new is deep one two added below at h =
-    begun_as old new (marked 45 (text_at (k + 2) (shape_of first)) ++ flat_map (item_line k) rest) (list_text k items) (sym (ap (list_text k) is))
-    (begun_at (item_line k) rest i t old opened mid new (marked 45 (text_at (k + 2) (shape_of first)))
-    (added_twice old mark opened (45 ∷ 32 ∷ []) (text_at (k + 2) (shape_of first)) one (two ∙ ap (λ n. mark ++ text_at n (shape_of first)) deep))
-    added below at h)
+-- a list and a dict that are not empty
+pub list_lines : (k : ℕ) (w : Blocks) (items front : List Yaml) (t : Yaml) → items ≡ front ++ t ∷ []
+    → on_lines k (item_of k (before_more w)) (item_of k w) (front ++ t ∷ []) ≡ list_text k w items
+list_lines k w items [] t is = sym (ap (list_text k w) is)
+list_lines k w items (u ∷ us) t is = sym (ap (list_text k w) is)
+
+pub dict_lines : (k : ℕ) (w : Blocks) (pairs front : List (Yaml × Yaml)) (p : Yaml × Yaml) → pairs ≡ front ++ p ∷ []
+    → on_lines k (pair_of k (before_more w)) (pair_of k w) (front ++ p ∷ []) ≡ dict_text k w pairs
+dict_lines k w pairs [] p is = sym (ap (dict_text k w) is)
+dict_lines k w pairs (q ∷ qs) p is = sym (ap (dict_text k w) is)
+
+-- a piece that was begun, and its end that was begun; u is the place that the code was told
+pub begun_piece : {X : Type 0} (k : ℕ) (piece : Blocks → X → List ℕ) (u v : Blocks) (x : X) (mid new : List ℕ) → u ≡ v → IsBegun mid new (piece u x)
+    → IsBegun mid new (ended_at k (piece v) x)
+begun_piece k piece u v x mid new same h =
+    begun_first mid new (piece v x) (break_at k) (begun_as mid new (piece u x) (piece v x) (ap (λ w. piece w x) same) h)
+
+pub begun_end : {X : Type 0} (k : ℕ) (piece : Blocks → X → List ℕ) (u v : Blocks) (x : X) (mid added new : List ℕ) → u ≡ v → added ≡ mid ++ piece u x
+    → IsBegun added new (break_at k) → IsBegun mid new (ended_at k (piece v) x)
+begun_end k piece u v x mid added new same first h =
+    begun_then mid added new (piece v x) (break_at k) (first ∙ ap (λ w. mid ++ piece w x) same) h
 
 -- a key that failed within its spelling, and at its mark
-pub key_spelled : (k : ℕ) (key : Yaml) (flat : Bool) (old new : List ℕ) → is_simple (shape_of key) ≡ true → IsBegun old new (spelled (shape_of key))
-    → IsBegun old new (key_of k key flat)
-key_spelled k key flat old new simple h =
-    begun_as old new (spelled (shape_of key) ++ 58 ∷ gap (k + 2) flat) (key_of k key flat)
+pub key_spelled : (k : ℕ) (w : Blocks) (key : Yaml) (flat : Bool) (old new : List ℕ) → is_simple (shape_of key) ≡ true
+    → IsBegun old new (spelled (shape_of key)) → IsBegun old new (key_of k w key flat)
+key_spelled k w key flat old new simple h =
+    begun_as old new (spelled (shape_of key) ++ 58 ∷ gap (k + 2) flat) (key_of k w key flat)
     (ap (λ b. if b then spelled (shape_of key) ++ 58 ∷ gap (k + 2) flat
-    else marked 63 (text_at (k + 2) (shape_of key)) ++ (break_at k ++ 58 ∷ 32 ∷ [])) (sym simple))
+    else mark_text 63 (text_at (k + 2) w (shape_of key)) ++ (break_at k ++ 58 ∷ 32 ∷ [])) (sym simple))
     (begun_first old new (spelled (shape_of key)) (58 ∷ gap (k + 2) flat) h)
 
-pub key_mark : (k : ℕ) (key : Yaml) (flat : Bool) (old new : List ℕ) → is_simple (shape_of key) ≡ false → IsBegun old new (63 ∷ 32 ∷ [])
-    → IsBegun old new (key_of k key flat)
-key_mark k key flat old new long h =
-    begun_as old new ((63 ∷ 32 ∷ []) ++ (text_at (k + 2) (shape_of key) ++ (break_at k ++ 58 ∷ 32 ∷ []))) (key_of k key flat)
+pub key_mark : (k : ℕ) (w : Blocks) (key : Yaml) (flat : Bool) (old new : List ℕ) → is_simple (shape_of key) ≡ false → IsBegun old new (63 ∷ 32 ∷ [])
+    → IsBegun old new (key_of k w key flat)
+key_mark k w key flat old new long h =
+    begun_as old new ((63 ∷ 32 ∷ []) ++ (text_at (k + 2) w (shape_of key) ++ (break_at k ++ 58 ∷ 32 ∷ []))) (key_of k w key flat)
     (ap (λ b. if b then spelled (shape_of key) ++ 58 ∷ gap (k + 2) flat
-    else marked 63 (text_at (k + 2) (shape_of key)) ++ (break_at k ++ 58 ∷ 32 ∷ [])) (sym long))
-    (begun_first old new (63 ∷ 32 ∷ []) (text_at (k + 2) (shape_of key) ++ (break_at k ++ 58 ∷ 32 ∷ [])) h)
+    else mark_text 63 (text_at (k + 2) w (shape_of key)) ++ (break_at k ++ 58 ∷ 32 ∷ [])) (sym long))
+    (begun_first old new (63 ∷ 32 ∷ []) (text_at (k + 2) w (shape_of key) ++ (break_at k ++ 58 ∷ 32 ∷ [])) h)
+
+-- a key up to its value, as the code was told its place and its value
+key-told : (k : ℕ) (u w : Blocks) (p : Yaml × Yaml) (flat : Bool) → u ≡ before_more w → flat ≡ is_flat (shape_of p.1)
+    → key_of k u p.0 flat ≡ key_of k (before_more w) p.0 (is_flat (shape_of p.1))
+key-told k u w p flat same one_line = ap (λ x. key_of k x p.0 flat) same ∙ ap (key_of k (before_more w) p.0) one_line
 
 -- a pair that failed within its key, and within its value
-pub pair_key : (k : ℕ) (p : Yaml × Yaml) (flat : Bool) (old new : List ℕ) → flat ≡ is_flat (shape_of p.1) → IsBegun old new (key_of k p.0 flat)
-    → IsBegun old new (pair_of k p)
-pair_key k p flat old new one_line h =
-    begun_first old new (key_of k p.0 (is_flat (shape_of p.1))) (text_at (k + 2) (shape_of p.1))
-    (begun_as old new (key_of k p.0 flat) (key_of k p.0 (is_flat (shape_of p.1))) (ap (key_of k p.0) one_line) h)
+pub pair_key : (k : ℕ) (u w : Blocks) (p : Yaml × Yaml) (flat : Bool) (old new : List ℕ) → u ≡ before_more w → flat ≡ is_flat (shape_of p.1)
+    → IsBegun old new (key_of k u p.0 flat) → IsBegun old new (pair_of k w p)
+pair_key k u w p flat old new same one_line h =
+    let key : List ℕ = key_of k (before_more w) p.0 (is_flat (shape_of p.1)) in
+    begun_first old new key (child_of (k + 2) w p.1) (begun_as old new (key_of k u p.0 flat) key (key-told k u w p flat same one_line) h)
 
-pub pair_value : (k inner : ℕ) (p : Yaml × Yaml) (flat : Bool) (old keyed new : List ℕ) → flat ≡ is_flat (shape_of p.1) → inner ≡ k + 2
-    → keyed ≡ old ++ key_of k p.0 flat → IsBegun keyed new (text_at inner (shape_of p.1)) → IsBegun old new (pair_of k p)
-pair_value k inner p flat old keyed new one_line deep first h =
-    begun_then old keyed new (key_of k p.0 (is_flat (shape_of p.1))) (text_at (k + 2) (shape_of p.1))
-    (first ∙ ap (λ b. old ++ key_of k p.0 b) one_line)
-    (begun_as keyed new (text_at inner (shape_of p.1)) (text_at (k + 2) (shape_of p.1)) (ap (λ n. text_at n (shape_of p.1)) deep) h)
+-- v is the place that the code was told for the value
+pub pair_value : (k inner : ℕ) (u v w : Blocks) (p : Yaml × Yaml) (flat : Bool) (old keyed new : List ℕ) → u ≡ before_more w → v ≡ w
+    → flat ≡ is_flat (shape_of p.1) → inner ≡ k + 2 → keyed ≡ old ++ key_of k u p.0 flat → IsBegun keyed new (child_of inner v p.1)
+    → IsBegun old new (pair_of k w p)
+pair_value k inner u v w p flat old keyed new same here one_line deep first h =
+    begun_then old keyed new (key_of k (before_more w) p.0 (is_flat (shape_of p.1))) (child_of (k + 2) w p.1)
+    (first ∙ ap (λ x. old ++ x) (key-told k u w p flat same one_line))
+    (begun_as keyed new (child_of inner v p.1) (child_of (k + 2) w p.1) (ap (λ n. child_of n v p.1) deep ∙ ap (λ x. child_of (k + 2) x p.1) here) h)
 
--- the two steps of a further pair: its break, and the pair
-pub line_break : (k : ℕ) (p : Yaml × Yaml) (mid new : List ℕ) → IsBegun mid new (break_at k) → IsBegun mid new (pair_line k p)
-line_break k p mid new h = begun_first mid new (break_at k) (pair_of k p) h
-
-pub line_of_pair : (k : ℕ) (p : Yaml × Yaml) (mid broken new : List ℕ) → broken ≡ mid ++ break_at k → IsBegun broken new (pair_of k p)
-    → IsBegun mid new (pair_line k p)
-line_of_pair k p mid broken new first h = begun_then mid broken new (break_at k) (pair_of k p) first h
-
--- a dict that failed within its first pair, and within a further one
-pub dict_first : (k : ℕ) (pairs rest : List (Yaml × Yaml)) (p : Yaml × Yaml) (old new : List ℕ) → pairs ≡ p ∷ rest → IsBegun old new (pair_of k p)
-    → IsBegun old new (dict_text k pairs)
-dict_first k pairs rest p old new is h =
-    begun_as old new (pair_of k p ++ flat_map (pair_line k) rest) (dict_text k pairs) (sym (ap (dict_text k) is))
-    (begun_first old new (pair_of k p) (flat_map (pair_line k) rest) h)
-
-pub dict_loop : (k inner : ℕ) (pairs rest : List (Yaml × Yaml)) (p q : Yaml × Yaml) (flat : Bool) (i : ℕ) (old keyed opened mid new : List ℕ)
-    → pairs ≡ p ∷ rest → flat ≡ is_flat (shape_of p.1) → inner ≡ k + 2 → keyed ≡ old ++ key_of k p.0 flat
-    → opened ≡ keyed ++ text_at inner (shape_of p.1) → mid ≡ opened ++ flat_map (pair_line k) (take i rest)
-    → i < length rest → q ≡ get_or rest i q → IsBegun mid new (pair_line k q) → IsBegun old new (dict_text k pairs)
-dict_loop k inner pairs rest p q flat i old keyed opened mid new is one_line deep one two added below at h =
-    begun_as old new (pair_of k p ++ flat_map (pair_line k) rest) (dict_text k pairs) (sym (ap (dict_text k) is))
-    (begun_at (pair_line k) rest i q old opened mid new (pair_of k p)
-    (added_twice old keyed opened (key_of k p.0 (is_flat (shape_of p.1))) (text_at (k + 2) (shape_of p.1)) (one ∙ ap (λ b. old ++ key_of k p.0 b) one_line)
-    (two ∙ ap (λ n. keyed ++ text_at n (shape_of p.1)) deep))
-    added below at h)
+pub pair_added : (k inner : ℕ) (u v w : Blocks) (p : Yaml × Yaml) (flat : Bool) (old keyed new : List ℕ) → u ≡ before_more w → v ≡ w
+    → flat ≡ is_flat (shape_of p.1) → inner ≡ k + 2 → keyed ≡ old ++ key_of k u p.0 flat → new ≡ keyed ++ child_of inner v p.1
+    → new ≡ old ++ pair_of k w p
+pair_added k inner u v w p flat old keyed new same here one_line deep first h =
+    added_twice old keyed new (key_of k (before_more w) p.0 (is_flat (shape_of p.1))) (child_of (k + 2) w p.1)
+    (first ∙ ap (λ x. old ++ x) (key-told k u w p flat same one_line))
+    (h ∙ ap (λ n. keyed ++ child_of n v p.1) deep ∙ ap (λ x. keyed ++ child_of (k + 2) x p.1) here)

@@ -1,5 +1,5 @@
--- What an emitter has written, and which text it was lent.
-use Rattle.std.specs.Prelude.{ℕ, List}
+-- What an emitter has written, which text it was lent, and whether it writes literal blocks.
+use Rattle.std.specs.Prelude.{ℕ, List, Bool}
 use Rattle.snap_emitter.specs.declared.emitter.YamlEmitter.{YamlEmitter}
 
 -- the text that it was lent, as it stands
@@ -9,3 +9,7 @@ written emitter = emitter.writer.now
 -- what tells that text from others
 abbrev pub lent_name : YamlEmitter → ℕ
 lent_name emitter = emitter.writer.ghost_name
+
+-- literal blocks are asked for
+abbrev pub is_literal : YamlEmitter → Bool
+is_literal emitter = emitter.literal

@@ -3,10 +3,9 @@ use Rattle.std.specs.Prelude.{ℕ, pos, List}
 use Rattle.std.specs.Fmt.{signed_decimal}
 use Rattle.snap_content.specs.Plain.{plain}
 use Rattle.snap_content.specs.Readable.{IsNumber, IsWithin}
-use Rattle.snap_content.specs.Spell.{spell_text}
 use Rattle.snap_content.specs.View.{tree}
 use Rattle.snap_content.specs.declared.content.Content.{Content}
-use Rattle.snap_emitter.specs.Shape.{Shape, scalar, plain_shape}
+use Rattle.snap_emitter.specs.Shape.{Shape, scalar, text, plain_shape}
 
 abbrev pub content_shape : Content → Shape
 content_shape c = plain_shape (plain (tree c))
@@ -15,7 +14,7 @@ abbrev pub pair_shape : Content × Content → Shape × Shape
 pair_shape p = (content_shape p.0, content_shape p.1)
 
 abbrev pub field_shape : List ℕ × Content → Shape × Shape
-field_shape f = (scalar (spell_text f.0), content_shape f.1)
+field_shape f = (text f.0, content_shape f.1)
 
 abbrev pub byte_shape : ℕ → Shape
 byte_shape b = scalar (signed_decimal (pos b))

@@ -1,4 +1,5 @@
 pub mod Shape
+pub mod Places
 pub mod Columns
 pub mod Emitted
 pub mod Document

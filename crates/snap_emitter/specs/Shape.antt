@@ -1,9 +1,11 @@
--- What is printed of a tree: scalars as they are spelled, lists and dicts.
-use Rattle.std.specs.Prelude.{ℕ, List, [], ◌∷◌, ◌++◌, Bool, true, false, nat_le, if◌then◌else◌, length, map, codes}
+-- What is printed of a tree: scalars as they are spelled, texts, lists and dicts; and its lines. A text is kept as it is, since where it
+-- stands says whether it is a literal block.
+use Rattle.std.specs.Prelude.{ℕ, List, [], ◌∷◌, ◌++◌, Bool, true, false, nat_le, if◌then◌else◌, length, map, codes, Option, None, Some}
 use Rattle.std.specs.Fmt.{signed_decimal}
 use Rattle.snap_content.specs.Plain as p
 use Rattle.snap_content.specs.Spell.{spelling, spell_bool, spell_text}
-use Rattle.snap_content.specs.Lines.{indented, behind}
+use Rattle.snap_print.specs.Blocks.{Blocks, before_more, is_block, block_sign, kept_ends}
+use Rattle.snap_print.specs.Lines.{block_lines, indented, behind, marked}
 use Rattle.snap_yaml.specs.Value as v
 use Rattle.snap_yaml.specs.View.{value_of}
 use Rattle.snap_yaml.specs.declared.yaml.Yaml.{Yaml}
@@ -11,6 +13,7 @@ use Rattle.snap_yaml.specs.declared.yaml.Yaml.{Yaml}
 mutual
   pub data Shape : Type 0 where
     scalar : List ℕ → Shape
+    text : List ℕ → Shape
     list : Shapes → Shape
     dict : ShapePairs → Shape
 
@@ -25,12 +28,14 @@ mutual
 -- what is written for a scalar or an empty collection
 abbrev pub spelled : Shape → List ℕ
 spelled (scalar s) = s
+spelled (text s) = spell_text s
 spelled (list _) = codes "[]"
 spelled (dict _) = codes "{}"
 
 -- a scalar or an empty collection
 abbrev pub is_flat : Shape → Bool
 is_flat (scalar s) = true
+is_flat (text s) = true
 is_flat (list no_shapes) = true
 is_flat (list (shape s ss)) = false
 is_flat (dict no_pairs) = true
@@ -39,39 +44,61 @@ is_flat (dict (pair k v ps)) = false
 -- a key that is written before a colon
 abbrev pub is_simple : Shape → Bool
 is_simple (scalar s) = nat_le (length s) 1024
+is_simple (text s) = nat_le (length (spell_text s)) 1024
 is_simple (list _) = false
 is_simple (dict _) = false
 
--- the lines of a pair, from its key and value and the lines of both
-abbrev pub pair_block : Shape → Shape → List (List ℕ) → List (List ℕ) → List (List ℕ)
-pair_block key value key_lines value_lines =
-    if is_simple key then (if is_flat value then (spelled key ++ 58 ∷ 32 ∷ spelled value) ∷ [] else (spelled key ++ 58 ∷ []) ∷ map indented value_lines)
-    else behind 63 key_lines ++ behind 58 value_lines
+-- the text of what is written as a block, as an item or a value
+abbrev pub block_in : Blocks → Shape → Option (List ℕ)
+block_in w (scalar s) = None
+block_in w (text s) = if is_block w s then Some s else None
+block_in w (list ts) = None
+block_in w (dict ps) = None
+
+-- the lines of a value behind its key and a colon
+abbrev pub keyed : Blocks → List ℕ → Shape → Option (List ℕ) → List (List ℕ) → List (List ℕ)
+keyed w key value None ls = if is_flat value then (key ++ 58 ∷ 32 ∷ spelled value) ∷ [] else (key ++ 58 ∷ []) ∷ map indented ls
+keyed w key value (Some s) ls = (key ++ 58 ∷ 32 ∷ block_sign (kept_ends s)) ∷ block_lines w s
+
+-- the lines of a pair, from its key and value and the lines of both; w is where the value stands
+abbrev pub pair_block : Blocks → Shape → Shape → List (List ℕ) → List (List ℕ) → List (List ℕ)
+pair_block w key value key_lines value_lines =
+    if is_simple key then keyed w (spelled key) value (block_in w value) value_lines
+    else behind 63 key_lines ++ marked w 58 (block_in w value) value_lines
+
+abbrev pub before_shapes : Blocks → Shapes → Blocks
+before_shapes w no_shapes = w
+before_shapes w (shape t ts) = before_more w
+
+abbrev pub before_pairs : Blocks → ShapePairs → Blocks
+before_pairs w no_pairs = w
+before_pairs w (pair k v ps) = before_more w
 
 -- the lines of a shape, as those of a plain tree are defined
 abbrev mutual
-  pub lines : Shape → List (List ℕ)
-  lines (scalar s) = s ∷ []
-  lines (list no_shapes) = codes "[]" ∷ []
-  lines (list (shape s ss)) = behind 45 (lines s) ++ list_lines ss
-  lines (dict no_pairs) = codes "{}" ∷ []
-  lines (dict (pair k v ps)) = pair_block k v (lines k) (lines v) ++ dict_lines ps
+  pub lines : Blocks → Shape → List (List ℕ)
+  lines w (scalar s) = s ∷ []
+  lines w (text s) = spell_text s ∷ []
+  lines w (list no_shapes) = codes "[]" ∷ []
+  lines w (list (shape t ts)) = marked (before_shapes w ts) 45 (block_in (before_shapes w ts) t) (lines (before_shapes w ts) t) ++ list_lines w ts
+  lines w (dict no_pairs) = codes "{}" ∷ []
+  lines w (dict (pair k v ps)) = pair_block (before_pairs w ps) k v (lines (before_more w) k) (lines (before_pairs w ps) v) ++ dict_lines w ps
 
-  pub list_lines : Shapes → List (List ℕ)
-  list_lines no_shapes = []
-  list_lines (shape s ss) = behind 45 (lines s) ++ list_lines ss
+  pub list_lines : Blocks → Shapes → List (List ℕ)
+  list_lines w no_shapes = []
+  list_lines w (shape t ts) = marked (before_shapes w ts) 45 (block_in (before_shapes w ts) t) (lines (before_shapes w ts) t) ++ list_lines w ts
 
-  pub dict_lines : ShapePairs → List (List ℕ)
-  dict_lines no_pairs = []
-  dict_lines (pair k v ps) = pair_block k v (lines k) (lines v) ++ dict_lines ps
+  pub dict_lines : Blocks → ShapePairs → List (List ℕ)
+  dict_lines w no_pairs = []
+  dict_lines w (pair k v ps) = pair_block (before_pairs w ps) k v (lines (before_more w) k) (lines (before_pairs w ps) v) ++ dict_lines w ps
 
--- the shape of a plain tree
+-- the shape of a plain tree, whether literal blocks are asked for or not
 abbrev mutual
   pub plain_shape : p.Plain → Shape
   plain_shape p.null = scalar (spelling p.null)
   plain_shape (p.bool b) = scalar (spelling (p.bool b))
   plain_shape (p.int z) = scalar (spelling (p.int z))
-  plain_shape (p.text s) = scalar (spelling (p.text s))
+  plain_shape (p.text s) = text s
   plain_shape (p.list items) = list (plain_shapes items)
   plain_shape (p.dict entries) = dict (plain_pairs entries)
 
@@ -88,7 +115,7 @@ abbrev mutual
   pub value_shape : v.Value → Shape
   value_shape (v.real s) = scalar s
   value_shape (v.integer z) = scalar (signed_decimal z)
-  value_shape (v.string s) = scalar (spell_text s)
+  value_shape (v.string s) = text s
   value_shape (v.boolean b) = scalar (spell_bool b)
   value_shape (v.array items) = list (value_shapes items)
   value_shape (v.hash pairs) = dict (value_pairs pairs)

@@ -3,10 +3,9 @@ ghost use Rattle.std.specs.Prelude.{◌≡◌, [], ◌∷◌, IfOk, map, pos};
 ghost use Rattle.std.specs.Fmt.{decimal, signed_decimal};
 ghost use Rattle.std.specs.List.{All};
 ghost use Rattle.snap_content.specs.Readable.{IsNumber};
-ghost use Rattle.snap_content.specs.Spell.{spell_text};
 ghost use Rattle.snap_yaml.specs.View.{array_list, hash_list};
 ghost use Rattle.snap_emitter.specs.FromContent.{content_shape, pair_shape, field_shape, byte_shape, IsByteWithin, IsContentWithin, IsPairWithin, IsFieldWithin};
-ghost use Rattle.snap_emitter.specs.Shape.{scalar, dict, pair, no_pairs, shape_of, pair_shapes};
+ghost use Rattle.snap_emitter.specs.Shape.{scalar, text, dict, pair, no_pairs, shape_of, pair_shapes};
 
 use itoa::Buffer;
 use snap_content::{Content, OutOfMemory, Text};
@@ -58,15 +57,15 @@ pub fn yaml_of(alloc: Global, content: &Content) -> Result<Yaml, OutOfMemory>
 }
 
 /// The value of a text.
-fn string(alloc: Global, text: &Text) -> Result<Yaml, OutOfMemory>
-    ensures { IfOk result (λ made. shape_of made ≡ scalar (spell_text text.now)) }
+fn string(alloc: Global, value: &Text) -> Result<Yaml, OutOfMemory>
+    ensures { IfOk result (λ made. shape_of made ≡ text value.now) }
 {
-    Ok(Yaml::String(text.try_clone(alloc)?))
+    Ok(Yaml::String(value.try_clone(alloc)?))
 }
 
 /// The value of a text of one character.
 fn one_character(alloc: Global, value: char) -> Result<Yaml, OutOfMemory>
-    ensures { IfOk result (λ made. shape_of made ≡ scalar (spell_text (value ∷ []))) }
+    ensures { IfOk result (λ made. shape_of made ≡ text (value ∷ [])) }
 {
     let mut text = Text::empty();
     text.push(alloc, value)?;
@@ -114,7 +113,7 @@ fn integer_digits(alloc: Global, value: i128) -> Result<Yaml, OutOfMemory>
 /// A dict of one pair.
 fn named(alloc: Global, name: &Text, inner: Yaml) -> Result<Yaml, OutOfMemory>
     ensures { IfOk result (λ made. shape_of made
-        ≡ dict (pair (scalar (spell_text name.now)) (shape_of inner) no_pairs)) }
+        ≡ dict (pair (text name.now) (shape_of inner) no_pairs)) }
 {
     let mut pairs = Hash::new(alloc);
     pairs.push((Yaml::String(name.try_clone(alloc)?), inner))?;

@@ -1,15 +1,18 @@
-//! The emitter: a value is printed in one walk into one text that is lent.
-//! Its `specs/` say what is printed of a value, as a shape: a scalar as it is spelled, a list, or a dict.
+//! The emitter: a value is printed in one walk into one text that is lent, with literal blocks where they are asked for.
+//! Its `specs/` say what is printed of a value, as a shape: a scalar as it is spelled, a text, a list, or a dict.
 //!
-//! In the order in which data flows: `quotes` (which texts need double quotes), `written` (how long a scalar is), `scalars`, `blanks`
-//! and `emit` (the walk), `emitter` and `documents` (whole documents), `from_content` and `printing` (trees, printed through their
-//! values), `laws`.
+//! In the order in which data flows: `quotes` (which texts need double quotes), `written` (how long a scalar is), `scalars`, `blanks`,
+//! `blocks` (where a tree stands), `block` (a literal block) and `emit` (the walk), `ending`, `emitter` and `documents` (whole
+//! documents), `from_content` and `printing` (trees, printed through their values), `laws`.
 #![tactic(auto)]
 
 pub mod blanks;
+pub mod block;
+pub mod blocks;
 pub mod documents;
 pub mod emit;
 pub mod emitter;
+pub mod ending;
 pub mod from_content;
 pub mod laws;
 pub mod printing;
@@ -17,6 +20,7 @@ pub mod quotes;
 pub mod scalars;
 pub mod written;
 
+pub use blocks::Blocks;
 pub use emitter::{EmitError, EmitResult, YamlEmitter};
 pub use from_content::yaml_of;
 pub use written::written_len;

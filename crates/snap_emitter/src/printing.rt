@@ -7,12 +7,13 @@ ghost use Rattle.snap_print.specs.Lines.{document_of, text_of};
 ghost use Rattle.snap_emitter.specs.Columns.{IsBegun};
 ghost use Rattle.snap_emitter.specs.FromContent.{IsContentWithin};
 
+use crate::blocks::Blocks;
 use crate::documents::{push_body, push_document};
 use crate::from_content::yaml_of;
 use snap_content::{Content, OutOfMemory, Text};
 use std::alloc::Global;
 
-/// Adds `---` and the text of the plain form. After want of memory a beginning of that was added.
+/// Adds `---` and the text of the plain form. When out of memory, a beginning of that was added.
 pub fn print_document(
     out: &mut Text,
     alloc: Global,
@@ -24,10 +25,10 @@ pub fn print_document(
     ensures err { OnErr result (IsBegun out.old out.new (document_of (blocks_if literal) (plain (tree content.now)))) }
 {
     let made = yaml_of(alloc, content)?;
-    push_document(out, alloc, &made)
+    push_document(out, alloc, &made, Blocks::of_text(literal))
 }
 
-/// Adds the text of the plain form. After want of memory a beginning of that was added.
+/// Adds the text of the plain form. When out of memory, a beginning of that was added.
 pub fn print_body(
     out: &mut Text,
     alloc: Global,
@@ -39,7 +40,7 @@ pub fn print_body(
     ensures err { OnErr result (IsBegun out.old out.new (text_of (blocks_if literal) (plain (tree content.now)))) }
 {
     let made = yaml_of(alloc, content)?;
-    push_body(out, alloc, &made)
+    push_body(out, alloc, &made, Blocks::of_text(literal))
 }
 
 /// `---` and the text of the plain form.

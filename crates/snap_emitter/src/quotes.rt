@@ -73,7 +73,7 @@ fn holds_special(text: &str) -> bool
 }
 
 /// Whether white space ends the text.
-fn has_bad_end(text: &str) -> bool
+pub fn has_bad_end(text: &str) -> bool
     ensures { result ≡ ends_badly (chars text.now) }
 {
     match split_last(text) {

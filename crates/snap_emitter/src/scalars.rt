@@ -76,7 +76,7 @@ fn after_bare(text: &str) -> &str
 }
 
 /// Adds characters as they are.
-fn push_run(out: &mut Text, alloc: Global, run: &str) -> Result<(), OutOfMemory>
+pub fn push_run(out: &mut Text, alloc: Global, run: &str) -> Result<(), OutOfMemory>
     ensures ok { OnOk result (out.new ≡ out.old ++ chars run.now) }
     ensures err { OnErr result (IsBegun out.old out.new (chars run.now)) }
 {
@@ -109,7 +109,7 @@ fn push_quoted(out: &mut Text, alloc: Global, value: &str) -> Result<(), OutOfMe
     out.push(alloc, '"')
 }
 
-/// Adds the text as it is spelled: in double quotes where it needs them. After want of memory a beginning of that was added.
+/// Adds the text as it is spelled: in double quotes where it needs them. When out of memory, a beginning of that was added.
 pub fn push_spelled_text(out: &mut Text, alloc: Global, value: &Text) -> Result<(), OutOfMemory>
     ensures ok { OnOk result (out.new ≡ out.old ++ spell_text value.now) }
     ensures err { OnErr result (IsBegun out.old out.new (spell_text value.now)) }

@@ -1,5 +1,6 @@
 -- A document in any layout owes its tokens, and a printed one is such a document.
 use Rattle.snap_owed.proofs.Prelude.{Blocks, is_right_of, start_state, flat_map, document_at, form_of, document_tokens, ◌≡◌, ℕ, List, [], ◌∷◌, ◌++◌, Bool, true, false, refl, sym, ap, ◌∙◌, append-nil, append_assoc, Some, None, Option, map, subst, inl, map-append, if◌then◌else◌, slice_index, Mark, before_nul, mark_of, Token, TokenType, closed, done, refused, State, kept, ends, at, pushed, unrolled, fetched, left_by, none_more, one_more, type_of, Owes, here, calm, Settles, closing, blanks}
+use Rattle.std.proofs.lemmas.List.{append_cancel_right}
 use Rattle.snap_token.specs.Place.{forced}
 use Rattle.snap_token.specs.declared.info.ScanInfo.TheVariants as info
 use Rattle.snap_token.specs.declared.token.TEncoding.TheVariants.{Utf8}
@@ -24,7 +25,9 @@ use Rattle.snap_owed.proofs.Skips.{stops_at}
 use Rattle.snap_content.specs.Lines.{ended}
 use Rattle.snap_print.specs.Lines as l
 use Rattle.snap_content.specs.Plain.{Plain}
-use Rattle.snap_owed.specs.PrintedLayouts.{printed_document}
+use Rattle.snap_owed.specs.Endings.{ends_in_block}
+use Rattle.snap_owed.specs.PrintedLayouts.{line, printed_document, dumped_document}
+use Rattle.snap_owed.proofs.Endings.{same-end}
 use Rattle.snap_owed.proofs.LaidOut.{lines-text}
 use Rattle.snap_owed.proofs.PrintedLayouts as form
 use Rattle.snap_owed.proofs.Printables.{printable, no-block, same-lines, same-tokens}
@@ -126,16 +129,32 @@ laid-source d is =
     let Q : List ℕ → Type 0 = λ x. Owes (start_scan x).state (document_with (layout_tokens d.tree)) in
     subst Q (sym whole) (laid-document d is)
 
-pub plain-text : (b : Blocks) (p : Plain) → l.document_of b p ≡ laid.document_text (printed_document (form_of b p))
-plain-text b p =
+columns : (b : Blocks) (p : Plain) → l.document_of b p ≡ document_at (form_of b p)
+columns b p =
     let join : List (List ℕ) → List ℕ = λ x. 45 ∷ 45 ∷ 45 ∷ 10 ∷ flat_map ended x in
     let after : List ℕ → List ℕ = λ x. 45 ∷ 45 ∷ 45 ∷ 10 ∷ x in
-    let same : l.document_of b p ≡ document_at (form_of b p) = ap join (same-lines b p) ∙ ap after (lines-text (form_of b p) (no-block b p) (printable b p)) in
-    same ∙ sym (form.printed-text (form_of b p) (no-block b p))
+    ap join (same-lines b p) ∙ ap after (lines-text (form_of b p) (no-block b p) (printable b p))
+
+pub plain-text : (b : Blocks) (p : Plain) → l.document_of b p ≡ laid.document_text (printed_document (form_of b p))
+plain-text b p = columns b p ∙ sym (form.printed-text (form_of b p) (no-block b p))
 
 pub plain-source : (b : Blocks) (p : Plain) → Owes (start_scan (before_nul (l.document_of b p))).state (document_tokens b p)
 plain-source b p =
     let d : w.Document = printed_document (form_of b p) in
     let P : List ℕ → Type 0 = λ x. Owes (start_scan (before_nul x)).state (document_tokens b p) in
     let Q : List TokenType → Type 0 = λ x. Owes (start_scan (before_nul (laid.document_text d))).state (document_with x) in
-    subst P (sym (plain-text b p)) (subst Q (form.same-tokens (form_of b p) ∙ same-tokens b p) (laid-source d (form.printed-is-laid (form_of b p) (printable b p))))
+    subst P (sym (plain-text b p)) (subst Q (form.same-tokens (w.next line) (form_of b p) ∙ same-tokens b p) (laid-source d (form.printed-is-laid (form_of b p) (printable b p))))
+
+-- a printed text without its last line's end is the text of a layout
+pub dumped-plain : (b : Blocks) (p : Plain) (text : List ℕ) → ends_in_block b p ≡ false → text ++ 10 ∷ [] ≡ l.document_of b p → text ≡ laid.document_text (dumped_document (form_of b p))
+dumped-plain b p text free is =
+    let d : w.Document = dumped_document (form_of b p) in
+    append_cancel_right text (laid.document_text d) (10 ∷ []) (is ∙ columns b p ∙ sym (form.dumped-text (form_of b p) (no-block b p) (same-end b p ∙ free)))
+
+pub dumped-source : (b : Blocks) (p : Plain) (text : List ℕ) → ends_in_block b p ≡ false → text ++ 10 ∷ [] ≡ l.document_of b p → Owes (start_scan (before_nul text)).state (document_tokens b p)
+dumped-source b p text free is =
+    let d : w.Document = dumped_document (form_of b p) in
+    let P : List ℕ → Type 0 = λ x. Owes (start_scan (before_nul x)).state (document_tokens b p) in
+    let Q : List TokenType → Type 0 = λ x. Owes (start_scan (before_nul (laid.document_text d))).state (document_with x) in
+    subst P (sym (dumped-plain b p text free is))
+    (subst Q (form.same-tokens w.unended (form_of b p) ∙ same-tokens b p) (laid-source d (form.dumped-is-laid (form_of b p) (printable b p))))

@@ -9,6 +9,7 @@ use Rattle.snap_owed.specs.LayoutTexts as laid
 use Rattle.snap_owed.specs.LayoutRules as rule
 use Rattle.snap_owed.specs.LayoutTokens as t
 use Rattle.snap_owed.specs.PrintedLayouts as p
+use Rattle.snap_owed.specs.FormEndings.{ends_in_block, forms_end, entry_ends, entries_end}
 use Rattle.snap_owed.proofs.Escapes.{glyph}
 use Rattle.snap_owed.proofs.Quotes.{small-code}
 
@@ -92,7 +93,7 @@ same-word : (v : form.Scalar) (rest : List ℕ) → laid.spelled (p.scalar_of v)
 same-word v rest = rw (same-spelling v) (sym (append_assoc (form.spelled v) (10 ∷ []) rest))
 
 mutual
-  pub same-text : (f : form.Form) → form.IsNode f → (j : ℕ) (rest : List ℕ) → laid.layout_onto j (p.layout_of f) rest ≡ form.text_at j f ++ rest
+  pub same-text : (f : form.Form) → form.IsNode f → (j : ℕ) (rest : List ℕ) → laid.layout_onto j (p.layout_of (w.next p.line) f) rest ≡ form.text_at j f ++ rest
   same-text (form.scalar v) node j rest = same-word v rest
   same-text (form.block u count more) node j rest = absurd node
   same-text (form.hollow q) node j rest = refl
@@ -100,20 +101,20 @@ mutual
   same-text (form.dict es) node j rest = same-entries es j rest
 
   -- behind a mark
-  same-item : (f : form.Form) (j : ℕ) (rest : List ℕ) → laid.item_onto j (p.item_of f) rest ≡ 32 ∷ (form.text_at (j + 1 + 1) f ++ rest)
+  same-item : (f : form.Form) (j : ℕ) (rest : List ℕ) → laid.item_onto j (p.item_of (w.next p.line) f) rest ≡ 32 ∷ (form.text_at (j + 1 + 1) f ++ rest)
   same-item (form.scalar v) j rest = let f : List ℕ → List ℕ = λ x. 32 ∷ x in ap f (same-word v rest)
   same-item (form.block u count more) j rest = refl
   same-item (form.hollow q) j rest = refl
   same-item (form.list ts) j rest = let f : List ℕ → List ℕ = λ x. 32 ∷ 45 ∷ x in rw (add-zero (j + 1 + 1)) (ap f (same-items ts (j + 1 + 1) rest))
   same-item (form.dict es) j rest = let f : List ℕ → List ℕ = λ x. 32 ∷ x in rw (add-zero (j + 1 + 1)) (ap f (same-entries es (j + 1 + 1) rest))
 
-  same-items : (ts : form.Forms) (j : ℕ) (rest : List ℕ) → laid.items_onto j (p.items_of ts) rest ≡ 32 ∷ (form.inside j ts ++ rest)
+  same-items : (ts : form.Forms) (j : ℕ) (rest : List ℕ) → laid.items_onto j (p.items_of (w.next p.line) ts) rest ≡ 32 ∷ (form.inside j ts ++ rest)
   same-items (form.last f) j rest = same-item f j rest
   same-items (form.item f ts) j rest =
-      let at : List ℕ → List ℕ = λ x. laid.item_onto j (p.item_of f) (blanks j ++ (45 ∷ x)) in
+      let at : List ℕ → List ℕ = λ x. laid.item_onto j (p.item_of (w.next p.line) f) (blanks j ++ (45 ∷ x)) in
       ap at (same-items ts j rest) ∙ same-item f j (blanks j ++ (45 ∷ 32 ∷ (form.inside j ts ++ rest))) ∙ simp append_assoc
 
-  same-value : (f : form.Form) (j : ℕ) (rest : List ℕ) → laid.value_onto j (p.value_of f) rest ≡ form.value_block j f (form.text_at (j + 1 + 1) f) ++ rest
+  same-value : (f : form.Form) (j : ℕ) (rest : List ℕ) → laid.value_onto j (p.value_of (w.next p.line) f) rest ≡ form.value_block j f (form.text_at (j + 1 + 1) f) ++ rest
   same-value (form.scalar v) j rest = let f : List ℕ → List ℕ = λ x. 32 ∷ x in ap f (same-word v rest)
   same-value (form.block u count more) j rest = refl
   same-value (form.hollow q) j rest = refl
@@ -122,57 +123,123 @@ mutual
   same-value (form.dict es) j rest =
       let at : List ℕ → List ℕ = λ x. 10 ∷ (blanks (j + 1 + 1) ++ x) in ap at (same-entries es (j + 1 + 1) rest) ∙ simp append_assoc
 
-  same-entry : (e : form.Entry) (j : ℕ) (rest : List ℕ) → laid.entry_onto j (p.entry_of e) rest ≡ form.entry_at j e ++ rest
+  same-entry : (e : form.Entry) (j : ℕ) (rest : List ℕ) → laid.entry_onto j (p.entry_of (w.next p.line) e) rest ≡ form.entry_at j e ++ rest
   same-entry (form.simple v f) j rest =
-      let at : List ℕ → List ℕ = λ x. x ++ (58 ∷ laid.value_onto j (p.value_of f) rest) in
+      let at : List ℕ → List ℕ = λ x. x ++ (58 ∷ laid.value_onto j (p.value_of (w.next p.line) f) rest) in
       let by : List ℕ → List ℕ = λ x. form.spelled v ++ (58 ∷ x) in
       ap at (same-spelling v) ∙ ap by (same-value f j rest) ∙ simp append_assoc
   same-entry (form.complex q f) j rest =
-      let at : List ℕ → List ℕ = λ x. 63 ∷ laid.item_onto j (p.item_of q) (blanks j ++ (58 ∷ x)) in
+      let at : List ℕ → List ℕ = λ x. 63 ∷ laid.item_onto j (p.item_of (w.next p.line) q) (blanks j ++ (58 ∷ x)) in
       let by : List ℕ → List ℕ = λ x. 63 ∷ x in
       ap at (same-item f j rest) ∙ ap by (same-item q j (blanks j ++ (58 ∷ 32 ∷ (form.text_at (j + 1 + 1) f ++ rest)))) ∙ simp append_assoc
 
-  same-entries : (es : form.Entries) (j : ℕ) (rest : List ℕ) → laid.entries_onto j (p.entries_of es) rest ≡ form.entries_at j es ++ rest
+  same-entries : (es : form.Entries) (j : ℕ) (rest : List ℕ) → laid.entries_onto j (p.entries_of (w.next p.line) es) rest ≡ form.entries_at j es ++ rest
   same-entries (form.only e) j rest = same-entry e j rest
   same-entries (form.pair e es) j rest =
-      let at : List ℕ → List ℕ = λ x. laid.entry_onto j (p.entry_of e) (blanks j ++ x) in
+      let at : List ℕ → List ℕ = λ x. laid.entry_onto j (p.entry_of (w.next p.line) e) (blanks j ++ x) in
       ap at (same-entries es j rest) ∙ same-entry e j (blanks j ++ (form.entries_at j es ++ rest)) ∙ simp append_assoc
+
+-- the same without the end of the last line, where that is none of a block
+
+open-word : (v : form.Scalar) → laid.spelled (p.scalar_of v) ++ [] ++ 10 ∷ [] ≡ form.spelled v ++ 10 ∷ []
+open-word v = rw (append-nil (laid.spelled (p.scalar_of v)), same-spelling v) refl
+
+mutual
+  open-text : (f : form.Form) → form.IsNode f → ends_in_block f ≡ false → (j : ℕ) → laid.layout_onto j (p.layout_of w.unended f) [] ++ 10 ∷ [] ≡ form.text_at j f
+  open-text (form.scalar v) node free j = open-word v
+  open-text (form.block u count more) node free j = absurd node
+  open-text (form.hollow q) node free j = refl
+  open-text (form.list ts) node free j = let f : List ℕ → List ℕ = λ x. 45 ∷ x in ap f (open-items ts free j)
+  open-text (form.dict es) node free j = open-entries es free j
+
+  open-item : (f : form.Form) → ends_in_block f ≡ false → (j : ℕ) → laid.item_onto j (p.item_of w.unended f) [] ++ 10 ∷ [] ≡ 32 ∷ form.text_at (j + 1 + 1) f
+  open-item (form.scalar v) free j = let f : List ℕ → List ℕ = λ x. 32 ∷ x in ap f (open-word v)
+  open-item (form.block u count more) free j = absurd (cc)
+  open-item (form.hollow q) free j = refl
+  open-item (form.list ts) free j = let f : List ℕ → List ℕ = λ x. 32 ∷ 45 ∷ x in rw (add-zero (j + 1 + 1)) (ap f (open-items ts free (j + 1 + 1)))
+  open-item (form.dict es) free j = let f : List ℕ → List ℕ = λ x. 32 ∷ x in rw (add-zero (j + 1 + 1)) (ap f (open-entries es free (j + 1 + 1)))
+
+  open-items : (ts : form.Forms) → forms_end ts ≡ false → (j : ℕ) → laid.items_onto j (p.items_of w.unended ts) [] ++ 10 ∷ [] ≡ 32 ∷ form.inside j ts
+  open-items (form.last f) free j = open-item f free j
+  open-items (form.item f ts) free j =
+      let rest : List ℕ = laid.items_onto j (p.items_of w.unended ts) [] in
+      let fed : List ℕ → List ℕ = λ x. x ++ 10 ∷ [] in
+      let at : List ℕ → List ℕ = λ x. 32 ∷ (form.text_at (j + 1 + 1) f ++ (blanks j ++ (45 ∷ x))) in
+      let split : (32 ∷ (form.text_at (j + 1 + 1) f ++ (blanks j ++ (45 ∷ rest)))) ++ 10 ∷ [] ≡ at (rest ++ 10 ∷ []) = simp append_assoc in
+      ap fed (same-item f j (blanks j ++ (45 ∷ rest))) ∙ split ∙ ap at (open-items ts free j)
+
+  open-value : (f : form.Form) → ends_in_block f ≡ false → (j : ℕ) → laid.value_onto j (p.value_of w.unended f) [] ++ 10 ∷ [] ≡ form.value_block j f (form.text_at (j + 1 + 1) f)
+  open-value (form.scalar v) free j = let f : List ℕ → List ℕ = λ x. 32 ∷ x in ap f (open-word v)
+  open-value (form.block u count more) free j = absurd (cc)
+  open-value (form.hollow q) free j = refl
+  open-value (form.list ts) free j =
+      let rest : List ℕ = laid.items_onto (j + 1 + 1) (p.items_of w.unended ts) [] in
+      let at : List ℕ → List ℕ = λ x. 10 ∷ (blanks (j + 1 + 1) ++ (45 ∷ x)) in
+      let feed : List ℕ → List ℕ = λ x. 10 ∷ x in
+      ap feed (append_assoc (blanks (j + 1 + 1)) (45 ∷ rest) (10 ∷ [])) ∙ ap at (open-items ts free (j + 1 + 1))
+  open-value (form.dict es) free j =
+      let rest : List ℕ = laid.entries_onto (j + 1 + 1) (p.entries_of w.unended es) [] in
+      let at : List ℕ → List ℕ = λ x. 10 ∷ (blanks (j + 1 + 1) ++ x) in
+      let feed : List ℕ → List ℕ = λ x. 10 ∷ x in
+      ap feed (append_assoc (blanks (j + 1 + 1)) rest (10 ∷ [])) ∙ ap at (open-entries es free (j + 1 + 1))
+
+  open-entry : (e : form.Entry) → entry_ends e ≡ false → (j : ℕ) → laid.entry_onto j (p.entry_of w.unended e) [] ++ 10 ∷ [] ≡ form.entry_at j e
+  open-entry (form.simple v f) free j =
+      let rest : List ℕ = laid.value_onto j (p.value_of w.unended f) [] in
+      let key : List ℕ → List ℕ = λ x. x ++ (58 ∷ rest) ++ 10 ∷ [] in
+      let at : List ℕ → List ℕ = λ x. form.spelled v ++ (58 ∷ x) in
+      ap key (same-spelling v) ∙ append_assoc (form.spelled v) (58 ∷ rest) (10 ∷ []) ∙ ap at (open-value f free j)
+  open-entry (form.complex q f) free j =
+      let rest : List ℕ = laid.item_onto j (p.item_of w.unended f) [] in
+      let fed : List ℕ → List ℕ = λ x. 63 ∷ (x ++ 10 ∷ []) in
+      let at : List ℕ → List ℕ = λ x. 63 ∷ 32 ∷ (form.text_at (j + 1 + 1) q ++ (blanks j ++ (58 ∷ x))) in
+      let split : 63 ∷ ((32 ∷ (form.text_at (j + 1 + 1) q ++ (blanks j ++ (58 ∷ rest)))) ++ 10 ∷ []) ≡ at (rest ++ 10 ∷ []) = simp append_assoc in
+      ap fed (same-item q j (blanks j ++ (58 ∷ rest))) ∙ split ∙ ap at (open-item f free j)
+
+  open-entries : (es : form.Entries) → entries_end es ≡ false → (j : ℕ) → laid.entries_onto j (p.entries_of w.unended es) [] ++ 10 ∷ [] ≡ form.entries_at j es
+  open-entries (form.only e) free j = open-entry e free j
+  open-entries (form.pair e es) free j =
+      let rest : List ℕ = laid.entries_onto j (p.entries_of w.unended es) [] in
+      let fed : List ℕ → List ℕ = λ x. x ++ 10 ∷ [] in
+      let at : List ℕ → List ℕ = λ x. form.entry_at j e ++ (blanks j ++ x) in
+      let split : form.entry_at j e ++ (blanks j ++ rest) ++ 10 ∷ [] ≡ at (rest ++ 10 ∷ []) = simp append_assoc in
+      ap fed (same-entry e j (blanks j ++ rest)) ∙ split ∙ ap at (open-entries es free j)
 
 -- the tokens
 
 mutual
-  pub same-tokens : (f : form.Form) → t.layout_tokens (p.layout_of f) ≡ form.tokens_of f
-  same-tokens (form.scalar v) = let f : TokenType → List TokenType = λ x. x ∷ [] in ap f (same-token v)
-  same-tokens (form.block u count more) = refl
-  same-tokens (form.hollow q) = refl
-  same-tokens (form.list ts) = let f : List TokenType → List TokenType = λ x. k.BlockSequenceStart ∷ k.BlockEntry ∷ (x ++ k.BlockEnd ∷ []) in ap f (tokens-items ts)
-  same-tokens (form.dict es) = let f : List TokenType → List TokenType = λ x. k.BlockMappingStart ∷ (x ++ k.BlockEnd ∷ []) in ap f (tokens-entries es)
+  pub same-tokens : (r : w.Rest) (f : form.Form) → t.layout_tokens (p.layout_of r f) ≡ form.tokens_of f
+  same-tokens r (form.scalar v) = let f : TokenType → List TokenType = λ x. x ∷ [] in ap f (same-token v)
+  same-tokens r (form.block u count more) = refl
+  same-tokens r (form.hollow q) = refl
+  same-tokens r (form.list ts) = let f : List TokenType → List TokenType = λ x. k.BlockSequenceStart ∷ k.BlockEntry ∷ (x ++ k.BlockEnd ∷ []) in ap f (tokens-items r ts)
+  same-tokens r (form.dict es) = let f : List TokenType → List TokenType = λ x. k.BlockMappingStart ∷ (x ++ k.BlockEnd ∷ []) in ap f (tokens-entries r es)
 
-  tokens-item : (f : form.Form) → t.item_tokens (p.item_of f) ≡ form.tokens_of f
-  tokens-item (form.scalar v) = let f : TokenType → List TokenType = λ x. x ∷ [] in ap f (same-token v)
-  tokens-item (form.block u count more) = refl
-  tokens-item (form.hollow q) = refl
-  tokens-item (form.list ts) = let f : List TokenType → List TokenType = λ x. k.BlockSequenceStart ∷ k.BlockEntry ∷ (x ++ k.BlockEnd ∷ []) in ap f (tokens-items ts)
-  tokens-item (form.dict es) = let f : List TokenType → List TokenType = λ x. k.BlockMappingStart ∷ (x ++ k.BlockEnd ∷ []) in ap f (tokens-entries es)
+  tokens-item : (r : w.Rest) (f : form.Form) → t.item_tokens (p.item_of r f) ≡ form.tokens_of f
+  tokens-item r (form.scalar v) = let f : TokenType → List TokenType = λ x. x ∷ [] in ap f (same-token v)
+  tokens-item r (form.block u count more) = refl
+  tokens-item r (form.hollow q) = refl
+  tokens-item r (form.list ts) = let f : List TokenType → List TokenType = λ x. k.BlockSequenceStart ∷ k.BlockEntry ∷ (x ++ k.BlockEnd ∷ []) in ap f (tokens-items r ts)
+  tokens-item r (form.dict es) = let f : List TokenType → List TokenType = λ x. k.BlockMappingStart ∷ (x ++ k.BlockEnd ∷ []) in ap f (tokens-entries r es)
 
-  tokens-items : (ts : form.Forms) → t.items_tokens (p.items_of ts) ≡ form.inside_tokens ts
-  tokens-items (form.last f) = tokens-item f
-  tokens-items (form.item f ts) = rw (tokens-item f, tokens-items ts) refl
+  tokens-items : (r : w.Rest) (ts : form.Forms) → t.items_tokens (p.items_of r ts) ≡ form.inside_tokens ts
+  tokens-items r (form.last f) = tokens-item r f
+  tokens-items r (form.item f ts) = rw (tokens-item (w.next p.line) f, tokens-items r ts) refl
 
-  tokens-value : (f : form.Form) → t.value_tokens (p.value_of f) ≡ form.tokens_of f
-  tokens-value (form.scalar v) = let f : TokenType → List TokenType = λ x. x ∷ [] in ap f (same-token v)
-  tokens-value (form.block u count more) = refl
-  tokens-value (form.hollow q) = refl
-  tokens-value (form.list ts) = let f : List TokenType → List TokenType = λ x. k.BlockSequenceStart ∷ k.BlockEntry ∷ (x ++ k.BlockEnd ∷ []) in ap f (tokens-items ts)
-  tokens-value (form.dict es) = let f : List TokenType → List TokenType = λ x. k.BlockMappingStart ∷ (x ++ k.BlockEnd ∷ []) in ap f (tokens-entries es)
+  tokens-value : (r : w.Rest) (f : form.Form) → t.value_tokens (p.value_of r f) ≡ form.tokens_of f
+  tokens-value r (form.scalar v) = let f : TokenType → List TokenType = λ x. x ∷ [] in ap f (same-token v)
+  tokens-value r (form.block u count more) = refl
+  tokens-value r (form.hollow q) = refl
+  tokens-value r (form.list ts) = let f : List TokenType → List TokenType = λ x. k.BlockSequenceStart ∷ k.BlockEntry ∷ (x ++ k.BlockEnd ∷ []) in ap f (tokens-items r ts)
+  tokens-value r (form.dict es) = let f : List TokenType → List TokenType = λ x. k.BlockMappingStart ∷ (x ++ k.BlockEnd ∷ []) in ap f (tokens-entries r es)
 
-  tokens-entry : (e : form.Entry) → t.entry_tokens (p.entry_of e) ≡ form.entry_tokens e
-  tokens-entry (form.simple v f) = rw (same-token v, tokens-value f) refl
-  tokens-entry (form.complex q f) = rw (tokens-item q, tokens-item f) refl
+  tokens-entry : (r : w.Rest) (e : form.Entry) → t.entry_tokens (p.entry_of r e) ≡ form.entry_tokens e
+  tokens-entry r (form.simple v f) = rw (same-token v, tokens-value r f) refl
+  tokens-entry r (form.complex q f) = rw (tokens-item (w.next p.line) q, tokens-item r f) refl
 
-  tokens-entries : (es : form.Entries) → t.entries_tokens (p.entries_of es) ≡ form.entries_tokens es
-  tokens-entries (form.only e) = tokens-entry e
-  tokens-entries (form.pair e es) = rw (tokens-entry e, tokens-entries es) refl
+  tokens-entries : (r : w.Rest) (es : form.Entries) → t.entries_tokens (p.entries_of r es) ≡ form.entries_tokens es
+  tokens-entries r (form.only e) = tokens-entry r e
+  tokens-entries r (form.pair e es) = rw (tokens-entry (w.next p.line) e, tokens-entries r es) refl
 
 -- what must hold of it
 
@@ -183,44 +250,51 @@ key-fits v h =
     rw (scalar-fits v two.0, short) refl
 
 mutual
-  pub layout-fits : (f : form.Form) (e : rule.Position) → form.IsPrintable f → rule.IsLayout e (p.layout_of f)
-  layout-fits (form.scalar v) e is = (scalar-fits v is, refl)
-  layout-fits (form.block u count more) e is = is
-  layout-fits (form.hollow q) e is = refl
-  layout-fits (form.list ts) e is = items-fit ts e is
-  layout-fits (form.dict es) e is = entries-fit es e is
+  pub layout-fits : (f : form.Form) (e : rule.Position) (r : w.Rest) → rule.IsRest e r → form.IsPrintable f → rule.IsLayout e (p.layout_of r f)
+  layout-fits (form.scalar v) e r ends is = (scalar-fits v is, ends)
+  layout-fits (form.block u count more) e r ends is = is
+  layout-fits (form.hollow q) e r ends is = ends
+  layout-fits (form.list ts) e r ends is = items-fit ts e r ends is
+  layout-fits (form.dict es) e r ends is = entries-fit es e r ends is
 
-  item-fits : (f : form.Form) (e : rule.Position) → form.IsPrintable f → rule.IsItem e (p.item_of f)
-  item-fits (form.scalar v) e is = (scalar-fits v is, refl)
-  item-fits (form.block u count more) e is = is
-  item-fits (form.hollow q) e is = refl
-  item-fits (form.list ts) e is = items-fit ts e is
-  item-fits (form.dict es) e is = entries-fit es e is
+  item-fits : (f : form.Form) (e : rule.Position) (r : w.Rest) → rule.IsRest e r → form.IsPrintable f → rule.IsItem e (p.item_of r f)
+  item-fits (form.scalar v) e r ends is = (scalar-fits v is, ends)
+  item-fits (form.block u count more) e r ends is = is
+  item-fits (form.hollow q) e r ends is = ends
+  item-fits (form.list ts) e r ends is = items-fit ts e r ends is
+  item-fits (form.dict es) e r ends is = entries-fit es e r ends is
 
-  items-fit : (ts : form.Forms) (e : rule.Position) → form.ArePrintable ts → rule.AreItems e (p.items_of ts)
-  items-fit (form.last f) e is = item-fits f e is
-  items-fit (form.item f ts) e is = (item-fits f rule.inside is.0, items-fit ts e is.1)
+  items-fit : (ts : form.Forms) (e : rule.Position) (r : w.Rest) → rule.IsRest e r → form.ArePrintable ts → rule.AreItems e (p.items_of r ts)
+  items-fit (form.last f) e r ends is = item-fits f e r ends is
+  items-fit (form.item f ts) e r ends is = (item-fits f rule.inside (w.next p.line) refl is.0, items-fit ts e r ends is.1)
 
-  value-fits : (f : form.Form) (e : rule.Position) → form.IsPrintable f → rule.IsValue e (p.value_of f)
-  value-fits (form.scalar v) e is = (scalar-fits v is, refl)
-  value-fits (form.block u count more) e is = is
-  value-fits (form.hollow q) e is = refl
-  value-fits (form.list ts) e is = (refl, items-fit ts e is)
-  value-fits (form.dict es) e is = (refl, entries-fit es e is)
+  value-fits : (f : form.Form) (e : rule.Position) (r : w.Rest) → rule.IsRest e r → form.IsPrintable f → rule.IsValue e (p.value_of r f)
+  value-fits (form.scalar v) e r ends is = (scalar-fits v is, ends)
+  value-fits (form.block u count more) e r ends is = is
+  value-fits (form.hollow q) e r ends is = ends
+  value-fits (form.list ts) e r ends is = (refl, items-fit ts e r ends is)
+  value-fits (form.dict es) e r ends is = (refl, entries-fit es e r ends is)
 
-  entry-fits : (t : form.Entry) (e : rule.Position) → form.IsEntry t → rule.IsEntry e (p.entry_of t)
-  entry-fits (form.simple v f) e is = (key-fits v is.0, value-fits f e is.1)
-  entry-fits (form.complex q f) e is = (item-fits q rule.inside is.0, item-fits f e is.1)
+  entry-fits : (t : form.Entry) (e : rule.Position) (r : w.Rest) → rule.IsRest e r → form.IsEntry t → rule.IsEntry e (p.entry_of r t)
+  entry-fits (form.simple v f) e r ends is = (key-fits v is.0, value-fits f e r ends is.1)
+  entry-fits (form.complex q f) e r ends is = (item-fits q rule.inside (w.next p.line) refl is.0, item-fits f e r ends is.1)
 
-  entries-fit : (es : form.Entries) (e : rule.Position) → form.AreEntries es → rule.AreEntries e (p.entries_of es)
-  entries-fit (form.only t) e is = entry-fits t e is
-  entries-fit (form.pair t es) e is = (entry-fits t rule.inside is.0, entries-fit es e is.1)
+  entries-fit : (es : form.Entries) (e : rule.Position) (r : w.Rest) → rule.IsRest e r → form.AreEntries es → rule.AreEntries e (p.entries_of r es)
+  entries-fit (form.only t) e r ends is = entry-fits t e r ends is
+  entries-fit (form.pair t es) e r ends is = (entry-fits t rule.inside (w.next p.line) refl is.0, entries-fit es e r ends is.1)
 
 pub printed-is-laid : (f : form.Form) → form.IsPrintable f → rule.IsDocument (p.printed_document f)
-printed-is-laid f is = (refl, layout-fits f rule.ending is)
+printed-is-laid f is = (refl, layout-fits f rule.ending (w.next p.line) refl is)
+
+pub dumped-is-laid : (f : form.Form) → form.IsPrintable f → rule.IsDocument (p.dumped_document f)
+dumped-is-laid f is = (refl, layout-fits f rule.ending w.unended refl is)
 
 -- a printed document is the text of its layout
 pub printed-text : (f : form.Form) → form.IsNode f → laid.document_text (p.printed_document f) ≡ form.document_at f
 printed-text f node =
     let after : List ℕ → List ℕ = λ x. 45 ∷ 45 ∷ 45 ∷ 10 ∷ x in
     ap after (same-text f node 0 [] ∙ append-nil (form.text_at 0 f))
+
+-- so is one without its last line's end
+pub dumped-text : (f : form.Form) → form.IsNode f → ends_in_block f ≡ false → laid.document_text (p.dumped_document f) ++ 10 ∷ [] ≡ form.document_at f
+dumped-text f node free = let after : List ℕ → List ℕ = λ x. 45 ∷ 45 ∷ 45 ∷ 10 ∷ x in ap after (open-text f node free 0)

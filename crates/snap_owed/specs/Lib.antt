@@ -10,3 +10,5 @@ pub mod LayoutTokens
 pub mod PrintedLayouts
 pub mod FreeLayouts
 pub mod LayoutExamples
+pub mod Endings
+pub mod FormEndings

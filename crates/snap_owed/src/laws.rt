@@ -1,10 +1,12 @@
 //! Laws of printed texts, and of texts in free layouts.
+ghost use Rattle.std.specs.Prelude.{◌≡◌, ◌∷◌, ◌++◌, [], false, ℕ, List};
 ghost use Rattle.snap_content.specs.Plain.{Plain};
 ghost use Rattle.snap_print.specs.Blocks.{Blocks};
 ghost use Rattle.snap_print.specs.Lines.{document_of};
 ghost use Rattle.snap_token.specs.Place.{before_nul};
 ghost use Rattle.snap_scan.specs.Owed.{Owes};
 ghost use Rattle.snap_scan.specs.Scan.{start_scan};
+ghost use Rattle.snap_owed.specs.Endings.{ends_in_block};
 ghost use Rattle.snap_owed.specs.FreeLayouts.{IsFree};
 ghost use Rattle.snap_owed.specs.LayoutExamples.{AreLaid};
 ghost use Rattle.snap_owed.specs.LayoutTokens.{layout_tokens};
@@ -18,6 +20,13 @@ ghost use Rattle.snap_owed.specs.Tokens.{document_tokens, document_with};
 pub const fn printed_texts_owe_their_tokens()
     ensures { (w : Blocks) (p : Plain) → Owes (start_scan (before_nul (document_of w p))).state
         (document_tokens w p) }
+{}
+
+/// So does that of such a text without the end of its last line, where no block ends the text.
+pub const fn dumped_texts_owe_their_tokens()
+    ensures { (w : Blocks) (p : Plain) (text : List ℕ) → ends_in_block w p ≡ false
+        → text ++ 10 ∷ [] ≡ document_of w p
+        → Owes (start_scan (before_nul text)).state (document_tokens w p) }
 {}
 
 /// A new scanner of a text in any free layout owes the tokens of its tree.

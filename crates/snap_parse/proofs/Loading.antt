@@ -1,5 +1,5 @@
 -- What is loaded of a whole stream.
-use Rattle.snap_parse.proofs.Prelude.{◌≡◌, List, [], ◌∷◌, map, sym, ap, ◌∙◌, subst, Blocks, document_of, Plain, document_tokens, plain-source, json_node, Owes, start_scan, before_nul, TokenType, Parsing, WillGive, start_spot, Yields, node_of, Event, Node, stream_events, ℕ, Result, IfOk, Value, document_value, steps, start, AreLoaded, scan_error}
+use Rattle.snap_parse.proofs.Prelude.{◌≡◌, false, List, [], ◌∷◌, ◌++◌, map, sym, ap, ◌∙◌, subst, Blocks, document_of, Plain, document_tokens, plain-source, json_node, Owes, start_scan, before_nul, TokenType, Parsing, WillGive, start_spot, Yields, node_of, Event, Node, stream_events, ℕ, Result, IfOk, Value, document_value, steps, start, AreLoaded, scan_error}
 use Rattle.snap_owed_json.specs.Bounded.{IsJsonOf}
 use Rattle.snap_owed_json.specs.Tokens.{json_stream_tokens}
 use Rattle.snap_owed_json.proofs.Events.{json-events}
@@ -9,7 +9,8 @@ use Rattle.snap_owed.specs.Layouts.{Document, Layout}
 use Rattle.snap_owed.specs.LayoutTexts.{document_text}
 use Rattle.snap_owed.specs.LayoutRules.{IsDocument}
 use Rattle.snap_owed.specs.Tokens.{document_with}
-use Rattle.snap_owed.proofs.Documents.{laid-source}
+use Rattle.snap_owed.specs.Endings.{ends_in_block}
+use Rattle.snap_owed.proofs.Documents.{laid-source, dumped-source}
 use Rattle.snap_parse.specs.LaidEvents.{layout_tree}
 use Rattle.snap_parse.specs.LaidValues.{layout_value}
 use Rattle.snap_parse.specs.TreeNodes.{tree_node}
@@ -61,6 +62,12 @@ pub printed-given : (source : List ℕ) (w : Blocks) (p : Plain) (parser : Parsi
 printed-given source w p parser is gives =
     let P : List ℕ → Type 0 = λ v. Owes (start_scan (before_nul v)).state (document_tokens w p) in
     gives (document_tokens w p) (stream_events (node_of w p ∷ [])) (subst P (sym is) (plain-source w p)) (printed-events w p)
+
+-- the same of such a text without its last line's end
+pub dumped-given : (source : List ℕ) (w : Blocks) (p : Plain) (parser : Parsing) → ends_in_block w p ≡ false → source ++ 10 ∷ [] ≡ document_of w p
+    → ((tokens : List TokenType) (events : List Event) → Owes (start_scan (before_nul source)).state tokens → Yields start_spot tokens events → WillGive parser events)
+    → WillGive parser (stream_events (node_of w p ∷ []))
+dumped-given source w p parser free is gives = gives (document_tokens w p) (stream_events (node_of w p ∷ [])) (dumped-source w p source free is) (printed-events w p)
 
 -- the same of the JSON text of a bounded tree
 pub json-given : (source : List ℕ) (p : Plain) (parser : Parsing) → IsJsonOf p source

@@ -1,11 +1,12 @@
 -- A text has one document, whether it is printed of a tree or lies in a layout.
-use Rattle.snap_parse.proofs.Prelude.{◌≡◌, ℕ, List, [], ◌∷◌, map, true, false, Some, sym, ap, ◌∙◌, refl, subst, Blocks, document_of, Plain, document_tokens, plain-source, fetched, Steps, none_more, one_more, type_of, Owes, start_scan, before_nul, TokenType, Event, Node, stream_events, Spot, start_spot, Parsed, parse_step, stage_step, Yields, finished, then_one, Value, document_value, node_of, read_value, IsWithin, steps, start}
+use Rattle.snap_parse.proofs.Prelude.{◌≡◌, ℕ, List, [], ◌∷◌, ◌++◌, map, true, false, Some, sym, ap, ◌∙◌, refl, subst, Blocks, document_of, Plain, document_tokens, plain-source, fetched, Steps, none_more, one_more, type_of, Owes, start_scan, before_nul, TokenType, Event, Node, stream_events, Spot, start_spot, Parsed, parse_step, stage_step, Yields, finished, then_one, Value, document_value, node_of, read_value, IsWithin, steps, start}
 use Rattle.snap_owed.specs.LayoutRules.{IsDocument}
 use Rattle.snap_owed.specs.LayoutTexts.{document_text}
 use Rattle.snap_owed.specs.LayoutTokens.{layout_tokens}
 use Rattle.snap_owed.specs.Layouts.{Document}
 use Rattle.snap_owed.specs.Tokens.{document_with}
-use Rattle.snap_owed.proofs.Documents.{laid-source}
+use Rattle.snap_owed.specs.Endings.{ends_in_block}
+use Rattle.snap_owed.proofs.Documents.{laid-source, dumped-source}
 use Rattle.snap_scan.specs.State.{State}
 use Rattle.snap_parser.specs.declared.state.Stage.TheVariants as g
 use Rattle.snap_parse.specs.LaidEvents.{layout_tree}
@@ -78,6 +79,16 @@ pub record HasValue (text : List ℕ) (value : Value) : Type 0 where
 -- whether texts are written as literal blocks doesn't matter
 pub printed-value : (w : Blocks) (p : Plain) → IsWithin p → HasValue (document_of w p) (read_value p)
 printed-value w p within = record { node = node_of w p; tokens = document_tokens w p; owes = plain-source w p; yields = printed-events w p; value_is = document-read w p within }
+
+-- the same without its last line's end, where no block ends the text
+pub dumped-value : (w : Blocks) (p : Plain) (text : List ℕ) → IsWithin p → ends_in_block w p ≡ false → text ++ 10 ∷ [] ≡ document_of w p → HasValue text (read_value p)
+dumped-value w p text within free is = record {
+  node = node_of w p;
+  tokens = document_tokens w p;
+  owes = dumped-source w p text free is;
+  yields = printed-events w p;
+  value_is = document-read w p within;
+}
 
 pub laid-one-value : (d : Document) → IsDocument d → HasValue (document_text d) (layout_value d.tree)
 laid-one-value d is = record {

@@ -1,11 +1,12 @@
 //! All documents of a text.
-ghost use Rattle.std.specs.Prelude.{◌≡◌, ◌≢◌, IfOk, IfErr, map, [], ◌∷◌};
+ghost use Rattle.std.specs.Prelude.{◌≡◌, ◌≢◌, IfOk, IfErr, map, [], ◌∷◌, ◌++◌, false};
 ghost use Rattle.std.specs.Str.{chars};
 ghost use Rattle.snap_content.specs.Plain.{Plain};
 ghost use Rattle.snap_print.specs.Blocks.{Blocks};
 ghost use Rattle.snap_print.specs.Lines.{document_of};
 ghost use Rattle.snap_token.specs.Place.{before_nul};
 ghost use Rattle.snap_scan.specs.Sound.{IsFounded};
+ghost use Rattle.snap_owed.specs.Endings.{ends_in_block};
 ghost use Rattle.snap_owed.specs.Layouts.{Document};
 ghost use Rattle.snap_owed.specs.LayoutTexts.{document_text};
 ghost use Rattle.snap_owed.specs.LayoutRules.{IsDocument};
@@ -35,6 +36,13 @@ impl YamlLoader {
             → IfOk result (λ made. map value_of (array_list made)
             ≡ document_value (node_of w p) ∷ []) }
         ensures memory { (w : Blocks) (p : Plain) → chars source.now ≡ document_of w p
+            → IfErr result (λ e. e ≡ ScanError.OutOfMemory) }
+        ensures dumped { (w : Blocks) (p : Plain) → ends_in_block w p ≡ false
+            → chars source.now ++ 10 ∷ [] ≡ document_of w p
+            → IfOk result (λ made. map value_of (array_list made)
+            ≡ document_value (node_of w p) ∷ []) }
+        ensures dumped_memory { (w : Blocks) (p : Plain) → ends_in_block w p ≡ false
+            → chars source.now ++ 10 ∷ [] ≡ document_of w p
             → IfErr result (λ e. e ≡ ScanError.OutOfMemory) }
         ensures json { (p : Plain) → IsJsonOf p (chars source.now)
             → IfOk result (λ made. map value_of (array_list made)

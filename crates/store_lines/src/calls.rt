@@ -9,7 +9,7 @@
 //! - `copy_metadata METADATA`, `copy_contents CONTENTS` and `copy_snapshot SNAPSHOT`: what a copy tells.
 //! - `agree CONTENTS CONTENTS`: whether they agree.
 use crate::{copies, reading, saving, trees};
-use row_lines::first_column;
+use rows::first_column;
 use snap_content::{Error, OutOfMemory, Text};
 use std::alloc::Global;
 

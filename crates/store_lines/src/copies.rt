@@ -2,11 +2,11 @@
 //!
 //! Contents stand in one column: `text=` and a text, `payload=` and bytes, or `absent`.
 use crate::shown::{metadata_shown, snapshot_shown};
-use row_lines::{first_column, text_of};
+use rows::{first_column, text_of};
 use snap_content::{OutOfMemory, Text};
 use snap_store::{MetaData, Snapshot, SnapshotContents};
 use snap_text::{TextSnapshotContents, TextSnapshotKind};
-use snapshot_lines::{bytes_of, metadata_of, snapshot_of};
+use rows_snapshots::{bytes_of, metadata_of, snapshot_of};
 use std::alloc::Global;
 
 fn metadata_copied(alloc: Global, metadata: &MetaData) -> Result<Text, OutOfMemory> {

@@ -19,7 +19,7 @@ mod trees;
 
 use crate::calls::called;
 use crate::shown::refusal;
-use row_lines::answer_rows;
+use rows::answer_rows;
 use snap_content::Text;
 use std::alloc::Global;
 

@@ -1,12 +1,12 @@
 //! Files that are cut, and files that are read.
 use crate::shown::{add_metadata, snapshot_into_line};
-use row_lines::{add_escaped, first_column, text_of};
+use rows::{add_escaped, first_column, text_of};
 use snap_content::{Error, OutOfMemory, Text};
 use snap_outside::SteadyStore;
 use snap_store::legacy::{legacy_metadata, legacy_text};
 use snap_store::split::{Headed, split_file};
 use snap_store::{MetaData, Snapshot};
-use snapshot_lines::bytes_of;
+use rows_snapshots::bytes_of;
 use std::alloc::Global;
 
 /// The header and the body of a file, in two columns.

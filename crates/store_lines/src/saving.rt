@@ -2,12 +2,12 @@
 ghost use Rattle.std.specs.Prelude.{IsSome};
 ghost use Rattle.snap_store.specs.Views.{contents_in, text_in};
 
-use row_lines::{add_escaped, add_file, first_column, text_of};
+use rows::{add_escaped, add_file, first_column, text_of};
 use snap_content::{Error, OutOfMemory, Text};
 use snap_outside::SteadyStore;
 use snap_store::Snapshot;
 use snap_text::TextSnapshotKind;
-use snapshot_lines::snapshot_of;
+use rows_snapshots::snapshot_of;
 use std::alloc::Global;
 
 /// The path of a file, how many files the store has, and that file's text.

@@ -1,5 +1,5 @@
 //! How metadata, snapshots and refusals stand on a line.
-use row_lines::add_escaped;
+use rows::add_escaped;
 use snap_content::{Content, Error, OutOfMemory, Text};
 use snap_store::{MetaData, Snapshot, SnapshotKind};
 use std::alloc::Global;
@@ -78,7 +78,7 @@ fn add_number(
     line.push_str(alloc, told.as_str())
 }
 
-/// Adds the word of a tree, as `snapshot_lines` reads it; `?` for a tree of which it has none.
+/// Adds the word of a tree, as `rows_snapshots` reads it; `?` for a tree of which it has none.
 pub(crate) fn add_tree(alloc: Global, line: &mut Text, tree: &Content) -> Result<(), OutOfMemory> {
     match tree {
         Content::String(text) => {

@@ -2,10 +2,10 @@
 //!
 //! A map stands in one column: pairs `NAME=WORD` of a text and a tree of one word, with `; ` between each two.
 use crate::shown::{add_tree, metadata_into_line};
-use row_lines::text_of;
+use rows::text_of;
 use snap_content::{Content, Error, OutOfMemory, Pairs, Text};
 use snap_store::MetaData;
-use snapshot_lines::tree_of_word;
+use rows_snapshots::tree_of_word;
 use std::alloc::Global;
 
 fn pair_of(alloc: Global, pair: &str) -> Result<(Content, Content), OutOfMemory> {

@@ -3,11 +3,11 @@ use crate::error::AskError;
 use crate::lists::{copied_line, list_line, order_line};
 use crate::readers::readers_line;
 use crate::words::{add_value, add_word, found_line};
-use row_lines::{first_column, text_of};
+use rows::{first_column, text_of};
 use snap_content::{OutOfMemory, Text};
 use snap_yaml::{Yaml, YamlIter};
 use std::alloc::Global;
-use value_lines::value_of_line;
+use rows::value_of_line;
 
 /// The answer to the question of that name.
 pub(crate) fn answered(alloc: Global, name: &str, columns: &str) -> Result<Text, anyhow::Error> {

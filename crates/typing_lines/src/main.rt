@@ -1,6 +1,6 @@
 //! Prints what texts are typed as and what is read of values, as lines.
 //! A line is a heading, `# ` and a text, which is answered by itself; or columns with a tab between each two: a name, and what it
-//! asks of the others. A value takes all columns from the one where it begins, as `value_lines` reads them, and is answered likewise.
+//! asks of the others. A value takes all columns from the one where it begins, as `rows` reads them, and is answered likewise.
 //!
 //! `plain TEXT` is the value of a plain scalar, and `tagged HANDLE SUFFIX TEXT` that of one behind a tag. `readers VALUE` has the name
 //! of each reader that gives something, and what it gives: a list that is borrowed as how long it is. `get KEY VALUE` and
@@ -19,7 +19,7 @@ mod readers;
 mod words;
 
 use crate::asked::answered;
-use row_lines::{answer_rows, first_column};
+use rows::{answer_rows, first_column};
 use snap_content::Text;
 use std::alloc::Global;
 

@@ -1,7 +1,7 @@
 //! What the readers of a value give.
 use crate::asked::read_value;
 use crate::words::{add_value, add_word};
-use row_lines::add_escaped;
+use rows::add_escaped;
 use snap_content::{OutOfMemory, Text};
 use snap_yaml::Yaml;
 use std::alloc::Global;

@@ -1,5 +1,5 @@
-//! A value as the words that `value_lines` reads, with a tab between each two.
-use row_lines::add_escaped;
+//! A value as the words that `rows` reads, with a tab between each two.
+use rows::add_escaped;
 use snap_content::{OutOfMemory, Text};
 use snap_yaml::{Array, Hash, Yaml};
 use std::alloc::Global;

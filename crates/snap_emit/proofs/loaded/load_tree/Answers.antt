@@ -10,7 +10,7 @@ returns-in-Some-clause-plain c = loaded-plain c.document_tree.result (value_of c
 pub returns-in-Some-clause-header : goal.returns-in-Some-clause-header
 returns-in-Some-clause-header c =
     let told : IsValueIn (chars c.args.text.now) (value_of c.in-Some.document) = record {
-      printed = λ p is. rw c.in-Some.is at (c.in_ok-only_document.ensures.printed p is);
+      printed = λ w p is. rw c.in-Some.is at (c.in_ok-only_document.ensures.printed w p is);
       laid = λ d laid is. rw c.in-Some.is at (c.in_ok-only_document.ensures.laid d laid is);
     } in
     λ t within is. loaded-tree c.document_tree.result (value_of c.in-Some.document) t (header-plain (chars c.args.text.now) (value_of c.in-Some.document) told t within is) c.document_tree.ensures.made
@@ -18,7 +18,7 @@ returns-in-Some-clause-header c =
 pub returns-in-Some-clause-numbers : goal.returns-in-Some-clause-numbers
 returns-in-Some-clause-numbers c =
     let told : IsValueIn (chars c.args.text.now) (value_of c.in-Some.document) = record {
-      printed = λ p is. rw c.in-Some.is at (c.in_ok-only_document.ensures.printed p is);
+      printed = λ w p is. rw c.in-Some.is at (c.in_ok-only_document.ensures.printed w p is);
       laid = λ d laid is. rw c.in-Some.is at (c.in_ok-only_document.ensures.laid d laid is);
     } in
     loaded-keeps c.document_tree.result (chars c.args.text.now) (value_of c.in-Some.document) told c.document_tree.ensures.made c.document_tree.ensures.number
@@ -26,7 +26,7 @@ returns-in-Some-clause-numbers c =
 pub returns-in-Some-clause-read : goal.returns-in-Some-clause-read
 returns-in-Some-clause-read c =
     let told : IsValueIn (chars c.args.text.now) (value_of c.in-Some.document) = record {
-      printed = λ p is. rw c.in-Some.is at (c.in_ok-only_document.ensures.printed p is);
+      printed = λ w p is. rw c.in-Some.is at (c.in_ok-only_document.ensures.printed w p is);
       laid = λ d laid is. rw c.in-Some.is at (c.in_ok-only_document.ensures.laid d laid is);
     } in
     λ t within is.
@@ -36,7 +36,7 @@ returns-in-Some-clause-read c =
 pub returns-in-Some-clause-whole : goal.returns-in-Some-clause-whole
 returns-in-Some-clause-whole c =
     let told : IsValueIn (chars c.args.text.now) (value_of c.in-Some.document) = record {
-      printed = λ p is. rw c.in-Some.is at (c.in_ok-only_document.ensures.printed p is);
+      printed = λ w p is. rw c.in-Some.is at (c.in_ok-only_document.ensures.printed w p is);
       laid = λ d laid is. rw c.in-Some.is at (c.in_ok-only_document.ensures.laid d laid is);
     } in
     λ t within is.
@@ -57,7 +57,7 @@ returns-in-Some-clause-json_numbers c =
 pub returns-in-None-clause-header : goal.returns-in-None-clause-header
 returns-in-None-clause-header c =
     λ t within is.
-    absurd (header-of (λ _. ⊥) (chars c.args.text.now) (λ p inside printed. rw c.in-None.is at (c.in_ok-only_document.ensures.printed p printed))
+    absurd (header-of (λ _. ⊥) (chars c.args.text.now) (λ p inside printed. rw c.in-None.is at (c.in_ok-only_document.ensures.printed printed.blocks p printed.text_is))
     (λ d free laid. rw c.in-None.is at (c.in_ok-only_document.ensures.laid d (free-is-laid d free) laid)) t within is)
 
 pub returns-in-None-clause-numbers : goal.returns-in-None-clause-numbers
@@ -69,5 +69,5 @@ returns-in-None-clause-numbers c = record {
 pub returns-in-None-clause-read : goal.returns-in-None-clause-read
 returns-in-None-clause-read c =
     λ t within is.
-    absurd (header-of (λ _. ⊥) (chars c.args.text.now) (λ p inside printed. rw c.in-None.is at (c.in_ok-only_document.ensures.printed p printed))
+    absurd (header-of (λ _. ⊥) (chars c.args.text.now) (λ p inside printed. rw c.in-None.is at (c.in_ok-only_document.ensures.printed printed.blocks p printed.text_is))
     (λ d free laid. rw c.in-None.is at (c.in_ok-only_document.ensures.laid d (free-is-laid d free) laid)) t within (as-header (chars c.args.text.now) t is))

@@ -1,4 +1,4 @@
-use Rattle.snap_emitter.proofs.Prelude.{◌≤◌, ◌-◌, ap, ◌∙◌, arith, nat_tests, on_ok_weaker, on_err_weaker, is_ascii, list_all, IsBegun, blanks}
+use Rattle.snap_emitter.proofs.Prelude.{◌≤◌, ◌-◌, ap, ◌∙◌, arith, on_ok_weaker, on_err_weaker, is_ascii, list_all, IsBegun, blanks}
 use Rattle.snap_emitter.proofs.Begun.{on_err}
 use Rattle.snap_emitter.proofs.Spaces.{more_blanks, blanks_begun, all_blanks, ascii_blanks}
 use Rattle.snap_emitter.proofs.blanks.push_blanks.Goals as goal

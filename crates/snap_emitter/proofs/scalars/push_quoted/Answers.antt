@@ -1,7 +1,6 @@
 use Rattle.snap_emitter.proofs.Prelude.{[], ◌∷◌, ◌++◌, refl, ap, ◌∙◌, rules, flat_map, chars, escaped, quoted, IsBegun}
-use Rattle.snap_emitter.proofs.Begun.{on_err}
+use Rattle.snap_emitter.proofs.Begun.{added_twice, on_err}
 use Rattle.snap_emitter.proofs.Quoting.{quoted_at, run_split, step_after}
-use Rattle.snap_emitter.proofs.Walked.{added_twice}
 use Rattle.snap_emitter.proofs.scalars.push_quoted.Goals as goal
 
 pub loop-c-init : goal.loop-c-init

@@ -1,7 +1,7 @@
 use Rattle.snap_parse.proofs.Prelude.{◌≡◌, [], Bool, ap, ◌∙◌, refl, chars, Parsing, meaning, json_node, node_of, scan_error}
 use Rattle.snap_event.specs.Meaning.{ahead, is_inside}
 use Rattle.snap_parser.specs.declared.error.LoadError.TheVariants.{OutOfMemory}
-use Rattle.snap_parse.proofs.Loading.{made, made-one, made-laid, printed-given, json-given, laid-given}
+use Rattle.snap_parse.proofs.Loading.{made, made-one, made-laid, printed-given, dumped-given, json-given, laid-given}
 use Rattle.snap_parse.proofs.load.YamlLoader.load_from_str.Goals as goal
 
 pub returns-in-Ok-clause-documents : goal.returns-in-Ok-clause-documents
@@ -20,6 +20,20 @@ pub returns-clause-memory : goal.returns-clause-memory
 returns-clause-memory c =
     λ w p is.
     let will = printed-given (chars c.args.source.now) w p c.new-parser.result is c.new-parser.ensures.gives in
+    let f : Parsing → Bool = λ v. is_inside (meaning v) in
+    let e : c.in-Err.error ≡ OutOfMemory = c.in-Err.ensures.memory _ (ap f c.new-parser.ensures.start) will in
+    c.refusal.ensures ∙ ap scan_error e
+
+pub returns-in-Ok-clause-dumped : goal.returns-in-Ok-clause-dumped
+returns-in-Ok-clause-dumped c =
+    λ w p free is.
+    let will = dumped-given (chars c.args.source.now) w p c.new-parser.result free is c.new-parser.ensures.gives in
+    made-one c.load.new.receiver c.into_documents.result (node_of w p) (c.in-Ok.ensures.gives _ _ refl will [] c.new-loader.ensures) c.into_documents.ensures.ok
+
+pub returns-clause-dumped_memory : goal.returns-clause-dumped_memory
+returns-clause-dumped_memory c =
+    λ w p free is.
+    let will = dumped-given (chars c.args.source.now) w p c.new-parser.result free is c.new-parser.ensures.gives in
     let f : Parsing → Bool = λ v. is_inside (meaning v) in
     let e : c.in-Err.error ≡ OutOfMemory = c.in-Err.ensures.memory _ (ap f c.new-parser.ensures.start) will in
     c.refusal.ensures ∙ ap scan_error e

@@ -1,5 +1,0 @@
-use Rattle.snap_scan.specs.Scan.{left}
-use Rattle.snap_scan_tests.proofs.calls.failed.Given as goal
-
-abbrev pub decreases-tokens : goal.decreases-tokens
-decreases-tokens l = left l.scanner

@@ -1,0 +1,17 @@
+//! Tests of the scanner and the crates below it through their public calls, beside the rows of `scan_lines`, which hold its tokens
+//! against the original's: `places` and `pieces` of `snap_token`, `properties` and `property_faults` of `snap_property`,
+//! `block_scalars` of `snap_block`, `calls` of `snap_scan`. They stand apart, since a crate with tests is proved twice.
+#![tactic(auto)]
+
+#[cfg(test)]
+mod block_scalars;
+#[cfg(test)]
+mod calls;
+#[cfg(test)]
+mod pieces;
+#[cfg(test)]
+mod places;
+#[cfg(test)]
+mod properties;
+#[cfg(test)]
+mod property_faults;
