@@ -1,5 +1,5 @@
 //! Where an assertion stands.
-use crate::asserted::{outcome_of, place_in};
+use crate::asserted::{Value, config_of, outcome_of, place_in};
 use rows::{add_text_column, text_of};
 use snap_assert::{Place, Settings, Update};
 use snap_content::Text;
@@ -35,7 +35,15 @@ fn path_in(
     settings: &Settings,
     place: &Place,
 ) -> Result<Text, anyhow::Error> {
-    let outcome = outcome_of(alloc, store, Update::InPlace, settings, place, ("a", 1))?;
+    let config = config_of(Update::InPlace, false);
+    let outcome = outcome_of(
+        alloc,
+        store,
+        &config,
+        settings,
+        place,
+        ("a", Value::Number(1)),
+    )?;
     column_of(alloc, &outcome.path)
 }
 
