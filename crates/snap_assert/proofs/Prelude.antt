@@ -5,7 +5,7 @@ pub use Rattle.std.proofs.lemmas.List.{take_more, take-append-drop, take_all}
 pub use Rattle.std.proofs.lemmas.Result.{IfOk-weaker, on_ok_weaker}
 pub use Rattle.std.proofs.lemmas.Slice.Eq.{bytes_eq-Decides}
 pub use Rattle.std.specs.FinMap.{get, insert, remove, get-insert, get-remove, get-retain_keys, same_map, slice_cmp-IsAntisymmetric, nat_cmp-IsAntisymmetric}
-pub use Rattle.std.specs.List.{flat_map, list_any, filter, All}
+pub use Rattle.std.specs.List.{list_any, filter, All}
 pub use Rattle.std.specs.Prelude.{IfOk, is_some, encode_utf8_all, IsSome}
 pub use Rattle.std.specs.Str.{bytes_eq, chars, IsUtf8}
 pub use Rattle.snap_content.proofs.Booleans.{some_same, or_left, not_true}
@@ -17,7 +17,7 @@ pub use Rattle.snap_outside.specs.Files.{Files, SameBut, MayBeGone}
 pub use Rattle.snap_path.specs.Names.{past_mark}
 pub use Rattle.snap_path.specs.Paths.{joined, parent_of, front_of, name_of, IsName}
 pub use Rattle.snap_place.specs.Place.{holds_slash, place_of}
-pub use Rattle.snap_print.specs.Blocks.{Blocks, off, last, blocks_if}
+pub use Rattle.snap_print.specs.Blocks.{Blocks, off, blocks_if}
 pub use Rattle.snap_print.specs.Lines.{text_of, document_of}
 pub use Rattle.snap_print.specs.Printed.{is_trimmed}
 pub use Rattle.snap_settings.specs.Settings.{settings_of}

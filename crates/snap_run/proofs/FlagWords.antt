@@ -4,7 +4,7 @@ use Rattle.std.proofs.Common.{cond}
 use Rattle.std.specs.Str.{bytes_eq}
 use Rattle.std.proofs.lemmas.Slice.Eq.{bytes_eq-Decides}
 use Rattle.snap_settings.specs.declared.config.Flags.{Flags}
-use Rattle.snap_run.specs.Answers.{is_force, is_force_pass, is_literal, with_flag, with_flags, stands, are_flags, flags_told, flags_mean, no_flags}
+use Rattle.snap_run.specs.Answers.{is_force, is_force_pass, is_literal, with_flags, stands, are_flags, flags_told, flags_mean, no_flags}
 
 -- these flags and those that stand among the words
 abbrev joined : Flags → List (List ℕ) → Flags
