@@ -5,7 +5,7 @@ use Rattle.snap_owed.proofs.FreeLayouts.{free-is-laid}
 use Rattle.snap_yaml.specs.Value.{Value}
 use Rattle.snap_parse.specs.LaidValues.{layout_value}
 use Rattle.snap_parse.proofs.OneText.{HasValue, printed-value, laid-one-value, values-same}
-use Rattle.snap_emit.specs.Spelled.{IsPrintedOf, IsTextOf, IsHeaderOf}
+use Rattle.snap_emit.specs.Spelled.{IsTextOf, IsHeaderOf}
 use Rattle.snap_emit.proofs.LaidTrees.{layout-reads}
 use Rattle.snap_emit.proofs.ReadBack.{read-back}
 

@@ -85,7 +85,7 @@ fn trim_line_ends(text: &str) -> &str
     rest
 }
 
-/// How many line ends the text has at its end, behind that.
+/// How many line ends the text has at its end, after the trimmed one.
 fn count_line_ends(text: &str, trimmed: &str) -> usize
     requires { chars trimmed.now ≡ core (chars text.now) }
     ensures { result ≡ kept_ends (chars text.now) }
@@ -93,7 +93,7 @@ fn count_line_ends(text: &str, trimmed: &str) -> usize
     text.len() - trimmed.len()
 }
 
-/// How many empty lines stand behind a block whose text has so many line ends at its end.
+/// How many empty lines stand after a block whose text has so many line ends at its end.
 fn empty_lines(kept: usize, blocks: Blocks) -> usize
     ensures { result ≡ empty_lines (is_inside (place blocks)) kept }
 {
@@ -124,7 +124,7 @@ fn push_line(out: &mut Text, alloc: Global, column: usize, line: &str) -> Result
     break_line(out, alloc, column)
 }
 
-/// Adds a text, each further line behind the blanks of the column. When out of memory, a beginning of that was added.
+/// Adds a text, each further line after the blanks of the column. When out of memory, a beginning of that was added.
 fn push_lines(out: &mut Text, alloc: Global, column: usize, text: &str) -> Result<(), OutOfMemory>
     ensures ok { OnOk result (out.new ≡ out.old ++ shifted column (chars text.now)) }
     ensures err { OnErr result (IsBegun out.old out.new (shifted column (chars text.now))) }

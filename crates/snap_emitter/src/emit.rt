@@ -1,4 +1,4 @@
-//! The walk that writes a tree: each piece goes straight into the text, further lines behind the blanks of their column.
+//! The walk that writes a tree: each piece goes straight into the text, further lines after the blanks of their column.
 ghost use Rattle.std.specs.Prelude.{◌≡◌, ◌+◌, ◌++◌, ◌∷◌, [], OnOk, OnErr, IfOk, IsTrue};
 ghost use Rattle.std.specs.Char.{is_ascii};
 ghost use Rattle.std.specs.List.{list_all};
@@ -157,7 +157,7 @@ fn emit_items(
     emit_item(out, alloc, last, column, blocks)
 }
 
-/// Adds an item behind its mark.
+/// Adds an item after its mark.
 #[cycle(emit)]
 fn emit_item(
     out: &mut Text,
