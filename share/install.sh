@@ -7,8 +7,7 @@ list=share/snap/unpacked
 
 # The lines of what is put below $1, from the folder of this script.
 describe() {
-  # The prefix itself has no name below it.
-  [ -d "$1" ] || echo 'folder  '
+  [ -d "$1" ] || echo 'folder  .'
   { find bin libexec share -type d && echo "${list%/*}"; } | sort -u | while IFS= read -r path; do
     [ -d "$1/$path" ] || echo "folder  $path"
   done
@@ -25,7 +24,7 @@ put() {
   lines=$(describe "$prefix")
   # The list comes first, so that a removal takes what a broken installation left.
   mkdir -p "$prefix/${list%/*}"
-  echo "$lines" >"$prefix/$list"
+  printf '%s\n' "$lines" >"$prefix/$list"
   find bin libexec share -type f | while IFS= read -r path; do
     mode=644
     [ ! -x "$path" ] || mode=755
@@ -45,10 +44,11 @@ remove() {
     path=${line#*  }
     [ "$(sha256sum "$path" 2>/dev/null)" != "$line" ] || rm -f "$path"
   done
-  folders=$(sed -n 's/^folder  //p' "$list" | sort -r)
+  folders=$(sed -n 's/^folder  //p' "$list" | LC_ALL=C sort -r)
   rm -f "$list"
-  echo "$folders" | while IFS= read -r path; do
-    rmdir "$PWD/$path" 2>/dev/null || true
+  printf '%s\n' "$folders" | while IFS= read -r path; do
+    # The prefix itself is the point, and the last of them.
+    rmdir "$PWD/${path#.}" 2>/dev/null || true
   done
   echo "snap: removed from $PWD"
 }
