@@ -97,9 +97,9 @@ func TestRefusals(t *testing.T) {
 		{[]string{"a", "\xff"}, `[1]: a text that is no UTF-8`},
 		{map[any]int{1: 0, "1": 0}, `["1"]: two keys with one text`},
 		{struct {
-			A int `json:"x"`
-			B int `json:"x"`
-		}{}, `.x: two keys with one text`},
+			base
+			Other int `json:"base"`
+		}{}, `.base: two keys with one text`},
 		{map[string]int{strings.Repeat("k", 999): 1}, `: a key of more than 1000 bytes`},
 		{circle, `nested more than 1000 deep: does it hold itself?`},
 	}
