@@ -311,8 +311,9 @@ func restOf(value any, options []Option) (string, error) {
 	return fmt.Sprintf(`"value":%s,"redactions":[%s],"sort":%t`, tree, strings.Join(redactions, ","), sorted), nil
 }
 
-// deepest is how many lists, maps, structs and pointers may stand inside one another; longestKey is in bytes of JSON.
-const deepest, longestKey = 1000, 1000
+// deepest is how many lists, maps and structs may stand inside one another, and mostPointers how many pointers on the
+// way; longestKey is in characters, with quotes and escapes: a longer one is no key to the program's reader.
+const deepest, mostPointers, longestKey = 200, 1000, 1024
 
 var smallest, largest = new(big.Int).Neg(power(127)), new(big.Int).Sub(power(128), big.NewInt(1))
 
@@ -326,8 +327,8 @@ func toJSON(value any, place string) (string, error) {
 }
 
 type writer struct {
-	out   *strings.Builder
-	depth int
+	out             *strings.Builder
+	depth, pointers int
 }
 
 func refuse(place, why string) error {
@@ -338,9 +339,6 @@ func refuse(place, why string) error {
 }
 
 func (w writer) write(v reflect.Value, place string) error {
-	if w.depth++; w.depth > deepest+1 {
-		return refuse(fmt.Sprintf("%.40s..", place), "nested more than 1000 deep: does it hold itself?")
-	}
 	if !v.IsValid() || isNil(v) {
 		w.out.WriteString("null")
 		return nil
@@ -348,7 +346,16 @@ func (w writer) write(v reflect.Value, place string) error {
 	if done, err := w.writeKnown(v, place); done || err != nil {
 		return err
 	}
-	switch kind := v.Kind(); kind {
+	switch v.Kind() {
+	case reflect.Pointer, reflect.Interface:
+		w.pointers++
+	case reflect.Slice, reflect.Array, reflect.Map, reflect.Struct:
+		w.depth++
+	}
+	if w.depth > deepest || w.pointers > mostPointers {
+		return refuse(fmt.Sprintf("%.40s..", place), "nested more than 200 deep: does it hold itself?")
+	}
+	switch v.Kind() {
 	case reflect.Bool:
 		fmt.Fprint(w.out, v.Bool())
 	case reflect.Int, reflect.Int8, reflect.Int16, reflect.Int32, reflect.Int64:
@@ -473,7 +480,7 @@ func (w writer) dict(v reflect.Value, place string) error {
 	pairs := []pair{}
 	for each := v.MapRange(); each.Next(); {
 		var out strings.Builder
-		if err := (writer{&out, w.depth}).write(each.Key(), place+".$key"); err != nil {
+		if err := (writer{&out, w.depth, w.pointers}).write(each.Key(), place+".$key"); err != nil {
 			return err
 		}
 		text := out.String()
@@ -523,8 +530,8 @@ func (w writer) pairs(pairs []pair, place string) error {
 		switch {
 		case seen[one.key]:
 			return refuse(here, "two keys with one text")
-		case len(name) > longestKey:
-			return refuse(here, "a key of more than 1000 bytes")
+		case utf8.RuneCountInString(name) > longestKey:
+			return refuse(here, "a key of more than 1024 characters")
 		}
 		seen[one.key] = true
 		if at > 0 {

@@ -31,6 +31,8 @@ type order struct {
 	hidden int
 }
 
+type endless *endless
+
 type loop struct{ Inner *loop }
 
 func TestValues(t *testing.T) {
@@ -63,6 +65,7 @@ func TestValues(t *testing.T) {
 		{"keys that are no texts", map[any]int{1: 0, true: 0, nil: 0, 1.5: 0, paid: 0, [1]int{2}: 0}, `{"1":0,"1.5":0,"[2]":0,"null":0,"paid":0,"true":0}`},
 		{"a struct", order{base: base{3}, Name: "", Secret: "s", State: paid, Next: &order{}},
 			`{"base":{"ID":3},"name":"","State":"paid","Next":{"base":{"ID":0},"name":"","State":"open","Next":null}}`},
+		{"a key as long as it may be", map[string]int{strings.Repeat("é", 1022): 1}, `{"` + strings.Repeat("é", 1022) + `":1}`},
 		{"nothing in it", []any{[]int{}, map[int]int{}, "", struct{}{}}, `[[],{},"",{}]`},
 	}
 	for _, row := range rows {
@@ -75,12 +78,14 @@ func TestValues(t *testing.T) {
 func TestRefusals(t *testing.T) {
 	circle := &loop{}
 	circle.Inner = circle
+	var pointer endless
+	pointer = &pointer
 	var deep any = []any{}
-	for level := 1; level < 500; level++ {
+	for level := 1; level < 200; level++ {
 		deep = []any{deep}
 	}
 	if _, err := toJSON(deep, ""); err != nil {
-		t.Errorf("a list 500 deep: %v", err)
+		t.Errorf("a list 200 deep: %v", err)
 	}
 	rows := []struct {
 		value  any
@@ -100,8 +105,10 @@ func TestRefusals(t *testing.T) {
 			base
 			Other int `json:"base"`
 		}{}, `.base: two keys with one text`},
-		{map[string]int{strings.Repeat("k", 999): 1}, `: a key of more than 1000 bytes`},
-		{circle, `nested more than 1000 deep: does it hold itself?`},
+		{map[string]int{strings.Repeat("k", 1023): 1}, `: a key of more than 1024 characters`},
+		{circle, `nested more than 200 deep: does it hold itself?`},
+		{[]any{deep}, `[0][0][0][0][0][0][0][0][0][0][0][0][0][..: nested more than 200 deep`},
+		{pointer, `nested more than 200 deep`},
 	}
 	for _, row := range rows {
 		if _, err := toJSON(row.value, ""); err == nil || !strings.Contains(err.Error(), row.wanted) {

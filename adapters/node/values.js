@@ -3,10 +3,10 @@
 import { types } from 'node:util';
 
 /** The lists, maps and objects that may stand inside one another: far below what the program's stack takes. */
-const DEEPEST = 1000;
+const DEEPEST = 200;
 
-/** The characters of a key in JSON: a longer one is no key to the program's reader. */
-const LONGEST_KEY = 1000;
+/** The characters of a key, with its quotes and escapes: a longer one is no key to the program's reader. */
+const LONGEST_KEY = 1024;
 
 const SMALLEST = -(2n ** 127n);
 const LARGEST = 2n ** 128n - 1n;
@@ -62,7 +62,7 @@ function writeText(text, place) {
 
 function writeObject(value, place, around) {
   if (around.includes(value)) refuse(place, 'a value that holds itself');
-  if (around.length === DEEPEST) refuse(place, `a value more than ${DEEPEST} deep`);
+  if (around.length === DEEPEST) refuse(place, `a value nested more than ${DEEPEST} deep`);
   const inside = [...around, value];
   if (types.isDate(value)) {
     if (Number.isNaN(value.getTime())) refuse(place, 'an invalid Date');
@@ -123,7 +123,7 @@ function writePairs(pairs, place, around) {
     if (seen.has(key)) refuse(here, 'two keys with one text');
     seen.add(key);
     const name = writeText(key, here);
-    if (name.length > LONGEST_KEY) refuse(here, `a key of more than ${LONGEST_KEY} characters`);
+    if ([...name].length > LONGEST_KEY) refuse(here, `a key of more than ${LONGEST_KEY} characters`);
     return `${name}:${write(value, here, around)}`;
   });
   return `{${written.join(',')}}`;

@@ -151,6 +151,7 @@ updated w/t/snapshots/log__3.snap
 updated w/t/snapshots/log__4.snap" "$(cd "$work/$tool" && printf '%s\n' "$words" | "$SNAP" run inplace w)"
 
   key=$(printf 'k%.0s' 1 2 3 4 5 6 7 8 9 10)
+  end=12345678901234567890123
   key=$key$key$key$key$key$key$key$key$key$key
   lines --file log.sh --module m --name id <<END
 {"id":"x","v":1}
@@ -166,21 +167,23 @@ updated w/t/snapshots/log__4.snap" "$(cd "$work/$tool" && printf '%s\n' "$words"
 {"id":"b","v":NaN}
 {"id":"b","v":01}
 {"id":"b"
-{"id":"b","$key$key$key$key$key$key$key$key$key$key":0}
+{"id":"b","$key$key$key$key$key$key$key$key$key$key$end":0}
 $(printf '{"id":"\377"}')
 {"id":"b/c"}
 {"id":"b__c"}
 {"id":"b"}
+{"id":"k","$key$key$key$key$key$key$key$key$key$key${end%?}":0}
 END
   expect "$tool: what is refused, and the others" '1 {"module":"m","file":"log.sh","line":1,"name":"x","expr":"line 1","value":{"id":"x","v":1}}
 {"module":"m","file":"log.sh","line":2,"name":"7","expr":"line 2","value":{"id":7}}
 {"module":"m","file":"log.sh","line":16,"name":"b/c","expr":"line 16","value":{"id":"b/c"}}
-{"module":"m","file":"log.sh","line":18,"name":"b","expr":"line 18","value":{"id":"b"}}' "$status $(echo "$words" | grep -v '^---$')"
+{"module":"m","file":"log.sh","line":18,"name":"b","expr":"line 18","value":{"id":"b"}}
+{"module":"m","file":"log.sh","line":19,"name":"k","expr":"line 19","value":{"id":"k","'"$key$key$key$key$key$key$key$key$key$key${end%?}"'":0}}' "$status $(echo "$words" | grep -v '^---$')"
   expect "$tool: the refused lines" "3 4 5 6 7 8 9 10 11 12 13 14 15 17" \
     "$(sed 's/^snap-lines: line \([0-9]*\): .*/\1/' "$work/refused" | tr '\n' ' ' | sed 's/ $//')"
   for reason in '3: the name x: line 1 has it' '5: .id: no name' \
     '7: a whole number of more than 128 bits, 340282366920938463463374607431768211456: hand it over as a text' \
-    '9: a text with a lone surrogate' '10: two keys with one text' '14: a key of more than 1000 characters'; do
+    '9: a text with a lone surrogate' '10: two keys with one text' '14: a key of more than 1024 characters'; do
     expect "$tool: $reason" 1 "$(grep -c "line $reason" "$work/refused")"
   done
 }
