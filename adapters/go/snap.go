@@ -51,20 +51,20 @@ func SortMaps() Option { return Option{sortMaps: true} }
 // Match judges value as a snapshot named by the test: the first by the test's name, further ones with -2, -3 and so on.
 func Match(t T, value any, options ...Option) {
 	t.Helper()
-	judge(t, names.next(t), value, options)
+	judge(t, t.Name(), true, value, options)
 }
 
 // MatchNamed judges value as the snapshot with this name. A name is taken once in a package.
 func MatchNamed(t T, name string, value any, options ...Option) {
 	t.Helper()
-	judge(t, name, value, options)
+	judge(t, name, false, value, options)
 }
 
-func judge(t T, name string, value any, options []Option) {
+func judge(t T, name string, isOwn bool, value any, options []Option) {
 	t.Helper()
 	_, file, line, _ := runtime.Caller(2)
 	one := request{file: filepath.Base(file), line: line, name: name, test: t.Name()}
-	err := names.take(t, one)
+	err := names.take(t, &one, isOwn)
 	if err == nil {
 		one.rest, err = restOf(value, options)
 	}
@@ -72,7 +72,7 @@ func judge(t T, name string, value any, options []Option) {
 		err = one.run()
 	}
 	if err != nil {
-		t.Errorf("snapshot %s: %v", name, err)
+		t.Errorf("snapshot %s: %v", one.name, err)
 	}
 }
 
@@ -235,49 +235,49 @@ func place() (string, string) {
 // register keeps two values from one snapshot. What a test took is free for the same test when it has ended (-count=2).
 type register struct {
 	sync.Mutex
-	counts map[string]int
-	owners map[string]string
-	open   map[string]bool
+	owners  map[string]string
+	running map[string]*run
 }
 
-var names = register{counts: map[string]int{}, owners: map[string]string{}, open: map[string]bool{}}
+// run is what a test that is running took: how many names of its own, and which snapshots.
+type run struct {
+	count int
+	taken map[string]bool
+}
 
-func (r *register) next(t T) string {
+var names = register{owners: map[string]string{}, running: map[string]*run{}}
+
+// take takes the snapshot of a request, with the test's next name where that is to be its own.
+func (r *register) take(t T, one *request, isOwn bool) error {
 	r.Lock()
 	defer r.Unlock()
-	test := t.Name()
-	r.counts[test]++
-	count := r.counts[test]
-	if count == 1 {
+	now := r.running[one.test]
+	if now == nil {
+		now = &run{taken: map[string]bool{}}
+		r.running[one.test] = now
 		t.Cleanup(func() {
 			r.Lock()
 			defer r.Unlock()
-			delete(r.counts, test)
+			delete(r.running, one.test)
 		})
-		return test
 	}
-	return fmt.Sprintf("%s-%d", test, count)
-}
-
-func (r *register) take(t T, one request) error {
+	if isOwn {
+		now.count++
+		if now.count > 1 {
+			one.name += fmt.Sprintf("-%d", now.count)
+		}
+	}
 	snapshot := one.snapshot()
-	if one.name == "" || !utf8.ValidString(one.name) || strings.IndexFunc(one.name, isControl) >= 0 {
+	owner, isOwned := r.owners[snapshot]
+	switch {
+	case one.name == "" || !utf8.ValidString(one.name) || strings.IndexFunc(one.name, isControl) >= 0:
 		return errors.New("the name: empty, no UTF-8, or with a control character")
-	}
-	if len(snapshot)+len(".new") > 255 {
+	case len(snapshot)+len(".new") > 255:
 		return errors.New("the name: longer than a file's; give a shorter one by MatchNamed")
-	}
-	r.Lock()
-	defer r.Unlock()
-	if owner, taken := r.owners[snapshot]; taken && (owner != one.test || r.open[snapshot]) {
+	case isOwned && owner != one.test || now.taken[snapshot]:
 		return fmt.Errorf("the name: another value has it in this run, of the test %s", owner)
 	}
-	r.owners[snapshot], r.open[snapshot] = one.test, true
-	t.Cleanup(func() {
-		r.Lock()
-		defer r.Unlock()
-		r.open[snapshot] = false
-	})
+	r.owners[snapshot], now.taken[snapshot] = one.test, true
 	return nil
 }
 

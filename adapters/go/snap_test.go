@@ -142,7 +142,7 @@ func scratch(t *testing.T, mode string) string {
 	t.Helper()
 	was, inside := workspace, folder
 	workspace, folder = t.TempDir(), "p"
-	names = register{counts: map[string]int{}, owners: map[string]string{}, open: map[string]bool{}}
+	names = register{owners: map[string]string{}, running: map[string]*run{}}
 	t.Cleanup(func() { workspace, folder = was, inside })
 	for _, name := range []string{"CI", "SNAP_UPDATE"} {
 		t.Setenv(name, "")

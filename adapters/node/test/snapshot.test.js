@@ -2,7 +2,7 @@
 
 import assert from 'node:assert';
 import { spawnSync } from 'node:child_process';
-import { existsSync, mkdirSync, mkdtempSync, readdirSync, readFileSync, rmSync, symlinkSync, writeFileSync } from 'node:fs';
+import { chmodSync, existsSync, mkdirSync, mkdtempSync, readdirSync, readFileSync, rmSync, symlinkSync, writeFileSync } from 'node:fs';
 import { tmpdir } from 'node:os';
 import path from 'node:path';
 import test from 'node:test';
@@ -26,7 +26,7 @@ function project(t, text, file = 'test/shop.test.mjs') {
     write: (name, content) => writeFileSync(path.join(folder, name), content),
     names: () => (existsSync(shots) ? readdirSync(shots).sort() : []),
     read: (name) => readFileSync(path.join(shots, name), 'utf8'),
-    run: (variables = {}, words = ['--test', file]) => {
+    run: (variables = {}, words = [file]) => {
       const env = { ...process.env, SNAP: program, ...variables };
       for (const name of ['NODE_TEST_CONTEXT', 'CI', 'SNAP_MODE', 'SNAP_UPDATE']) if (!(name in variables)) delete env[name];
       const { status, stdout, stderr } = spawnSync(process.execPath, words, { cwd: folder, env, encoding: 'utf8' });
@@ -155,6 +155,16 @@ test('a program that is not there', (t) => {
   const { status, out } = shop.run({ SNAP: '/nowhere/snap' });
   assert.strictEqual(status, 1);
   assert.match(out, /\/nowhere\/snap is not there: put snap on the path, or name it in SNAP/);
+});
+
+test('a program that ends half way', (t) => {
+  const shop = project(t, `${head}test('a', (t) => { snapshot(t, 1); snapshot(t, 2); snapshot(t, 3); });\n`);
+  shop.write('half', "#!/bin/sh\necho 'passed x'\necho 'snap: out of memory' >&2\nexit 8\n");
+  chmodSync(path.join(shop.folder, 'half'), 0o755);
+  const { status, out } = shop.run({ SNAP: './half' });
+  assert.strictEqual(status, 1);
+  assert.deepStrictEqual(out.match(/refused a.*/g), ['refused a-2', 'refused a-3']);
+  assert.strictEqual(out.match(/:3: snap: out of memory/g).length, 2);
 });
 
 test('plain scripts', (t) => {
