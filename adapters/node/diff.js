@@ -4,7 +4,7 @@
 const CONTEXT = 3;
 
 /** The most removed and added lines that are searched for; beyond that the part that changed is shown as replaced. */
-const MOST_CHANGES = 1000;
+const MOST_CHANGES = 500;
 
 /** Returns the diff as `diff -u` prints it, without its last line end; '' where the texts have the same lines. */
 export function unifiedDiff(before, after, beforeName, afterName) {
