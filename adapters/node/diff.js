@@ -42,7 +42,7 @@ function search(old, now) {
     const next = new Map();
     for (let diagonal = -changes; diagonal <= changes; diagonal += 2) {
       let at = comesDown(furthest, diagonal) ? furthest.get(diagonal + 1) : furthest.get(diagonal - 1) + 1;
-      while (at < old.length && at - diagonal < now.length && old[at] === now[at - diagonal]) at += 1;
+      while (at < old.length && old[at] === now[at - diagonal]) at += 1;
       next.set(diagonal, at);
       if (at >= old.length && at - diagonal >= now.length) return walkBack(reached, old, now);
     }

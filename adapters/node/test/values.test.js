@@ -35,6 +35,7 @@ const rows = [
   ['a Date', new Date(Date.UTC(2024, 1, 29, 12, 30)), '"2024-02-29T12:30:00.000Z"'],
   ['a Buffer', Buffer.from('snap'), '"c25hcA=="'],
   ['a Uint8Array over part of a buffer', new Uint8Array([1, 2, 3, 4]).subarray(1, 3), '"AgM="'],
+  ['a Uint8ClampedArray', new Uint8ClampedArray([255]), '"/w=="'],
   ['an ArrayBuffer', new Uint8Array([255]).buffer, '"/w=="'],
   ['a DataView', new DataView(new Uint8Array([1, 2, 3]).buffer, 1, 1), '"Ag=="'],
   ['other typed arrays', [new Int16Array([-1, 2]), new Float64Array([0.5, 2]), new BigUint64Array([3n])], '[[-1,2],["0.5",2],[3]]'],
