@@ -18,6 +18,8 @@ type state int
 
 const paid state = 1
 
+type level uint8
+
 func (s state) String() string { return [...]string{"open", "paid"}[s] }
 
 type base struct{ ID int }
@@ -58,7 +60,7 @@ func TestValues(t *testing.T) {
 		{"a time", moment, `"2024-02-29T12:30:00.005+01:00"`},
 		{"a duration", 90 * time.Second, `"1m30s"`},
 		{"bytes", []any{[]byte("snap"), [2]byte{255, 0}, []byte{}}, `["c25hcA==","/wA=",""]`},
-		{"a list of named bytes", []state{0, paid}, `["open","paid"]`},
+		{"lists of numbers with names", []any{[]state{0, paid}, []level{1, 2}}, `[["open","paid"],[1,2]]`},
 		{"a pointer", &seven, `7`},
 		{"MarshalText", netip.MustParseAddr("::1"), `"::1"`},
 		{"a map, sorted by the texts of its keys", map[string]int{"b": 1, "a": 2, "10": 3, "9": 4}, `{"10":3,"9":4,"a":2,"b":1}`},

@@ -73,6 +73,13 @@ text: |
   CI=1 run 'one\ntwo' 'first'
   expect "$shell: the last line end counts" 1 "$status"
 
+  CI=1 run 'one\n\ntwo\n' 'first'
+  expect "$shell: an empty line in a diff" "@@ -1,3 +1,4 @@
+ text: |
+   one
++  
+   two" "$(echo "$words" | tail -n 5)"
+
   # Names and texts with all that JSON escapes, a NUL, a tab, emoji and a blank at the front.
   SNAP_UPDATE=1 run 'a "b" \\ \t \0001 é 😀' 'a "b" \ c'
   expect "$shell: characters" 'text: "a \"b\" \\ \t \u0001 é 😀"
