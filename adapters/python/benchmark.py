@@ -3,9 +3,9 @@
 
 Usage: SNAP=PROGRAM python3 benchmark.py
 
-The program itself is the same program over the same documents, started by `posix_spawn` with files as its streams. A time is
-that of the processors, of Python's and the program's processes together, and the least of several, since other work on the
-machine only adds to it. Ends with status 1 where a limit is passed.
+The program itself is the same program over the same documents, started by `posix_spawn` with files as its streams. A time
+is the least of many, since other work on the machine only adds to it; of whole processes, it is that of the processors, for
+Python and the program together. Ends with status 1 where a limit is passed.
 """
 
 import os
@@ -44,15 +44,13 @@ def value():
         raise SystemExit("benchmark: the value did not pass")
 """
 TIMED = """
-import resource
-def used():
-    both = [resource.getrusage(who) for who in (resource.RUSAGE_SELF, resource.RUSAGE_CHILDREN)]
-    return sum(one.ru_utime + one.ru_stime for one in both) * 1000
+import time
 def time_of(work):
-    begin = used()
-    for _ in range(VALUES):
-        work()
-    return (used() - begin) / VALUES
+    begin = time.perf_counter()
+    work()
+    return (time.perf_counter() - begin) * 1000
+times = [(time_of(value), time_of(bare)) for _ in range(VALUES)]
+print(*map(min, zip(*times)))
 """
 BARE_TEST = "@pytest.mark.parametrize('number', range(VALUES))\ndef test(number): bare()\n"
 PLUGIN_TEST = "@pytest.mark.parametrize('number', range(VALUES))\ndef test(number, snapshot): snapshot(VALUE)\n"
@@ -96,7 +94,7 @@ def cost_of_process() -> float:
 
 def cost_of_value() -> float:
     """Milliseconds of a further value of a process."""
-    script("times.py", BARE + CASE.replace("import unittest", "") + TIMED + f"print(*map(min, zip(*((time_of(value), time_of(bare)) for _ in range({TRIES})))))\n")
+    script("times.py", BARE + CASE.replace("import unittest", "") + TIMED)
     # The class's file tells where the snapshot is.
     os.replace("times.py", "case.py")
     value, bare = map(float, subprocess.check_output([sys.executable, "case.py"], env=environment()).split())

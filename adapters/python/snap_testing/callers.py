@@ -1,5 +1,6 @@
 """Where a value was made: the line of the test, the source text of the value there, and the project's root."""
 
+import functools
 import linecache
 import os
 from types import FrameType
@@ -60,12 +61,14 @@ def called(function: object) -> str:
 def workspace_of(file: str) -> str:
     """The folder that snapshots' paths begin at: `SNAP_WORKSPACE`, or the nearest one with a root's mark at or above the file."""
     chosen = os.environ.get("SNAP_WORKSPACE")
-    if chosen:
-        return os.path.abspath(chosen)
-    folder = os.path.dirname(file)
+    return os.path.abspath(chosen) if chosen else root_above(os.path.dirname(file)) or os.getcwd()
+
+
+@functools.lru_cache(maxsize=None)
+def root_above(folder: str) -> Optional[str]:
     while not any(os.path.exists(os.path.join(folder, mark)) for mark in ROOT_MARKS):
         above = os.path.dirname(folder)
         if above == folder:
-            return os.getcwd()
+            return None
         folder = above
     return folder

@@ -3,7 +3,7 @@
 import json
 import os
 import subprocess
-from typing import List, NamedTuple, Sequence, Union
+from typing import List, NamedTuple, Sequence, Tuple, Union
 
 from .documents import Request, document
 
@@ -49,14 +49,28 @@ def judge(requests: Sequence[Request], mode: str, workspace: str, literal: bool)
 def run(requests: Sequence[Request], mode: str, workspace: str, literal: bool) -> "subprocess.CompletedProcess[bytes]":
     program = os.environ.get("SNAP") or "snap"
     words = [program, "run", mode, workspace, *(["--literal"] if literal else [])]
+    # Python's own files are not inherited anyway, and without the closing of others a process starts sooner.
+    pipes = {"stdin": subprocess.PIPE, "stdout": subprocess.PIPE, "stderr": subprocess.PIPE, "close_fds": False}
     try:
-        # Python's own files are not inherited; without the closing of others a process starts in half the time.
-        return subprocess.run(words, input="".join(map(document, requests)).encode(), capture_output=True, close_fds=False)
+        with subprocess.Popen(words, **pipes) as process:  # type: ignore[call-overload]
+            return subprocess.CompletedProcess(words, *ended(process, "".join(map(document, requests)).encode()))
     except OSError as error:
         raise ProgramError(
             f"the program {program} can't be run ({error.strerror}): set SNAP to its path, or put it on the path as snap; "
             "README.md of snap's repository tells where it comes from"
         ) from None
+
+
+def ended(process: "subprocess.Popen[bytes]", stream: bytes) -> Tuple[int, bytes, bytes]:
+    """Feeds the program, and waits for its end. It reads all before it writes a line, so that no pipe fills up in turn."""
+    assert process.stdin and process.stdout and process.stderr
+    try:
+        with process.stdin:
+            process.stdin.write(stream)
+    except BrokenPipeError:
+        pass  # It ended without reading: its status and its words tell why.
+    lines, errors = process.stdout.read(), process.stderr.read()
+    return process.wait(), lines, errors
 
 
 def is_signal(status: int) -> bool:
