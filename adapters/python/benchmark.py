@@ -84,7 +84,7 @@ def script(name: str, text: str) -> None:
 
 
 def environment() -> Dict[str, str]:
-    return {**os.environ, "PYTHONPATH": str(HERE), "SNAP_MODE": "no", "SNAP_WORKSPACE": os.getcwd()}
+    return {**os.environ, "PYTHONPATH": str(HERE), "SNAP_MODE": "no", "SNAP_WORKSPACE": os.getcwd(), "PYTEST_DISABLE_PLUGIN_AUTOLOAD": "1"}
 
 
 def cost_of_process() -> float:
