@@ -24,10 +24,8 @@ class Test(NamedTuple):
     name: str
 
 
-# A snapshot: the folder of its file, its module and its name.
-Key = Tuple[str, str, str]
-# Which test each snapshot of this process is of.
-owners: Dict[Key, Test] = {}
+# Which test each snapshot of this process is of, by the path of its file without `snapshots` and the suffix.
+owners: Dict[str, Test] = {}
 
 
 class Snapshots:
@@ -40,7 +38,7 @@ class Snapshots:
     def __init__(self, test: Optional[Test] = None, literal: Optional[bool] = None) -> None:
         self.test = test
         self.literal = is_set("SNAP_LITERAL", "1") if literal is None else literal
-        self.used: Set[Key] = set()
+        self.used: Set[str] = set()
 
     def __call__(self, value: Any, name: Optional[str] = None, *, redact: Optional[Mapping[str, Any]] = None, sort: bool = False) -> None:
         """Passes where the value is the approved one, or was written in the mode `inplace`.
@@ -89,13 +87,19 @@ class Snapshots:
     def free_name(self, test: Test, module: str, name: str) -> str:
         """The name, with a counter where this test used it already. Raises `Refused` where another test did."""
         number, counted = 1, name
-        while (key := (os.path.dirname(test.file), module, counted)) in self.used:
+        while (path := path_of(test, module, counted)) in self.used:
             number, counted = number + 1, f"{name}-{number + 1}"
-        self.used.add(key)
-        owner = owners.setdefault(key, test)
+        self.used.add(path)
+        owner = owners.setdefault(path, test)
         if owner != test:
             raise Refused("name", f"the test {owner.name} has a snapshot of the name {counted!r} already; give each its own")
         return counted
+
+
+def path_of(test: Test, module: str, name: str) -> str:
+    """What tells the files of snapshots apart: module and name are parts of one file's name, where slashes are underscores."""
+    words = f"{module}::{name}".replace("::", "__").replace("/", "__").replace("\\", "__")
+    return os.path.join(os.path.dirname(test.file), words)
 
 
 def mode() -> str:

@@ -152,6 +152,10 @@ class Values(UnittestCase):
         self.assertIn("Refused: name: the test test_first has a snapshot of the name 'x' already; give each its own", said)
         self.assertEqual([self.body(path) for path in self.files()], [VALUE])
 
+    def test_names_of_one_file_are_counted_too(self) -> None:
+        lines = "self.assert_snapshot(1, name='a/b'); self.assert_snapshot(2, name='a__b')"
+        self.assertEqual(self.bodies(lines), {"b.snap": "1\n", "b-2.snap": "2\n"})
+
     def test_redactions_and_sorting(self) -> None:
         lines = 'self.assert_snapshot({"t": [2, 1], "id": 7, "at": {"b": 1, "a": 2}}, redact={".id": "[id]", ".t": SORTED}, sort=True)'
         self.assertEqual(self.bodies(lines), {"test_first.snap": 'at:\n  a: 2\n  b: 1\nid: "[id]"\nt:\n  - 1\n  - 2\n'})
