@@ -84,7 +84,10 @@ def script(name: str, text: str) -> None:
 
 
 def environment() -> Dict[str, str]:
-    return {**os.environ, "PYTHONPATH": str(HERE), "SNAP_MODE": "no", "SNAP_WORKSPACE": os.getcwd(), "PYTEST_DISABLE_PLUGIN_AUTOLOAD": "1"}
+    """The settings of all runs. Modules are compiled once, as an installed package's are, and kept in the temporary folder."""
+    here = os.getcwd()
+    settings = {"PYTHONPATH": str(HERE), "PYTHONDONTWRITEBYTECODE": "", "PYTHONPYCACHEPREFIX": os.path.join(here, "compiled")}
+    return {**os.environ, **settings, "SNAP_MODE": "no", "SNAP_WORKSPACE": here, "PYTEST_DISABLE_PLUGIN_AUTOLOAD": "1"}
 
 
 def cost_of_process() -> float:

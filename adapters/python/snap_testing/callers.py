@@ -1,10 +1,11 @@
 """Where a value was made: the line of the test, the source text of the value there, and the project's root."""
 
+from __future__ import annotations
+
 import functools
 import linecache
 import os
 from types import FrameType
-from typing import Optional
 
 # The files and folders that the root of a project has, one of them at least.
 ROOT_MARKS = ("pyproject.toml", "setup.py", ".git")
@@ -12,9 +13,9 @@ ROOT_MARKS = ("pyproject.toml", "setup.py", ".git")
 CALLS = ("assert_snapshot", "snapshot")
 
 
-def frame_in(file: Optional[str], caller: FrameType) -> FrameType:
+def frame_in(file: str | None, caller: FrameType) -> FrameType:
     """The innermost frame in this file from the caller outwards; the caller's where there is none, or no file is given."""
-    frame: Optional[FrameType] = caller
+    frame: FrameType | None = caller
     while file is not None and frame is not None and os.path.abspath(frame.f_code.co_filename) != file:
         frame = frame.f_back
     return caller if frame is None else frame
@@ -39,7 +40,7 @@ def expression(frame: FrameType) -> str:
     return argument_in(linecache.getline(frame.f_code.co_filename, frame.f_lineno).strip()) or function_name(frame)
 
 
-def argument_in(line: str) -> Optional[str]:
+def argument_in(line: str) -> str | None:
     import ast
 
     try:
@@ -65,7 +66,7 @@ def workspace_of(file: str) -> str:
 
 
 @functools.lru_cache(maxsize=None)
-def root_above(folder: str) -> Optional[str]:
+def root_above(folder: str) -> str | None:
     while not any(os.path.exists(os.path.join(folder, mark)) for mark in ROOT_MARKS):
         above = os.path.dirname(folder)
         if above == folder:

@@ -1,11 +1,16 @@
 """The class for unittest."""
 
+from __future__ import annotations
+
 import os
 import sys
 import unittest
-from typing import Any, Mapping, Optional
 
 from .snapshots import Snapshots, Test
+
+TYPE_CHECKING = False  # Only a type checker takes it for true: importing typing would cost a process some milliseconds.
+if TYPE_CHECKING:
+    from typing import Any, Mapping
 
 __unittest = True  # Leaves this module out of the tracebacks that unittest prints.
 
@@ -14,15 +19,15 @@ class SnapshotTestCase(unittest.TestCase):
     """A test case whose values are compared with their snapshots."""
 
     # Whether texts of several lines are written as literal blocks; `None` leaves it to `SNAP_LITERAL`.
-    snapshot_literal: Optional[bool] = None
-    _snapshots: Optional[Snapshots] = None
+    snapshot_literal: bool | None = None
+    _snapshots: Snapshots | None = None
 
-    def run(self, result: Optional[unittest.TestResult] = None) -> Optional[unittest.TestResult]:
+    def run(self, result: unittest.TestResult | None = None) -> unittest.TestResult | None:
         self._snapshots = None
         return super().run(result)
 
     def assert_snapshot(
-        self, value: Any, name: Optional[str] = None, *, redact: Optional[Mapping[str, Any]] = None, sort: bool = False
+        self, value: Any, name: str | None = None, *, redact: Mapping[str, Any] | None = None, sort: bool = False
     ) -> None:
         """Passes where the value is the approved one: see `Snapshots`, which says what each word means."""
         __tracebackhide__ = True

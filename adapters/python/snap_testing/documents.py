@@ -3,6 +3,8 @@
 The rule for values is the table in README.md. A place is written as the program's selectors write it: `.users[0].name`.
 """
 
+from __future__ import annotations
+
 import binascii
 import datetime
 import enum
@@ -10,8 +12,11 @@ import json
 import os
 import re
 import sys
-from collections import abc
-from typing import Any, Iterable, List, Mapping, NamedTuple, NoReturn, Optional, Sequence, Tuple
+from collections import abc, namedtuple
+
+TYPE_CHECKING = False  # Only a type checker takes it for true: importing typing would cost a process some milliseconds.
+if TYPE_CHECKING:
+    from typing import Any, Iterable, Mapping, NoReturn, Sequence
 
 # The whole numbers that the program takes: those of 128 bits, with a sign or without.
 LEAST, MOST = -(1 << 127), (1 << 128) - 1
@@ -38,7 +43,7 @@ class Refused(ValueError):
         self.reason = reason
 
 
-class Request(NamedTuple):
+class Request(namedtuple("Request", "module file line name expr value redactions sort", defaults=((), False))):
     """A value that is to be judged, as JSON, and where it was made."""
 
     module: str
@@ -47,8 +52,8 @@ class Request(NamedTuple):
     name: str
     expr: str
     value: Any
-    redactions: Sequence[Mapping[str, Any]] = ()
-    sort: bool = False
+    redactions: Sequence[Mapping[str, Any]]
+    sort: bool
 
 
 def document(request: Request) -> str:
@@ -57,7 +62,7 @@ def document(request: Request) -> str:
     return f"---\n{json.dumps(pairs, ensure_ascii=False)}\n"
 
 
-def redactions_of(redact: Optional[Mapping[str, Any]]) -> List[Mapping[str, Any]]:
+def redactions_of(redact: Mapping[str, Any] | None) -> list[Mapping[str, Any]]:
     """The redactions of a request: selectors, and what is put at each in turn. Raises `Refused`."""
     made = []
     for selector, put in (redact or {}).items():
@@ -101,7 +106,7 @@ def to_tree(value: Any, place: str, depth: int) -> Any:
     return refuse_type(value, place)
 
 
-def to_map(pairs: Iterable[Tuple[Any, Any]], place: str, depth: int) -> Any:
+def to_map(pairs: Iterable[tuple[Any, Any]], place: str, depth: int) -> Any:
     made = {}
     for key, item in pairs:
         name = key_text(key, place, depth)
@@ -146,7 +151,7 @@ def refuse_type(value: Any, place: str) -> NoReturn:
     raise Refused(place, f"a value of the type {name}, which has no rule; hand over a text or a map that you make of it")
 
 
-def field_names(value: Any) -> Optional[Sequence[str]]:
+def field_names(value: Any) -> Sequence[str] | None:
     """The fields of a dataclass, a named tuple or an object of one's own class, in order; `None` for anything else."""
     kind = type(value)
     if hasattr(kind, "__dataclass_fields__"):
@@ -173,7 +178,7 @@ def is_standard(module: str) -> bool:
     return file.startswith(STANDARD_FOLDER + os.sep) and "-packages" + os.sep not in file[len(STANDARD_FOLDER) :]
 
 
-def slot_names(kind: type) -> List[str]:
+def slot_names(kind: type) -> list[str]:
     """The names in `__slots__`, of the bases first; a private one as Python keeps it, with its class's name in front."""
     names = []
     for base in reversed(kind.__mro__):

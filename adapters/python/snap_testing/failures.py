@@ -1,7 +1,8 @@
 """What a failure says: the verdict, the path of the snapshot, and what changed."""
 
+from __future__ import annotations
+
 import os
-from typing import List, Optional
 
 from .documents import Request
 from .program import ProgramError, Verdict, judge
@@ -26,14 +27,14 @@ def explain(verdict: Verdict, request: Request, literal: bool) -> str:
     return "\n".join(told)
 
 
-def compared(approved: List[str], new: List[str], path: str) -> List[str]:
+def compared(approved: list[str], new: list[str], path: str) -> list[str]:
     import difflib  # Only a failure waits for it.
 
     diff = list(difflib.unified_diff(approved, new, path, "the value", lineterm=""))
     return diff or ["Both texts agree: see whether the header of the approved file is a map in YAML and says no binary"]
 
 
-def body_at(path: str) -> Optional[List[str]]:
+def body_at(path: str) -> list[str] | None:
     """The lines of the value in a snapshot file; `None` where there is no such file."""
     try:
         with open(path, "rb") as file:
@@ -48,7 +49,7 @@ def body_at(path: str) -> Optional[List[str]]:
     return lines[lines.index("") + 1 :] if "" in lines else lines
 
 
-def body_made_of(request: Request, literal: bool) -> List[str]:
+def body_made_of(request: Request, literal: bool) -> list[str]:
     """The lines of a value that was rejected, of which the program left no file: it writes one into a folder of its own."""
     import tempfile  # Only a failure waits for it.
 

@@ -1,5 +1,7 @@
 """The plugin for pytest: the fixture `snapshot`, and the option `--snap-update`."""
 
+from __future__ import annotations
+
 import os
 from typing import Any
 

@@ -1,11 +1,17 @@
 """Runs the program over a batch of requests, in one process, and reads its verdicts."""
 
+from __future__ import annotations
+
 import json
 import os
 import subprocess
-from typing import List, NamedTuple, Sequence, Tuple, Union
+from collections import namedtuple
 
 from .documents import Request, document
+
+TYPE_CHECKING = False  # Only a type checker takes it for true: importing typing would cost a process some milliseconds.
+if TYPE_CHECKING:
+    from typing import Sequence
 
 MODES = ("inplace", "new", "no")
 VERDICTS = ("passed", "updated", "pending", "rejected")
@@ -17,19 +23,19 @@ class ProgramError(RuntimeError):
     """The program was not found, couldn't be run, or gave no verdict."""
 
 
-class Verdict(NamedTuple):
+class Verdict(namedtuple("Verdict", "word path")):
     """What the program said of a request, and the path of its snapshot."""
 
     word: str
     path: str
 
 
-def judge(requests: Sequence[Request], mode: str, workspace: str, literal: bool) -> List[Union[Verdict, ProgramError]]:
+def judge(requests: Sequence[Request], mode: str, workspace: str, literal: bool) -> list[Verdict | ProgramError]:
     """The verdict on each request; an error for one that the program refused, and those after it are judged by a further run.
 
     Raises `ProgramError` where the fault is none of a document.
     """
-    answers: List[Union[Verdict, ProgramError]] = []
+    answers: list[Verdict | ProgramError] = []
     while len(answers) < len(requests):
         rest = requests[len(answers) :]
         ran = run(rest, mode, workspace, literal)
@@ -61,7 +67,7 @@ def run(requests: Sequence[Request], mode: str, workspace: str, literal: bool) -
         ) from None
 
 
-def ended(process: "subprocess.Popen[bytes]", stream: bytes) -> Tuple[int, bytes, bytes]:
+def ended(process: "subprocess.Popen[bytes]", stream: bytes) -> tuple[int, bytes, bytes]:
     """Feeds the program, and waits for its end. It reads all before it writes a line, so that no pipe fills up in turn."""
     assert process.stdin and process.stdout and process.stderr
     try:

@@ -1,31 +1,37 @@
 """Hands values over to the program, one process for each, and fails where its value is not the approved one."""
 
+from __future__ import annotations
+
 import os
 import sys
+from collections import namedtuple
 from types import FrameType
-from typing import Any, Dict, Mapping, NamedTuple, Optional, Set, Tuple
 
 from . import callers
 from .documents import Refused, Request, redactions_of, text_of, to_json
 from .failures import explain
 from .program import MODES, ProgramError, judge
 
+TYPE_CHECKING = False  # Only a type checker takes it for true: importing typing would cost a process some milliseconds.
+if TYPE_CHECKING:
+    from typing import Any, Mapping
+
 __unittest = True  # Leaves this module out of the tracebacks that unittest prints.
 
 # The mode of all tests of this process, where a test runner was told one.
-mode_of_runner: Optional[str] = None
+mode_of_runner: str | None = None
 
 
-class Test(NamedTuple):
+class Test(namedtuple("Test", "file classes name")):
     """What a test is called: its file as an absolute path, its classes from the outermost, and its own name."""
 
     file: str
-    classes: Tuple[str, ...]
+    classes: tuple[str, ...]
     name: str
 
 
 # Which test each snapshot of this process is of, by the path of its file without `snapshots` and the suffix.
-owners: Dict[str, Test] = {}
+owners: dict[str, Test] = {}
 
 
 class Snapshots:
@@ -35,12 +41,12 @@ class Snapshots:
     variable `SNAP_LITERAL` says so, and they are without it.
     """
 
-    def __init__(self, test: Optional[Test] = None, literal: Optional[bool] = None) -> None:
+    def __init__(self, test: Test | None = None, literal: bool | None = None) -> None:
         self.test = test
         self.literal = is_set("SNAP_LITERAL", "1") if literal is None else literal
-        self.used: Set[str] = set()
+        self.used: set[str] = set()
 
-    def __call__(self, value: Any, name: Optional[str] = None, *, redact: Optional[Mapping[str, Any]] = None, sort: bool = False) -> None:
+    def __call__(self, value: Any, name: str | None = None, *, redact: Mapping[str, Any] | None = None, sort: bool = False) -> None:
         """Passes where the value is the approved one, or was written in the mode `inplace`.
 
         The snapshot is called by the test, or by `name`; a further one in the same test by that and `-2`, `-3`. `redact` has
@@ -55,8 +61,8 @@ class Snapshots:
             raise failure
 
     def failure_of(
-        self, value: Any, name: Optional[str], redact: Optional[Mapping[str, Any]], sort: bool, caller: FrameType
-    ) -> Optional[Exception]:
+        self, value: Any, name: str | None, redact: Mapping[str, Any] | None, sort: bool, caller: FrameType
+    ) -> Exception | None:
         """What is to be raised, so that a traceback ends at the caller's line."""
         try:
             frame = callers.frame_in(self.test and self.test.file, caller)
@@ -72,7 +78,7 @@ class Snapshots:
         except (Refused, ProgramError) as error:
             return error.with_traceback(None)
 
-    def request_for(self, test: Test, name: Optional[str], frame: FrameType, workspace: str) -> Request:
+    def request_for(self, test: Test, name: str | None, frame: FrameType, workspace: str) -> Request:
         """A request without a value yet."""
         words = {
             "module": "::".join((callers.stem(test.file), *test.classes)),
