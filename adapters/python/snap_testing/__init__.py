@@ -5,14 +5,13 @@
 
 from __future__ import annotations
 
+from typing import TYPE_CHECKING, Any
+
 from .documents import SORTED, Refused
 from .program import ProgramError
 from .snapshots import Snapshots, assert_snapshot
 
-TYPE_CHECKING = False  # Only a type checker takes it for true: importing typing would cost a process some milliseconds.
 if TYPE_CHECKING:
-    from typing import Any
-
     from .case import SnapshotTestCase
 
 __version__ = "0.1.0"

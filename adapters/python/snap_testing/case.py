@@ -5,12 +5,9 @@ from __future__ import annotations
 import os
 import sys
 import unittest
+from typing import Any, Mapping
 
 from .snapshots import Snapshots, Test
-
-TYPE_CHECKING = False  # Only a type checker takes it for true: importing typing would cost a process some milliseconds.
-if TYPE_CHECKING:
-    from typing import Any, Mapping
 
 __unittest = True  # Leaves this module out of the tracebacks that unittest prints.
 

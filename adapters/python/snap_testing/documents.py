@@ -12,11 +12,8 @@ import json
 import os
 import re
 import sys
-from collections import abc, namedtuple
-
-TYPE_CHECKING = False  # Only a type checker takes it for true: importing typing would cost a process some milliseconds.
-if TYPE_CHECKING:
-    from typing import Any, Iterable, Mapping, NoReturn, Sequence
+from collections import abc
+from typing import Any, Iterable, Mapping, NamedTuple, NoReturn, Sequence
 
 # The whole numbers that the program takes: those of 128 bits, with a sign or without.
 LEAST, MOST = -(1 << 127), (1 << 128) - 1
@@ -43,7 +40,7 @@ class Refused(ValueError):
         self.reason = reason
 
 
-class Request(namedtuple("Request", "module file line name expr value redactions sort", defaults=((), False))):
+class Request(NamedTuple):
     """A value that is to be judged, as JSON, and where it was made."""
 
     module: str
@@ -52,8 +49,8 @@ class Request(namedtuple("Request", "module file line name expr value redactions
     name: str
     expr: str
     value: Any
-    redactions: Sequence[Mapping[str, Any]]
-    sort: bool
+    redactions: Sequence[Mapping[str, Any]] = ()
+    sort: bool = False
 
 
 def document(request: Request) -> str:

@@ -5,13 +5,9 @@ from __future__ import annotations
 import json
 import os
 import subprocess
-from collections import namedtuple
+from typing import NamedTuple, Sequence
 
 from .documents import Request, document
-
-TYPE_CHECKING = False  # Only a type checker takes it for true: importing typing would cost a process some milliseconds.
-if TYPE_CHECKING:
-    from typing import Sequence
 
 MODES = ("inplace", "new", "no")
 VERDICTS = ("passed", "updated", "pending", "rejected")
@@ -23,7 +19,7 @@ class ProgramError(RuntimeError):
     """The program was not found, couldn't be run, or gave no verdict."""
 
 
-class Verdict(namedtuple("Verdict", "word path")):
+class Verdict(NamedTuple):
     """What the program said of a request, and the path of its snapshot."""
 
     word: str

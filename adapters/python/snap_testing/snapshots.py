@@ -4,17 +4,13 @@ from __future__ import annotations
 
 import os
 import sys
-from collections import namedtuple
 from types import FrameType
+from typing import Any, Mapping, NamedTuple
 
 from . import callers
 from .documents import Refused, Request, redactions_of, text_of, to_json
 from .failures import explain
 from .program import MODES, ProgramError, judge
-
-TYPE_CHECKING = False  # Only a type checker takes it for true: importing typing would cost a process some milliseconds.
-if TYPE_CHECKING:
-    from typing import Any, Mapping
 
 __unittest = True  # Leaves this module out of the tracebacks that unittest prints.
 
@@ -22,7 +18,7 @@ __unittest = True  # Leaves this module out of the tracebacks that unittest prin
 mode_of_runner: str | None = None
 
 
-class Test(namedtuple("Test", "file classes name")):
+class Test(NamedTuple):
     """What a test is called: its file as an absolute path, its classes from the outermost, and its own name."""
 
     file: str
