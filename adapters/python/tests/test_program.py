@@ -84,6 +84,16 @@ class Batches(unittest.TestCase):
         with self.program("echo passed x"), self.assertRaisesRegex(ProgramError, "ended with status 0"):
             self.judge(request("a"), request("b"))
 
+    def test_a_program_that_does_not_read(self) -> None:
+        # More than a pipe holds.
+        with self.program("echo no >&2; exit 4"), self.assertRaisesRegex(ProgramError, "ended with status 4: no$"):
+            self.judge(request("a", "x" * 1000000))
+
+    def test_a_long_stream_and_many_lines(self) -> None:
+        # More than a pipe holds, both ways.
+        answers = self.judge(*(request(f"{number:0200}", "x" * 1000) for number in range(400)))
+        self.assertEqual([answer.word for answer in answers], ["updated"] * 400)
+
     def test_another_program_of_the_name(self) -> None:
         with self.program("echo error: cannot find app; exit 1"), self.assertRaisesRegex(ProgramError, "may be another program"):
             self.judge(request("a"))

@@ -193,6 +193,20 @@ class Values(UnittestCase):
         self.run_tests(SNAP_MODE="inplace")
         self.assertEqual(list(self.files()), [FIRST.replace("OrderTest", "Outer__OrderTest")])
 
+    def test_a_class_in_a_function(self) -> None:
+        text = """
+            from snap_testing import SnapshotTestCase
+            def make():
+                class OrderTest(SnapshotTestCase):
+                    def test_first(self):
+                        self.assert_snapshot(1)
+                return OrderTest
+            Made = make()
+        """
+        self.write("tests/test_order.py", text)
+        self.run_tests(SNAP_MODE="inplace")
+        self.assertEqual(list(self.files()), [FIRST.replace("OrderTest", "make__OrderTest")])
+
 
 class Scripts(ProjectCase):
     def run_script(self, text: str) -> str:
