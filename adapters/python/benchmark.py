@@ -52,6 +52,10 @@ def time_of(work):
 times = [(time_of(value), time_of(bare)) for _ in range(VALUES)]
 print(*map(min, zip(*times)))
 """
+DOCUMENT = """
+from snap_testing.documents import Request, document, to_json
+print(document(Request("case::Case", "case.py", 1, "value", "x", to_json(VALUE))), end="")
+"""
 BARE_TEST = "@pytest.mark.parametrize('number', range(VALUES))\ndef test(number): bare()\n"
 PLUGIN_TEST = "@pytest.mark.parametrize('number', range(VALUES))\ndef test(number, snapshot): snapshot(VALUE)\n"
 
@@ -73,7 +77,7 @@ def set_up() -> None:
     """Writes the snapshot that values pass against, and the document that the program itself is run over."""
     script("case.py", CASE + "value()\n")
     subprocess.run([sys.executable, "case.py"], env={**environment(), "SNAP_MODE": "inplace"}, check=True)
-    script("document.py", "from snap_testing.documents import *\nprint(document(Request('case::Case', 'case.py', 1, 'value', 'x', to_json(VALUE))), end='')\n")
+    script("document.py", DOCUMENT)
     with open("document", "wb") as file:
         subprocess.run([sys.executable, "document.py"], env=environment(), stdout=file, check=True)
     script("bare.py", "import unittest\n" + BARE + "bare()\n")

@@ -36,7 +36,9 @@ ENTRY_POINTS = f"[pytest11]\n{PACKAGE} = {PACKAGE}.plugin\n"
 Files = List[Tuple[str, bytes]]
 
 
-def build_wheel(wheel_directory: str, config_settings: Optional[Dict[str, Any]] = None, metadata_directory: Optional[str] = None) -> str:
+def build_wheel(
+    wheel_directory: str, config_settings: Optional[Dict[str, Any]] = None, metadata_directory: Optional[str] = None
+) -> str:
     """Writes the wheel into the folder, and returns its name."""
     folder = f"{STEM}.dist-info"
     files = list(sources(PACKAGE))

@@ -22,7 +22,7 @@ def frame_in(file: str | None, caller: FrameType) -> FrameType:
 
 
 def function_name(frame: FrameType) -> str:
-    """The name of the function, not of a comprehension or a lambda in it; of code in no function, the file's without its suffix."""
+    """The name of the function, not of a comprehension or a lambda in it; of other code, that of the file without its suffix."""
     name = frame.f_code.co_name
     if not name.startswith("<"):
         return name

@@ -83,7 +83,7 @@ def is_signal(status: int) -> bool:
 def read_line(line: str) -> Verdict:
     word, _, path = line.partition(" ")
     if word not in VERDICTS:
-        raise ProgramError(f"a line that is no verdict: {line!r}; SNAP, or snap on the path, may be another program, as snapd's snap")
+        raise ProgramError(f"no verdict: {line!r}; SNAP, or snap on the path, may be another program, as snapd's snap is")
     # In quotes a path has the escapes of JSON.
     return Verdict(word, json.loads(path) if path.startswith('"') else path)
 

@@ -42,7 +42,9 @@ class Snapshots:
         self.literal = is_set("SNAP_LITERAL", "1") if literal is None else literal
         self.used: set[str] = set()
 
-    def __call__(self, value: Any, name: str | None = None, *, redact: Mapping[str, Any] | None = None, sort: bool = False) -> None:
+    def __call__(
+        self, value: Any, name: str | None = None, *, redact: Mapping[str, Any] | None = None, sort: bool = False
+    ) -> None:
         """Passes where the value is the approved one, or was written in the mode `inplace`.
 
         The snapshot is called by the test, or by `name`; a further one in the same test by that and `-2`, `-3`. `redact` has
