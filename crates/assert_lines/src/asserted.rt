@@ -4,7 +4,7 @@ use snap_assert::{
     AssertError, BadPlace, Config, Outcome, Place, Session, Settings, Update, assert_content,
 };
 use snap_content::{Content, OutOfMemory, Pairs, Text};
-use snap_outside::SteadyStore;
+use snap_io::SteadyStore;
 use std::alloc::Global;
 use std::str;
 

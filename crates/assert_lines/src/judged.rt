@@ -3,7 +3,7 @@ use crate::asserted::{Value, config_of, outcome_of, place_in};
 use rows::{add_text_column, first_column, text_of};
 use snap_assert::{Config, Outcome, Place, Settings, Update, Verdict, Warning};
 use snap_content::{OutOfMemory, Text};
-use snap_outside::SteadyStore;
+use snap_io::SteadyStore;
 use std::alloc::Global;
 
 /// The path of the snapshot `one` of the module `m`.

@@ -3,7 +3,7 @@ use crate::asserted::{Value, config_of, outcome_of, place_in};
 use rows::{add_text_column, text_of};
 use snap_assert::{Place, Settings, Update};
 use snap_content::Text;
-use snap_outside::SteadyStore;
+use snap_io::SteadyStore;
 use std::alloc::Global;
 
 /// Whether an assertion may stand in this file.

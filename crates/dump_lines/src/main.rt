@@ -21,7 +21,7 @@ mod error;
 use crate::calls::called;
 use rows::{add_escaped, answer_rows, first_column, value_of_line};
 use snap_content::Text;
-use snap_emitter::{EmitError, YamlEmitter};
+use snap_emit_values::{EmitError, YamlEmitter};
 use snap_yaml::Yaml;
 use std::alloc::Global;
 

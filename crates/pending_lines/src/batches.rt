@@ -1,7 +1,7 @@
 //! Batches that are loaded and saved again.
 use rows::add_escaped;
 use snap_content::{Error, OutOfMemory, Text};
-use snap_outside::MemoryStore;
+use snap_io::MemoryStore;
 use snap_pending::PendingInlineSnapshot;
 use std::alloc::Global;
 use std::str;

@@ -9,7 +9,7 @@ use crate::steps::taken;
 use crate::stored::store_line;
 use rows::first_column;
 use snap_content::{OutOfMemory, Text};
-use snap_outside::MemoryStore;
+use snap_io::MemoryStore;
 use std::alloc::Global;
 
 /// The answer to a row.

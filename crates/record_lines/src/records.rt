@@ -2,7 +2,7 @@
 use rows::{first_column, text_of};
 use rows_snapshots::snapshot_of;
 use snap_content::{Error, OutOfMemory, Text};
-use snap_outside::MemoryStore;
+use snap_io::MemoryStore;
 use snap_pending::PendingInlineSnapshot;
 use snap_store::Snapshot;
 use snap_text::TextSnapshotKind;

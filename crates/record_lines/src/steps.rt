@@ -1,6 +1,6 @@
 //! Records without snapshots that are saved one after the other.
 use snap_content::{Error, OutOfMemory, Text};
-use snap_outside::MemoryStore;
+use snap_io::MemoryStore;
 use snap_pending::PendingInlineSnapshot;
 use std::alloc::Global;
 

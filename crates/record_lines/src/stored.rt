@@ -1,7 +1,7 @@
 //! What a call has come to.
 use rows::add_file;
 use snap_content::{Error, OutOfMemory, Text};
-use snap_outside::MemoryStore;
+use snap_io::MemoryStore;
 use std::alloc::Global;
 
 /// How many faults the store had, how many files it has, and the text of the file; or why the call failed.

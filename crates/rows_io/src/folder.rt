@@ -7,7 +7,7 @@ use crate::columns::cut_word;
 use crate::stores::{add_called, add_store_error};
 use rows::{add_number_column, add_text_column, first_column, text_of};
 use snap_content::{OutOfMemory, Text};
-use snap_outside::{FolderStore, Names, Store, StoreError};
+use snap_io::{FolderStore, Names, Store, StoreError};
 use std::alloc::Global;
 use std::fs::Files;
 use std::os::unix::fs::symlink;

@@ -6,7 +6,7 @@ use crate::columns::{add_bytes, cut_word, numbers_of};
 use crate::stores::add_called;
 use rows::{add_number_column, add_text_column, text_of};
 use snap_content::{OutOfMemory, Text};
-use snap_outside::{MemoryStore, SteadyStore};
+use snap_io::{MemoryStore, SteadyStore};
 use std::alloc::Global;
 
 /// Adds what a file holds.

@@ -1,7 +1,7 @@
 //! Lists of names, and names of errors.
 use rows::{add_number_column, add_text_column, first_column, text_of};
 use snap_content::{OutOfMemory, Text};
-use snap_outside::{Fault, Names, StoreError};
+use snap_io::{Fault, Names, StoreError};
 use std::alloc::Global;
 use std::cmp::Ordering;
 

@@ -5,7 +5,7 @@
 use crate::columns::{add_bytes, cut_word, numbers_of};
 use rows::{add_number_column, add_text_column, text_of};
 use snap_content::{OutOfMemory, Text};
-use snap_outside::{Fault, MemorySink, Sink, SteadySink};
+use snap_io::{Fault, MemorySink, Sink, SteadySink};
 use std::alloc::Global;
 
 /// Adds how many bytes a sink takes of a text.

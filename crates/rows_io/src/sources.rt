@@ -5,7 +5,7 @@
 use crate::columns::add_bytes;
 use rows::{add_text_column, first_column, text_of};
 use snap_content::{Blob, OutOfMemory, Text};
-use snap_outside::{Fault, MemorySource, Source, SteadySource};
+use snap_io::{Fault, MemorySource, Source, SteadySource};
 use std::alloc::Global;
 
 /// How a source is made and read.

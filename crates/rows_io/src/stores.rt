@@ -6,7 +6,7 @@
 use crate::columns::{add_bytes, cut_word};
 use rows::{add_escaped, add_text_column, text_of};
 use snap_content::{OutOfMemory, Text};
-use snap_outside::{Names, Store, StoreError};
+use snap_io::{Names, Store, StoreError};
 use std::alloc::Global;
 
 /// Adds the answer to a call that stands as a word and what is behind it.

@@ -3,7 +3,7 @@ use crate::sinks::{add_write, add_writes};
 use crate::sources::{Reading, add_reads, reading_of};
 use rows::{first_column, text_of};
 use snap_content::{OutOfMemory, Text};
-use snap_outside::{Sink, Source, StreamSink, StreamSource};
+use snap_io::{Sink, Source, StreamSink, StreamSource};
 use std::alloc::Global;
 use std::fs::Files;
 use std::io::{BufWriter, ErrorKind, Read, Write};

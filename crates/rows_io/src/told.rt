@@ -3,7 +3,7 @@ use crate::folder::add_listed_count;
 use crate::stores::add_listed;
 use rows::first_column;
 use snap_content::{OutOfMemory, Text};
-use snap_outside::{FolderStore, Names, Store, StoreError};
+use snap_io::{FolderStore, Names, Store, StoreError};
 use std::alloc::{Allocator, Global};
 use std::fs::{Files, Metadata, OpenOptions};
 use std::io::{ErrorKind, Read};

@@ -1,10 +1,10 @@
 //! One row and its answer.
 use snap_content::{OutOfMemory, Text};
-use snap_literal::frame::inline_legacy_text;
-use snap_literal::inline::{inline_normal_text, min_indentation, normalize_inline};
-use snap_literal::literal::{from_inline_literal, literal_is_open, to_inline};
-use snap_literal::{LiteralError, read_literal, required_hashes};
 use snap_str::cut::split_once;
+use snap_text_literals::frame::inline_legacy_text;
+use snap_text_literals::inline::{inline_normal_text, min_indentation, normalize_inline};
+use snap_text_literals::literal::{from_inline_literal, literal_is_open, to_inline};
+use snap_text_literals::{LiteralError, read_literal, required_hashes};
 use std::alloc::Global;
 
 /// The answer to a row; empty where the row is none.

@@ -12,7 +12,7 @@
 //! - `text literal TEXT`: the literal that an inline text is written as after four blanks, and whether contents that are read of it
 //!   match the text.
 //! - `text copy KIND TEXT`: whether a copy is equal, and the kind and the text of the copy.
-//! - `literal CALL LITERAL LITERAL`: what a call of `snap_literal` returns for the texts that the literals are of. `compare/literals`
+//! - `literal CALL LITERAL LITERAL`: what a call of `snap_text_literals` returns for the texts that the literals are of. `compare/literals`
 //!   compares these answers with those of the original crate's code.
 //!
 //! In a column `\n`, `\r`, `\0`, `\t` and `\\` stand for these characters. A case that has no answer is answered by `! ` and why.

@@ -2,7 +2,7 @@
 use crate::columns::add_bytes;
 use rows::{add_number_column, add_text_column};
 use snap_content::Text;
-use snap_outside::Store;
+use snap_io::Store;
 use snap_run::Status;
 use std::alloc::Global;
 

@@ -5,7 +5,7 @@ use crate::answers::add_ending;
 use crate::cases::words_of;
 use rows::{add_number_column, first_column};
 use snap_content::Text;
-use snap_outside::{Fault, MemorySink, MemoryStore, Source};
+use snap_io::{Fault, MemorySink, MemoryStore, Source};
 use snap_run::{Status, run};
 use std::alloc::Global;
 

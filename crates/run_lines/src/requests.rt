@@ -1,7 +1,7 @@
 //! Documents that are requests, and others.
 use crate::cases::input_of;
 use snap_content::{OutOfMemory, Text};
-use snap_request::{RequestError, read_request};
+use snap_run_requests::{RequestError, read_request};
 use std::alloc::Global;
 
 /// What becomes of a document, in a word. After want of memory there is none.

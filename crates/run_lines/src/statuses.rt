@@ -2,7 +2,7 @@
 use crate::columns::add_bytes;
 use rows::{add_number_column, add_text_column, first_column, text_of};
 use snap_content::{OutOfMemory, Text};
-use snap_outside::SteadySink;
+use snap_io::SteadySink;
 use snap_run::command::conclude;
 use snap_run::{RefusalKind, Status};
 use std::alloc::Global;

@@ -3,7 +3,7 @@ use crate::answers::{add_ending, add_files};
 use crate::cases::{Case, case_of, files_of, input_of, words_of};
 use rows::add_number_column;
 use snap_content::{OutOfMemory, Text};
-use snap_outside::{SteadySink, SteadySource, SteadyStore};
+use snap_io::{SteadySink, SteadySource, SteadyStore};
 use snap_run::run;
 use std::alloc::Global;
 

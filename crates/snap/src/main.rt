@@ -1,7 +1,7 @@
 //! The program: the system's words, streams and files, handed to `program`.
 #![tactic(auto)]
 
-use snap_outside::{FolderStore, StreamSink, StreamSource};
+use snap_io::{FolderStore, StreamSink, StreamSource};
 use snap_run::program;
 use std::env;
 use std::process::ExitCode;

@@ -1,6 +1,6 @@
 -- What is answered.
 use Rattle.snap_assert.proofs.Prelude.{◌≡◌, ◌&&◌, Bool, not, Option, Some, Ok, refl, sym, ap, Files, Assertion, asked_in, IsAnswered, IsPrepared, IsSettled, empty_session, Asked, verdict_of, is_failure, Judged, Prepared}
-use Rattle.snap_settings.specs.declared.config.Config.{Config}
+use Rattle.snap_assert_settings.specs.declared.config.Config.{Config}
 use Rattle.snap_assert.specs.declared.outcome.Verdict.{Verdict}
 
 pub answered : (config : Config) (assertion : Assertion) (prepared : Prepared) (judged : Judged) (verdict : Verdict) (fails : Bool) (files files' : Option Files)

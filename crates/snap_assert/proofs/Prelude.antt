@@ -13,16 +13,16 @@ pub use Rattle.snap_content.specs.Plain.{Plain, dict, Entries, entry, no_entries
 pub use Rattle.snap_content.specs.Readable.{IsWithin}
 pub use Rattle.snap_content.specs.declared.error.Error.{Error}
 pub use Rattle.snap_content.specs.declared.error.Error.TheVariants.{FailedParsingYaml, UnexpectedDataType, MissingField, FileIo, FloatText, JsonKey, NotText, NoFile, OutOfMemory}
-pub use Rattle.snap_outside.specs.Files.{Files, SameBut, MayBeGone}
+pub use Rattle.snap_io.specs.Files.{Files, SameBut, MayBeGone}
 pub use Rattle.snap_path.specs.Names.{past_mark}
 pub use Rattle.snap_path.specs.Paths.{joined, parent_of, front_of, name_of, IsName}
-pub use Rattle.snap_place.specs.Place.{holds_slash, place_of}
+pub use Rattle.snap_assert_place.specs.Place.{holds_slash, place_of}
 pub use Rattle.snap_print.specs.Blocks.{Blocks, off, blocks_if}
 pub use Rattle.snap_print.specs.Lines.{text_of, document_of}
 pub use Rattle.snap_print.specs.Printed.{is_trimmed}
-pub use Rattle.snap_settings.specs.Settings.{settings_of}
-pub use Rattle.snap_settings.specs.declared.config.Update.{Update}
-pub use Rattle.snap_settings.specs.declared.config.Update.TheVariants.{InPlace, NewFile, NoUpdate}
+pub use Rattle.snap_assert_settings.specs.Settings.{settings_of}
+pub use Rattle.snap_assert_settings.specs.declared.config.Update.{Update}
+pub use Rattle.snap_assert_settings.specs.declared.config.Update.TheVariants.{InPlace, NewFile, NoUpdate}
 pub use Rattle.snap_store.specs.Agreement.{Agree}
 pub use Rattle.snap_store.specs.FileSplit.{FallsInto, is_headed, body_of, header_of}
 pub use Rattle.snap_store.specs.Image.{file_of, text_under, saved_text}

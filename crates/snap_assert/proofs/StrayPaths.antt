@@ -7,8 +7,8 @@ use Rattle.std.proofs.lemmas.List.Elements.{All-head, All-tail}
 use Rattle.std.proofs.lemmas.Map.Views.{any-filter_same}
 use Rattle.snap_path.proofs.Cuts.{past_mark-is}
 use Rattle.snap_path.proofs.Joining.{joined-name, parted, name_of-name, name-longer}
-use Rattle.snap_outside.specs.Listed.{AreNames}
-use Rattle.snap_place.specs.SnapshotPath.{IsFilePath}
+use Rattle.snap_io.specs.Listed.{AreNames}
+use Rattle.snap_assert_place.specs.SnapshotPath.{IsFilePath}
 
 -- what follows one mark and then another
 abbrev pub then_past : List ℕ → Option (List ℕ) → Option (List ℕ)

@@ -1,18 +1,18 @@
 -- One whole assertion: what it leaves of the files and of what is remembered, and how it ends.
 use Rattle.std.specs.Prelude.{ℕ, Bool, List, [], ◌∷◌, Option, None, Some, Result, Ok, Err, if◌then◌else◌}
 use Rattle.snap_content.specs.Tree.{Tree}
-use Rattle.snap_outside.specs.Files.{Files}
+use Rattle.snap_io.specs.Files.{Files}
 use Rattle.snap_print.specs.Blocks.{Blocks}
 use Rattle.snap_print.specs.Lines.{text_of}
 use Rattle.snap_text.specs.declared.contents.TextSnapshotKind.TheVariants.{File}
 use Rattle.snap_store.specs.declared.contents.SnapshotContents.{SnapshotContents}
 use Rattle.snap_store.specs.declared.contents.SnapshotContents.TheVariants.{Text}
 use Rattle.snap_assert.specs.Blocks.{Block, kept_for, do_agree}
-use Rattle.snap_place.specs.Place.{PlaceView}
+use Rattle.snap_assert_place.specs.Place.{PlaceView}
 use Rattle.snap_assert.specs.Session.{SessionView, name_step}
-use Rattle.snap_settings.specs.Settings.{SettingsView}
+use Rattle.snap_assert_settings.specs.Settings.{SettingsView}
 use Rattle.snap_assert.specs.Steps.{Asked, asked_as, cleared, step, verdict_of}
-use Rattle.snap_settings.specs.declared.config.Update.{Update}
+use Rattle.snap_assert_settings.specs.declared.config.Update.{Update}
 use Rattle.snap_assert.specs.declared.error.AssertError.{AssertError}
 use Rattle.snap_assert.specs.declared.error.AssertError.TheVariants.{DuplicateDiffers}
 use Rattle.snap_assert.specs.declared.error.DuplicateKey.{DuplicateKey}

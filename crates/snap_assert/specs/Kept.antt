@@ -2,11 +2,11 @@
 use Rattle.std.specs.Prelude.{◌≡◌, ◌⊎◌, ◌||◌, ℕ, Bool, true, false, List, Option, None, Some, Result, Ok, Err}
 use Rattle.std.specs.FinMap.{get}
 use Rattle.std.specs.Str.{bytes_eq}
-use Rattle.snap_outside.specs.Files.{Files}
+use Rattle.snap_io.specs.Files.{Files}
 use Rattle.snap_path.specs.Paths.{parent_of}
 use Rattle.snap_assert.specs.Steps.{is_stray, pending_path}
-use Rattle.snap_settings.specs.declared.config.Update.{Update}
-use Rattle.snap_settings.specs.declared.config.Update.TheVariants.{InPlace, NewFile, NoUpdate}
+use Rattle.snap_assert_settings.specs.declared.config.Update.{Update}
+use Rattle.snap_assert_settings.specs.declared.config.Update.TheVariants.{InPlace, NewFile, NoUpdate}
 use Rattle.snap_assert.specs.declared.error.AssertError.{AssertError}
 use Rattle.snap_assert.specs.declared.error.AssertError.TheVariants.{FileIo}
 

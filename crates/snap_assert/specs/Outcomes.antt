@@ -6,8 +6,8 @@ use Rattle.snap_content.specs.Plain.{dict, Entries}
 use Rattle.snap_content.specs.declared.error.Error.{Error}
 use Rattle.snap_content.specs.declared.error.Error.TheVariants.{FailedParsingYaml, UnexpectedDataType, MissingField, NotText}
 use Rattle.snap_emit.specs.Spelled.{KeepsNumber}
-use Rattle.snap_outside.specs.Causes.{Rose}
-use Rattle.snap_outside.specs.Files.{Files}
+use Rattle.snap_io.specs.Causes.{Rose}
+use Rattle.snap_io.specs.Files.{Files}
 use Rattle.snap_print.specs.Lines.{text_of}
 use Rattle.snap_store.specs.Fields.{kind_in}
 use Rattle.snap_store.specs.FileSplit.{header_of}
@@ -17,7 +17,7 @@ use Rattle.snap_assert.specs.Judging.{BodyMatches, IsLegacyFile, May}
 use Rattle.snap_assert.specs.Assertions.{Assertion, Left, asked_in, assertion_step}
 use Rattle.snap_assert.specs.Session.{SessionView}
 use Rattle.snap_assert.specs.Steps.{is_failure}
-use Rattle.snap_settings.specs.declared.config.Config.{Config}
+use Rattle.snap_assert_settings.specs.declared.config.Config.{Config}
 use Rattle.snap_assert.specs.declared.error.AssertError.{AssertError}
 use Rattle.snap_assert.specs.declared.error.AssertError.TheVariants.{FileIo, OutOfMemory}
 use Rattle.snap_assert.specs.declared.outcome.Outcome.{Outcome}

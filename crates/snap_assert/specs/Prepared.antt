@@ -3,7 +3,7 @@ use Rattle.std.specs.Prelude.{◌≡◌, ◌↔◌, ℕ, Bool, true, IsTrue, Lis
 use Rattle.std.specs.FinMap.{get}
 use Rattle.snap_content.specs.List.{items_of}
 use Rattle.snap_content.specs.Readable.{IsWithin}
-use Rattle.snap_outside.specs.Files.{Files}
+use Rattle.snap_io.specs.Files.{Files}
 use Rattle.snap_print.specs.Lines.{text_of}
 use Rattle.snap_print.specs.Printed.{is_trimmed}
 use Rattle.snap_text.specs.Normal.{normal}
@@ -11,8 +11,8 @@ use Rattle.snap_store.specs.Agreement.{Agree}
 use Rattle.snap_store.specs.declared.contents.SnapshotContents.{SnapshotContents}
 use Rattle.snap_store.specs.Views.{meta_in, module_in, name_in, contents_in, text_in, IsFileText}
 use Rattle.snap_assert.specs.Steps.{Asked, pending_path, step}
-use Rattle.snap_settings.specs.declared.config.Config.{Config}
-use Rattle.snap_place.specs.SnapshotPath.{IsFilePath}
+use Rattle.snap_assert_settings.specs.declared.config.Config.{Config}
+use Rattle.snap_assert_place.specs.SnapshotPath.{IsFilePath}
 use Rattle.snap_assert.specs.Strays.{AreStrays}
 use Rattle.snap_assert.specs.Judging.{May}
 use Rattle.snap_assert.specs.Outcomes.{AreWarnings}

@@ -3,7 +3,7 @@ use Rattle.std.specs.Prelude.{ℕ, Bool, List, [], ◌∷◌, ◌++◌, Option, 
 use Rattle.snap_store.specs.declared.contents.SnapshotContents.{SnapshotContents}
 use Rattle.snap_assert.specs.declared.error.DuplicateKey.{DuplicateKey}
 use Rattle.snap_assert.specs.declared.session.Session.{Session}
-use Rattle.snap_settings.specs.Settings.{SettingsView}
+use Rattle.snap_assert_settings.specs.Settings.{SettingsView}
 
 -- a module and an automatic name
 pub record Key : Type 0 where

@@ -3,18 +3,18 @@ use Rattle.std.specs.Prelude.{ℕ, Bool, true, false, not, List, ◌++◌, Optio
 use Rattle.std.specs.FinMap.{insert, remove, retain_keys}
 use Rattle.snap_content.specs.Plain.{Plain, plain}
 use Rattle.snap_content.specs.Tree.{Tree}
-use Rattle.snap_outside.specs.Files.{Files}
+use Rattle.snap_io.specs.Files.{Files}
 use Rattle.snap_print.specs.Blocks.{Blocks}
 use Rattle.snap_store.specs.Meta.{Meta, header_tree, without_line}
 pub use Rattle.snap_store.specs.Image.{pending_path}
 use Rattle.snap_store.specs.Image.{file_of}
-use Rattle.snap_settings.specs.Settings.{SettingsView}
+use Rattle.snap_assert_settings.specs.Settings.{SettingsView}
 use Rattle.snap_path.specs.Names.{past_mark}
-use Rattle.snap_place.specs.Place.{PlaceView, holds_slash}
-use Rattle.snap_place.specs.SnapshotPath.{path_of, flat_module, new_meta}
+use Rattle.snap_assert_place.specs.Place.{PlaceView, holds_slash}
+use Rattle.snap_assert_place.specs.SnapshotPath.{path_of, flat_module, new_meta}
 use Rattle.snap_assert.specs.Session.{suffixed}
-use Rattle.snap_settings.specs.declared.config.Update.{Update}
-use Rattle.snap_settings.specs.declared.config.Update.TheVariants.{InPlace, NewFile, NoUpdate}
+use Rattle.snap_assert_settings.specs.declared.config.Update.{Update}
+use Rattle.snap_assert_settings.specs.declared.config.Update.TheVariants.{InPlace, NewFile, NoUpdate}
 use Rattle.snap_assert.specs.declared.outcome.Verdict.{Verdict}
 use Rattle.snap_assert.specs.declared.outcome.Verdict.TheVariants.{Passed, Updated, Pending, Rejected}
 

@@ -3,7 +3,7 @@ use Rattle.std.specs.Prelude.{◌≡◌, ◌&&◌, true, ℕ, List, is_some}
 use Rattle.std.specs.List.{list_any}
 use Rattle.std.specs.Str.{bytes_eq}
 use Rattle.std.specs.FinMap.{get}
-use Rattle.snap_outside.specs.Files.{Files}
+use Rattle.snap_io.specs.Files.{Files}
 use Rattle.snap_assert.specs.Steps.{is_stray}
 
 -- each path of the map that is left behind by payloads of this path, and no other

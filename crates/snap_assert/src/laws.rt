@@ -1,16 +1,16 @@
 //! Laws of what an assertion rests on, and worked examples.
 ghost use Rattle.std.specs.Prelude.{◌≡◌, ◌++◌, ◌∷◌, ℕ, Bool, List, [], Some, None, true, false, codes};
-ghost use Rattle.snap_outside.specs.Files.{Files};
+ghost use Rattle.snap_io.specs.Files.{Files};
 ghost use Rattle.snap_store.specs.Agreement.{Agree};
 ghost use Rattle.snap_store.specs.declared.contents.SnapshotContents.{SnapshotContents};
 ghost use Rattle.snap_assert.specs.Assertions.{Assertion, asked_in, key_in, new_contents, goes_on, is_refused, assertion_step};
 ghost use Rattle.snap_assert.specs.Blocks.{Block, kept_for};
 ghost use Rattle.snap_assert.specs.Kept.{is_written, may_change};
 ghost use Rattle.snap_assert.specs.Session.{SessionView, empty_session, name_step};
-ghost use Rattle.snap_settings.specs.Settings.{SettingsView, new_settings};
+ghost use Rattle.snap_assert_settings.specs.Settings.{SettingsView, new_settings};
 ghost use Rattle.snap_assert.specs.Steps.{pending_path};
-ghost use Rattle.snap_settings.specs.declared.config.Update.{Update};
-ghost use Rattle.snap_settings.specs.declared.config.Update.TheVariants.{InPlace, NewFile, NoUpdate};
+ghost use Rattle.snap_assert_settings.specs.declared.config.Update.{Update};
+ghost use Rattle.snap_assert_settings.specs.declared.config.Update.TheVariants.{InPlace, NewFile, NoUpdate};
 
 /// In place alone the approved file is written, and in the mode `new` alone the file that waits beside it; in no other mode
 /// may the approved file change.

@@ -19,5 +19,5 @@ pub use engine::assert_content;
 pub use error::{AssertError, DuplicateKey};
 pub use outcome::{Outcome, Verdict, Warning, Warnings};
 pub use session::Session;
-pub use snap_place::{BadPlace, Place};
-pub use snap_settings::{Config, Flags, Redactions, Settings, Update};
+pub use snap_assert_place::{BadPlace, Place};
+pub use snap_assert_settings::{Config, Flags, Redactions, Settings, Update};

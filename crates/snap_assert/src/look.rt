@@ -1,12 +1,12 @@
 //! What stands in the store: whether the tree passes, and what is to go.
 ghost use Rattle.std.specs.Prelude.{◌≡◌, [], ◌∷◌, false, Some, IfOk};
-ghost use Rattle.snap_outside.specs.Files.{Files};
+ghost use Rattle.snap_io.specs.Files.{Files};
 ghost use Rattle.snap_assert.specs.Outcomes.{AssertCause};
 ghost use Rattle.snap_assert.specs.Steps.{Asked};
 ghost use Rattle.snap_assert.specs.Prepared.{IsPrepared, IsJudged, IsSeen, NoPass, RefusedEnd, DifferAs, OlderAs, IsCompared, said};
 ghost use Rattle.snap_assert.specs.Kept.{NamesOnly, NamesOwn};
 ghost use Rattle.snap_assert.specs.Strays.{AllStray};
-ghost use Rattle.snap_settings.specs.declared.config.Update.{Update};
+ghost use Rattle.snap_assert_settings.specs.declared.config.Update.{Update};
 ghost use Rattle.snap_store.specs.Views.{text_in};
 ghost use Rattle.snap_content.specs.List.{items_of};
 
@@ -15,7 +15,7 @@ use crate::outcome::{Warning, Warnings};
 use crate::prepare::Prepared;
 use crate::strays::stray_paths;
 use snap_content::{Error, OutOfMemory, Text};
-use snap_outside::{Store, StoreError};
+use snap_io::{Store, StoreError};
 use snap_path::path_parent;
 use snap_store::{Snapshot, SnapshotContents};
 use std::alloc::Global;

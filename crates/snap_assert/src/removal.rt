@@ -1,13 +1,13 @@
 //! Removing files one by one.
 ghost use Rattle.std.specs.Prelude.{◌≡◌, Some, OnOk};
-ghost use Rattle.snap_outside.specs.Files.{Files};
+ghost use Rattle.snap_io.specs.Files.{Files};
 ghost use Rattle.snap_assert.specs.Kept.{Keeps, is_none};
 ghost use Rattle.snap_assert.specs.Outcomes.{AssertCause};
 ghost use Rattle.snap_assert.specs.Removed.{remove_each, is_among, NamesOneOf};
 
 use crate::error::AssertError;
 use snap_content::Text;
-use snap_outside::{Store, StoreError};
+use snap_io::{Store, StoreError};
 use std::alloc::Global;
 
 /// Removes each of these files. After an error some of them may be gone; no file is written, and no other is changed.

@@ -1,21 +1,21 @@
 //! What an assertion leaves in the store.
 ghost use Rattle.std.specs.Prelude.{◌≡◌, Some, IsSome, OnOk};
 ghost use Rattle.std.specs.FinMap.{remove};
-ghost use Rattle.snap_outside.specs.Files.{Files};
+ghost use Rattle.snap_io.specs.Files.{Files};
 ghost use Rattle.snap_store.specs.Views.{contents_in, text_in};
 ghost use Rattle.snap_assert.specs.Outcomes.{AssertCause};
 ghost use Rattle.snap_assert.specs.Kept.{KeptBy, IsWrittenAlone, IsTakenAlone, NamesOwn, NamesOnly};
 ghost use Rattle.snap_assert.specs.Steps.{Asked, step, written, pending_path};
 ghost use Rattle.snap_assert.specs.Prepared.{IsPrepared};
 ghost use Rattle.snap_assert.specs.Strays.{AreStrays, AllStray};
-ghost use Rattle.snap_settings.specs.declared.config.Update.TheVariants.{InPlace, NewFile};
+ghost use Rattle.snap_assert_settings.specs.declared.config.Update.TheVariants.{InPlace, NewFile};
 
 use crate::error::AssertError;
 use crate::prepare::Prepared;
 use crate::removal::remove_files;
+use snap_assert_settings::config::{Config, Update};
 use snap_content::Text;
-use snap_outside::{Store, StoreError};
-use snap_settings::config::{Config, Update};
+use snap_io::{Store, StoreError};
 use std::alloc::Global;
 
 /// Removes what waited for the tree that now passed.

@@ -2,18 +2,18 @@
 ghost use Rattle.std.specs.Prelude.{◌≡◌, Some, IfOk, map};
 ghost use Rattle.std.specs.List.{filter};
 ghost use Rattle.std.specs.Str.{chars};
-ghost use Rattle.snap_outside.specs.Causes.{Counted, is_failed};
-ghost use Rattle.snap_outside.specs.Files.{Files};
+ghost use Rattle.snap_io.specs.Causes.{Counted, is_failed};
+ghost use Rattle.snap_io.specs.Files.{Files};
 ghost use Rattle.snap_path.specs.Paths.{joined, parent_of};
 ghost use Rattle.snap_assert.specs.Steps.{is_stray};
-ghost use Rattle.snap_place.specs.SnapshotPath.{IsFilePath};
+ghost use Rattle.snap_assert_place.specs.SnapshotPath.{IsFilePath};
 ghost use Rattle.snap_assert.specs.Strays.{AreStrays, AllStray};
 
+use snap_assert_place::file_path::holds_slash;
+use snap_assert_place::front::{behind, behind_ascii};
 use snap_content::{OutOfMemory, Text};
-use snap_outside::{Store, StoreError};
+use snap_io::{Store, StoreError};
 use snap_path::{path_join, path_name};
-use snap_place::file_path::holds_slash;
-use snap_place::front::{behind, behind_ascii};
 use std::alloc::Global;
 
 /// Whether a file of this name is left behind by payloads of the file that stands beside it. Such a name is longer.

@@ -3,8 +3,8 @@ use Rattle.snap_emit.proofs.Prelude.{◌≡◌, ℕ, ℤ, Bool, true, false, Lis
 use Rattle.std.specs.Str.{bytes_eq}
 use Rattle.snap_content.specs.Plain as p
 use Rattle.snap_content.specs.Typed as t
-use Rattle.snap_owed.specs.Forms.{square, curly}
-use Rattle.snap_owed.specs.Layouts as w
+use Rattle.snap_parse_laws.specs.Forms.{square, curly}
+use Rattle.snap_parse_laws.specs.Layouts as w
 use Rattle.snap_yaml.specs.Through.{plain_typed}
 use Rattle.snap_yaml.specs.Typing.{typed_yaml, typed_word, typed_number, prefixed_number, integer_or, integer_of, is_real_text}
 use Rattle.snap_yaml.specs.Value as v

@@ -1,7 +1,7 @@
 -- Trees that have a text in common are one tree.
 use Rattle.snap_emit.proofs.Prelude.{◌≡◌, ◌++◌, ℕ, List, Some, refl, ap, sym, subst, ◌∙◌, codes, text_of, document_of, Plain, IsWithin, Blocks, read_value, plain_read}
 use Rattle.std.proofs.Common.{inl, inr}
-use Rattle.snap_owed.proofs.FreeLayouts.{free-is-laid}
+use Rattle.snap_parse_laws.proofs.FreeLayouts.{free-is-laid}
 use Rattle.snap_yaml.specs.Value.{Value}
 use Rattle.snap_parse.specs.LaidValues.{layout_value}
 use Rattle.snap_parse.proofs.OneText.{HasValue, printed-value, laid-one-value, values-same}

@@ -2,12 +2,12 @@
 use Rattle.snap_emit.proofs.Prelude.{◌≡◌, ℕ, Bool, false, List, Option, Some, None, option_map, Result, Ok, Err, sym, ap, subst, ◌∙◌, IfOk, IfSome, IsSomeAnd, IfOk-weaker, document_of, Blocks, Plain, plain, content_of, IsWithin, tree, Content, read_value, document-read, IsPlain, plain_read, has_number_text}
 use Rattle.std.proofs.Common.{inl, inr}
 use Rattle.snap_content.proofs.PlainMade.{plain_made}
-use Rattle.snap_owed.proofs.FreeLayouts.{free-is-laid}
-use Rattle.snap_owed.specs.FreeLayouts.{IsFree}
-use Rattle.snap_owed.specs.LayoutRules.{IsDocument}
-use Rattle.snap_owed.specs.LayoutTexts.{document_text}
-use Rattle.snap_owed.specs.Layouts.{Document}
-use Rattle.snap_owed_json.specs.Nodes.{json_node}
+use Rattle.snap_parse_laws.proofs.FreeLayouts.{free-is-laid}
+use Rattle.snap_parse_laws.specs.FreeLayouts.{IsFree}
+use Rattle.snap_parse_laws.specs.LayoutRules.{IsDocument}
+use Rattle.snap_parse_laws.specs.LayoutTexts.{document_text}
+use Rattle.snap_parse_laws.specs.Layouts.{Document}
+use Rattle.snap_parse_laws_json.specs.Nodes.{json_node}
 use Rattle.snap_yaml.specs.Value.{Value}
 use Rattle.snap_parse.specs.Documents.{document_value}
 use Rattle.snap_parse.specs.LaidValues.{layout_value}

@@ -2,7 +2,7 @@
 use Rattle.std.specs.Prelude.{◌≡◌, pos, negsuc, [], ◌∷◌, true, false, codes}
 use Rattle.snap_content.specs.Plain.{null, bool, int, text, list, dict, item, no_items, entry, no_entries}
 use Rattle.snap_content.specs.Typed.{typed, value, real}
-use Rattle.snap_owed.specs.LayoutExamples.{hand_header, hand_request, hand_list}
+use Rattle.snap_parse_laws.specs.LayoutExamples.{hand_header, hand_request, hand_list}
 use Rattle.snap_emit.specs.LayoutTrees.{layout_plain, layout_keeps}
 
 -- a number in base 16 or 8, or behind a plus: its digits may have a sign of their own, and it has 64 bits

@@ -2,9 +2,9 @@
 use Rattle.std.specs.Prelude.{◌||◌, ◌++◌, ℕ, List, Bool, true, false}
 use Rattle.snap_content.specs.Plain as p
 use Rattle.snap_content.specs.Typed.{Typed, value, real, typed}
-use Rattle.snap_owed.specs.Forms.{square, curly, line_ends}
-use Rattle.snap_owed.specs.Layouts as w
-use Rattle.snap_owed.specs.LayoutTexts.{characters}
+use Rattle.snap_parse_laws.specs.Forms.{square, curly, line_ends}
+use Rattle.snap_parse_laws.specs.Layouts as w
+use Rattle.snap_parse_laws.specs.LayoutTexts.{characters}
 
 -- the tree of a bare text: what a reader takes it for, or the text where that is a number which isn't whole
 abbrev pub bare_plain : Typed → List ℕ → p.Plain

@@ -4,9 +4,9 @@ use Rattle.snap_content.specs.Plain.{Plain}
 use Rattle.snap_content.specs.Readable.{IsWithin}
 use Rattle.snap_print.specs.Blocks.{Blocks}
 use Rattle.snap_print.specs.Lines.{document_of}
-use Rattle.snap_owed.specs.FreeLayouts.{IsFree}
-use Rattle.snap_owed.specs.Layouts.{Document}
-use Rattle.snap_owed.specs.LayoutTexts.{document_text}
+use Rattle.snap_parse_laws.specs.FreeLayouts.{IsFree}
+use Rattle.snap_parse_laws.specs.Layouts.{Document}
+use Rattle.snap_parse_laws.specs.LayoutTexts.{document_text}
 use Rattle.snap_emit.specs.LayoutTrees.{layout_plain, layout_keeps}
 
 -- some free layout has the text and the tree; a number may stand bare in it that is kept as its text

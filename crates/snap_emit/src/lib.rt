@@ -13,6 +13,6 @@ mod pieces;
 mod whole;
 pub mod yaml;
 
-pub use snap_emitter::scalars::push_spelled_text;
+pub use snap_emit_values::scalars::push_spelled_text;
 pub use snap_print::{need_quotes, spelled_text};
 pub use yaml::{Header, body_to_string, parse_header, parse_str, to_string};

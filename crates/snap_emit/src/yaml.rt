@@ -7,14 +7,14 @@ ghost use Rattle.snap_content.specs.View.{tree};
 ghost use Rattle.snap_print.specs.Blocks.{blocks_if};
 ghost use Rattle.snap_print.specs.Lines.{document_of, lines_of, text_of};
 ghost use Rattle.snap_print.specs.Printed.{AreRows, EndsWell};
-ghost use Rattle.snap_owed_json.specs.Bounded.{IsJsonOf};
+ghost use Rattle.snap_parse_laws_json.specs.Bounded.{IsJsonOf};
 ghost use Rattle.snap_emit.specs.Parsed.{ParseEnd, HeaderEnd};
 ghost use Rattle.snap_emit.specs.Spelled.{IsTextOf, IsHeaderOf, KeepsNumber};
 
 use crate::loaded::{Loaded, load_tree};
 use crate::pieces::number_refusal;
 use snap_content::{Content, Error, OutOfMemory, Text};
-use snap_emitter::printing::{print_body, printed_document};
+use snap_emit_values::printing::{print_body, printed_document};
 use std::alloc::Global;
 
 /// The header of a snapshot file.

@@ -1,6 +1,6 @@
 //! Events: what a parser makes of tokens.
 use snap_content::{Lent, Text};
-use snap_token::TScalarStyle;
+use snap_scan_tokens::TScalarStyle;
 
 /// A tag as it is written: its handle, as `!!`, and what stands behind it.
 #[derive(Debug, Drop, PartialEq, Eq)]

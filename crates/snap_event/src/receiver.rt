@@ -4,7 +4,7 @@ ghost use Rattle.snap_event.specs.declared.event.Event.{Event as EventSeen};
 
 use crate::event::Event;
 use snap_content::OutOfMemory;
-use snap_token::Marker;
+use snap_scan_tokens::Marker;
 
 /// Gets events, with the places where they begin.
 pub trait MarkedEventReceiver {

@@ -1,12 +1,12 @@
 -- The tokens of a layout are those of its tree of tokens, which yield the events of its node.
 use Rattle.snap_parse.proofs.Prelude.{◌≡◌, Bool, true, false, List, [], ◌∷◌, ◌++◌, refl, sym, ◌∙◌, ap, subst, append_assoc, TokenType, stream_events, start_spot, Yields}
-use Rattle.snap_token.specs.declared.token.TokenType.TheVariants as k
-use Rattle.snap_token.specs.declared.token.TEncoding.TheVariants.{Utf8}
-use Rattle.snap_owed.specs.Forms.{square, curly}
-use Rattle.snap_owed.specs.Layouts as w
-use Rattle.snap_owed.specs.LayoutTokens as o
-use Rattle.snap_owed.specs.Tokens.{document_with}
-use Rattle.snap_parser.specs.TokenTrees.{IsFit, AreFit, FitEntries, Entries, no_entries, tokens_onto, items_onto, entries_onto}
+use Rattle.snap_scan_tokens.specs.declared.token.TokenType.TheVariants as k
+use Rattle.snap_scan_tokens.specs.declared.token.TEncoding.TheVariants.{Utf8}
+use Rattle.snap_parse_laws.specs.Forms.{square, curly}
+use Rattle.snap_parse_laws.specs.Layouts as w
+use Rattle.snap_parse_laws.specs.LayoutTokens as o
+use Rattle.snap_parse_laws.specs.Tokens.{document_with}
+use Rattle.snap_parse_events.specs.TokenTrees.{IsFit, AreFit, FitEntries, Entries, no_entries, tokens_onto, items_onto, entries_onto}
 use Rattle.snap_parse.specs.LaidEvents.{scalar_tree, leaf_tree, collection_tree, item_tree, items_trees, value_tree, level_tree, entry_trees, entries_trees, layout_tree}
 use Rattle.snap_parse.specs.TreeNodes.{tree_node}
 use Rattle.snap_parse.proofs.TreeNodes.{tree-events}

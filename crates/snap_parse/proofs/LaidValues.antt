@@ -2,9 +2,9 @@
 use Rattle.snap_parse.proofs.Prelude.{◌≡◌, ℕ, ℤ, List, Bool, true, false, Option, None, Some, if◌then◌else◌, refl, ap, ◌∙◌, codes, bytes_eq, is_bad, paired, node_value, values_in, values_in_pairs, document_value}
 use Rattle.snap_content.specs.Typed.{is_null_word}
 use Rattle.snap_event.specs.Nodes as n
-use Rattle.snap_owed.specs.Forms.{square, curly}
-use Rattle.snap_owed.specs.Layouts as w
-use Rattle.snap_parser.specs.TokenTrees as tree
+use Rattle.snap_parse_laws.specs.Forms.{square, curly}
+use Rattle.snap_parse_laws.specs.Layouts as w
+use Rattle.snap_parse_events.specs.TokenTrees as tree
 use Rattle.snap_yaml.specs.Typing.{prefixed_number, is_real_text, integer_of, integer_or, typed_number, typed_word, typed_yaml}
 use Rattle.snap_yaml.specs.Value as v
 use Rattle.snap_parse.specs.LaidEvents.{scalar_tree, leaf_tree, collection_tree, item_tree, items_trees, value_tree, level_tree, entry_trees, entries_trees, layout_tree}

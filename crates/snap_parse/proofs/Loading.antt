@@ -1,16 +1,16 @@
 -- What is loaded of a whole stream.
 use Rattle.snap_parse.proofs.Prelude.{◌≡◌, false, List, [], ◌∷◌, ◌++◌, map, sym, ap, ◌∙◌, subst, Blocks, document_of, Plain, document_tokens, plain-source, json_node, Owes, start_scan, before_nul, TokenType, Parsing, WillGive, start_spot, Yields, node_of, Event, Node, stream_events, ℕ, Result, IfOk, Value, document_value, steps, start, AreLoaded, scan_error}
-use Rattle.snap_owed_json.specs.Bounded.{IsJsonOf}
-use Rattle.snap_owed_json.specs.Tokens.{json_stream_tokens}
-use Rattle.snap_owed_json.proofs.Events.{json-events}
-use Rattle.snap_owed_json.proofs.Texts.{text-source}
-use Rattle.snap_owed.specs.LayoutTokens.{layout_tokens}
-use Rattle.snap_owed.specs.Layouts.{Document, Layout}
-use Rattle.snap_owed.specs.LayoutTexts.{document_text}
-use Rattle.snap_owed.specs.LayoutRules.{IsDocument}
-use Rattle.snap_owed.specs.Tokens.{document_with}
-use Rattle.snap_owed.specs.Endings.{ends_in_block}
-use Rattle.snap_owed.proofs.Documents.{laid-source, dumped-source}
+use Rattle.snap_parse_laws_json.specs.Bounded.{IsJsonOf}
+use Rattle.snap_parse_laws_json.specs.Tokens.{json_stream_tokens}
+use Rattle.snap_parse_laws_json.proofs.Events.{json-events}
+use Rattle.snap_parse_laws_json.proofs.Texts.{text-source}
+use Rattle.snap_parse_laws.specs.LayoutTokens.{layout_tokens}
+use Rattle.snap_parse_laws.specs.Layouts.{Document, Layout}
+use Rattle.snap_parse_laws.specs.LayoutTexts.{document_text}
+use Rattle.snap_parse_laws.specs.LayoutRules.{IsDocument}
+use Rattle.snap_parse_laws.specs.Tokens.{document_with}
+use Rattle.snap_parse_laws.specs.Endings.{ends_in_block}
+use Rattle.snap_parse_laws.proofs.Documents.{laid-source, dumped-source}
 use Rattle.snap_parse.specs.LaidEvents.{layout_tree}
 use Rattle.snap_parse.specs.LaidValues.{layout_value}
 use Rattle.snap_parse.specs.TreeNodes.{tree_node}
@@ -20,11 +20,11 @@ use Rattle.snap_parse.proofs.PrintedRuns.{printed-events}
 use Rattle.snap_event.specs.Streams.{IsStream}
 use Rattle.snap_event.proofs.Documents.{whole-streams}
 use Rattle.std.proofs.lemmas.Result.{IfOk-weaker}
-use Rattle.snap_token.specs.declared.info.ScanError.{ScanError}
-use Rattle.snap_token.specs.declared.info.ScanError.TheVariants as c
-use Rattle.snap_parser.specs.declared.error.LoadError.{LoadError}
-use Rattle.snap_parser.specs.declared.error.LoadError.TheVariants as l
-use Rattle.snap_parser.specs.Errors.{IsLoadFounded}
+use Rattle.snap_scan_tokens.specs.declared.info.ScanError.{ScanError}
+use Rattle.snap_scan_tokens.specs.declared.info.ScanError.TheVariants as c
+use Rattle.snap_parse_events.specs.declared.error.LoadError.{LoadError}
+use Rattle.snap_parse_events.specs.declared.error.LoadError.TheVariants as l
+use Rattle.snap_parse_events.specs.Errors.{IsLoadFounded}
 use Rattle.snap_scan.specs.Sound.{IsFounded}
 use Rattle.snap_yaml.specs.View.{value_of, array_list, Array}
 use Rattle.snap_parse.specs.declared.loader.Loader.{Loader}

@@ -1,14 +1,14 @@
 -- A text has one document, whether it is printed of a tree or lies in a layout.
 use Rattle.snap_parse.proofs.Prelude.{◌≡◌, ℕ, List, [], ◌∷◌, ◌++◌, map, true, false, Some, sym, ap, ◌∙◌, refl, subst, Blocks, document_of, Plain, document_tokens, plain-source, fetched, Steps, none_more, one_more, type_of, Owes, start_scan, before_nul, TokenType, Event, Node, stream_events, Spot, start_spot, Parsed, parse_step, stage_step, Yields, finished, then_one, Value, document_value, node_of, read_value, IsWithin, steps, start}
-use Rattle.snap_owed.specs.LayoutRules.{IsDocument}
-use Rattle.snap_owed.specs.LayoutTexts.{document_text}
-use Rattle.snap_owed.specs.LayoutTokens.{layout_tokens}
-use Rattle.snap_owed.specs.Layouts.{Document}
-use Rattle.snap_owed.specs.Tokens.{document_with}
-use Rattle.snap_owed.specs.Endings.{ends_in_block}
-use Rattle.snap_owed.proofs.Documents.{laid-source, dumped-source}
+use Rattle.snap_parse_laws.specs.LayoutRules.{IsDocument}
+use Rattle.snap_parse_laws.specs.LayoutTexts.{document_text}
+use Rattle.snap_parse_laws.specs.LayoutTokens.{layout_tokens}
+use Rattle.snap_parse_laws.specs.Layouts.{Document}
+use Rattle.snap_parse_laws.specs.Tokens.{document_with}
+use Rattle.snap_parse_laws.specs.Endings.{ends_in_block}
+use Rattle.snap_parse_laws.proofs.Documents.{laid-source, dumped-source}
 use Rattle.snap_scan.specs.State.{State}
-use Rattle.snap_parser.specs.declared.state.Stage.TheVariants as g
+use Rattle.snap_parse_events.specs.declared.state.Stage.TheVariants as g
 use Rattle.snap_parse.specs.LaidEvents.{layout_tree}
 use Rattle.snap_parse.specs.LaidValues.{layout_value}
 use Rattle.snap_parse.specs.TreeNodes.{tree_node}

@@ -9,16 +9,16 @@ pub use Rattle.snap_print.specs.Blocks.{Blocks, before_more, as_block}
 pub use Rattle.snap_print.specs.Lines.{before_items, before_entries, document_of}
 pub use Rattle.snap_event.specs.Nodes.{Node, alias, scalar, list, dict, Nodes, no_nodes, node, Pairs, no_pairs, pair, node_onto, nodes_onto, pairs_onto, documents_onto, stream_events}
 pub use Rattle.snap_event.specs.declared.event.Event.{Event}
-pub use Rattle.snap_owed.proofs.Documents.{plain-source}
-pub use Rattle.snap_owed.specs.Tokens.{document_tokens}
-pub use Rattle.snap_owed_json.specs.Nodes.{json_node, json_nodes, json_pairs}
-pub use Rattle.snap_parser.specs.Parsing.{Parsing, WillGive, meaning}
-pub use Rattle.snap_parser.specs.Place.{start_spot, Spot}
-pub use Rattle.snap_parser.specs.Twin.{Yields, Parsed, parse_step, stage_step, finished, then_one}
+pub use Rattle.snap_parse_laws.proofs.Documents.{plain-source}
+pub use Rattle.snap_parse_laws.specs.Tokens.{document_tokens}
+pub use Rattle.snap_parse_laws_json.specs.Nodes.{json_node, json_nodes, json_pairs}
+pub use Rattle.snap_parse_events.specs.Parsing.{Parsing, WillGive, meaning}
+pub use Rattle.snap_parse_events.specs.Place.{start_spot, Spot}
+pub use Rattle.snap_parse_events.specs.Twin.{Yields, Parsed, parse_step, stage_step, finished, then_one}
 pub use Rattle.snap_scan.specs.Owed.{Owes, fetched, Steps, none_more, one_more, type_of}
 pub use Rattle.snap_scan.specs.Scan.{start_scan}
-pub use Rattle.snap_token.specs.Place.{before_nul}
-pub use Rattle.snap_token.specs.declared.token.TokenType.{TokenType}
+pub use Rattle.snap_scan_tokens.specs.Place.{before_nul}
+pub use Rattle.snap_scan_tokens.specs.declared.token.TokenType.{TokenType}
 pub use Rattle.snap_yaml.specs.Readers.{is_bad}
 pub use Rattle.snap_yaml.specs.Value.{Value, hash, bad_value}
 pub use Rattle.snap_parse.specs.Documents.{paired, behind, and_some, node_value, values_in, values_in_pairs, document_value, scalar_value}

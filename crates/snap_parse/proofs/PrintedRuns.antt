@@ -1,13 +1,13 @@
 -- The tokens of a printed tree yield the events of one document of its node.
 use Rattle.snap_parse.proofs.Prelude.{◌≡◌, ℕ, Bool, true, false, Option, None, Some, List, [], ◌∷◌, ◌++◌, refl, sym, ◌∙◌, ap, subst, append_assoc, if◌then◌else◌, needs_quotes, TokenType, Event, node_onto, nodes_onto, pairs_onto, stream_events, start_spot, Node, Blocks, before_more, before_items, before_entries, as_block, child_tree, child_node, tree_of, trees_of, entries_of, node_of, nodes_of, pairs_of, Yields}
 use Rattle.snap_content.specs.Plain as p
-use Rattle.snap_token.specs.declared.token.TokenType.TheVariants as k
-use Rattle.snap_token.specs.declared.token.TEncoding.TheVariants.{Utf8}
-use Rattle.snap_token.specs.declared.token.TScalarStyle.TheVariants as style
+use Rattle.snap_scan_tokens.specs.declared.token.TokenType.TheVariants as k
+use Rattle.snap_scan_tokens.specs.declared.token.TEncoding.TheVariants.{Utf8}
+use Rattle.snap_scan_tokens.specs.declared.token.TScalarStyle.TheVariants as style
 use Rattle.snap_event.specs.declared.event.Event.TheVariants as e
-use Rattle.snap_owed.specs.Tokens as o
-use Rattle.snap_parser.specs.TokenTrees.{Tree, IsFit, AreFit, FitEntries, tokens_onto, items_onto, entries_onto, events_onto, item_events_onto, entry_events_onto, document_tokens}
-use Rattle.snap_parser.proofs.TreeRuns.{document}
+use Rattle.snap_parse_laws.specs.Tokens as o
+use Rattle.snap_parse_events.specs.TokenTrees.{Tree, IsFit, AreFit, FitEntries, tokens_onto, items_onto, entries_onto, events_onto, item_events_onto, entry_events_onto, document_tokens}
+use Rattle.snap_parse_events.proofs.TreeRuns.{document}
 
 -- items and values
 abbrev tree_in : Blocks → p.Plain → Tree

@@ -8,7 +8,7 @@ use Rattle.snap_content.specs.Plain as p
 use Rattle.snap_content.specs.Typed as t
 use Rattle.snap_event.specs.Nodes as n
 use Rattle.snap_print.specs.Blocks.{is_block}
-use Rattle.snap_token.specs.declared.token.TScalarStyle.TheVariants as style
+use Rattle.snap_scan_tokens.specs.declared.token.TScalarStyle.TheVariants as style
 use Rattle.snap_yaml.specs.Through.{plain_typed}
 use Rattle.snap_yaml.specs.Typing.{is_digits_in, is_integer_in, integer_of, behind_zero, prefixed_number, is_real_text, integer_or, typed_number, typed_word, typed_yaml}
 use Rattle.snap_yaml.specs.Value as v

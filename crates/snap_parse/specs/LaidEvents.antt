@@ -1,10 +1,10 @@
 -- The tree of tokens of a layout.
 use Rattle.std.specs.Prelude.{◌++◌}
-use Rattle.snap_token.specs.declared.token.TScalarStyle.TheVariants as style
-use Rattle.snap_owed.specs.Forms.{square, curly, line_ends}
-use Rattle.snap_owed.specs.Layouts as w
-use Rattle.snap_owed.specs.LayoutTexts as laid
-use Rattle.snap_parser.specs.TokenTrees.{Tree, scalar, block_list, indentless_list, block_dict, flow_list, flow_dict, Trees, no_items, item, Entries, no_entries, entry}
+use Rattle.snap_scan_tokens.specs.declared.token.TScalarStyle.TheVariants as style
+use Rattle.snap_parse_laws.specs.Forms.{square, curly, line_ends}
+use Rattle.snap_parse_laws.specs.Layouts as w
+use Rattle.snap_parse_laws.specs.LayoutTexts as laid
+use Rattle.snap_parse_events.specs.TokenTrees.{Tree, scalar, block_list, indentless_list, block_dict, flow_list, flow_dict, Trees, no_items, item, Entries, no_entries, entry}
 
 abbrev pub scalar_tree : w.Scalar → Tree
 scalar_tree (w.bare u) = scalar style.Plain u

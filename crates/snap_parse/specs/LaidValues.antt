@@ -1,9 +1,9 @@
 -- The value of a layout: that of its tree, a bare text typed as it is, a text in quotes the characters that its letters stand for,
 -- and a literal block its text. How lines end, where blanks and comments stand and in which columns doesn't matter.
 use Rattle.std.specs.Prelude.{◌++◌}
-use Rattle.snap_owed.specs.Forms.{square, curly, line_ends}
-use Rattle.snap_owed.specs.Layouts as w
-use Rattle.snap_owed.specs.LayoutTexts.{characters}
+use Rattle.snap_parse_laws.specs.Forms.{square, curly, line_ends}
+use Rattle.snap_parse_laws.specs.Layouts as w
+use Rattle.snap_parse_laws.specs.LayoutTexts.{characters}
 use Rattle.snap_yaml.specs.Typing.{typed_yaml}
 use Rattle.snap_yaml.specs.Value as v
 

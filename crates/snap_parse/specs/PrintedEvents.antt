@@ -6,10 +6,10 @@ use Rattle.snap_content.specs.Quotes.{needs_quotes}
 use Rattle.snap_content.specs.Spell.{spell_bool}
 use Rattle.snap_print.specs.Blocks.{Blocks, before_more, as_block}
 use Rattle.snap_print.specs.Lines.{before_items, before_entries}
-use Rattle.snap_token.specs.declared.token.TScalarStyle.{TScalarStyle}
-use Rattle.snap_token.specs.declared.token.TScalarStyle.TheVariants as style
+use Rattle.snap_scan_tokens.specs.declared.token.TScalarStyle.{TScalarStyle}
+use Rattle.snap_scan_tokens.specs.declared.token.TScalarStyle.TheVariants as style
 use Rattle.snap_event.specs.Nodes as n
-use Rattle.snap_parser.specs.TokenTrees.{Tree, scalar, block_list, block_dict, flow_list, flow_dict, Trees, no_items, item, Entries, no_entries, entry}
+use Rattle.snap_parse_events.specs.TokenTrees.{Tree, scalar, block_list, block_dict, flow_list, flow_dict, Trees, no_items, item, Entries, no_entries, entry}
 
 -- how a text is written
 abbrev pub style_of : List ℕ → TScalarStyle

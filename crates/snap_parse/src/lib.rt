@@ -11,6 +11,6 @@ mod scalar;
 
 pub use load::YamlLoader;
 pub use snap_event::{Event, EventReceiver, MarkedEventReceiver, Tag};
-pub use snap_parser::{LoadError, ParseResult, Parser};
-pub use snap_token::{Marker, ScanError, ScanInfo, TScalarStyle};
+pub use snap_parse_events::{LoadError, ParseResult, Parser};
+pub use snap_scan_tokens::{Marker, ScanError, ScanInfo, TScalarStyle};
 pub use snap_yaml::{Array, Hash, Yaml, YamlIter};

@@ -6,7 +6,7 @@ ghost use Rattle.snap_yaml.specs.View.{value_of};
 
 use snap_content::{Lent, OutOfMemory};
 use snap_event::Tag;
-use snap_token::TScalarStyle;
+use snap_scan_tokens::TScalarStyle;
 use snap_yaml::Yaml;
 use std::alloc::Global;
 

@@ -15,8 +15,8 @@ pub use Rattle.snap_content.specs.declared.error.Error.TheVariants.{FailedParsin
 pub use Rattle.snap_json.specs.JsonPlain.{json_plain, json_pairs}
 pub use Rattle.snap_json.specs.JsonText.{json_text, text_at}
 pub use Rattle.snap_json.specs.declared.format.Format.TheVariants.{Condensed}
-pub use Rattle.snap_outside.specs.Files.{Files, SameBut, appended, MayBeGone}
-pub use Rattle.snap_owed_json.specs.Bounded.{IsJsonOf}
+pub use Rattle.snap_io.specs.Files.{Files, SameBut, appended, MayBeGone}
+pub use Rattle.snap_parse_laws_json.specs.Bounded.{IsJsonOf}
 pub use Rattle.snap_store.proofs.Headers.{tree-pairs, tree-U32, in_front-none}
 pub use Rattle.snap_store.proofs.Written.{same_but, nothing_written}
 pub use Rattle.snap_store.specs.Fields.{is_text, binary_kind, kind_in, fields, last_value, last_filled, text_value, line_value}

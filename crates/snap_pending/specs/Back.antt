@@ -2,7 +2,7 @@
 use Rattle.std.specs.Prelude.{◌≡◌, ◌<◌, ◌^◌, ℕ, List, [], ◌∷◌, Option, None, Some, option_map, IfSome, is_some, true, false}
 use Rattle.snap_content.specs.Plain.{content_of}
 use Rattle.snap_content.specs.Readable.{IsWithin}
-use Rattle.snap_owed_json.specs.Bounded.{is_bounded}
+use Rattle.snap_parse_laws_json.specs.Bounded.{is_bounded}
 use Rattle.snap_json.specs.JsonPlain.{json_plain}
 use Rattle.snap_store.specs.Meta.{Meta}
 use Rattle.snap_store.specs.MetaTree.{without_nil_info}

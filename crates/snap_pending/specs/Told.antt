@@ -5,7 +5,7 @@ use Rattle.snap_content.specs.declared.error.Error.{Error}
 use Rattle.snap_content.specs.declared.error.Error.TheVariants.{FailedParsingYaml, UnexpectedDataType, MissingField, FileIo, FloatText, JsonKey, NotText, NoFile, OutOfMemory}
 use Rattle.snap_content.specs.Readable.{IsWithin}
 use Rattle.snap_emit.specs.Parsed.{MayBeReadAs, IsUnspelled}
-use Rattle.snap_owed_json.specs.Bounded.{IsJsonOf}
+use Rattle.snap_parse_laws_json.specs.Bounded.{IsJsonOf}
 use Rattle.snap_store.specs.Fields.{last_value, last_filled, text_value, line_value, kind_in, fields}
 use Rattle.snap_store.specs.Header.{HasNoExtension}
 use Rattle.snap_store.specs.Meta.{Meta}

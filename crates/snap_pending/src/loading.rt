@@ -1,7 +1,7 @@
 //! Reading the records of a file.
 ghost use Rattle.std.specs.Prelude.{◌≡◌, ℕ, List, Option};
 ghost use Rattle.std.specs.Str.{chars};
-ghost use Rattle.snap_outside.specs.Causes.{Counted};
+ghost use Rattle.snap_io.specs.Causes.{Counted};
 ghost use Rattle.snap_store.specs.Causes.{is_file_fault};
 ghost use Rattle.snap_store.specs.Reading.{IsTextFile};
 ghost use Rattle.snap_str.specs.Lines.{lines};
@@ -11,7 +11,7 @@ use crate::batch::Batch;
 use crate::lines::read_line;
 use crate::pending::PendingInlineSnapshot;
 use snap_content::{Blob, Error, Text};
-use snap_outside::{Store, StoreError};
+use snap_io::{Store, StoreError};
 use snap_str::lines::next_line;
 use std::alloc::Global;
 use std::str;

@@ -3,8 +3,8 @@ ghost use Rattle.std.specs.Prelude.{◌≡◌, ◌++◌, ◌∷◌, [], Some, If
 ghost use Rattle.std.specs.FinMap.{remove};
 ghost use Rattle.std.specs.List.{list_any};
 ghost use Rattle.snap_content.specs.declared.error.Error.TheVariants.{JsonKey};
-ghost use Rattle.snap_outside.specs.Files.{Files, SameBut, appended};
-ghost use Rattle.snap_outside.specs.Causes.{Counted};
+ghost use Rattle.snap_io.specs.Files.{Files, SameBut, appended};
+ghost use Rattle.snap_io.specs.Causes.{Counted};
 ghost use Rattle.snap_store.specs.Causes.{is_file_fault};
 ghost use Rattle.snap_store.specs.Reading.{SaveEnd};
 ghost use Rattle.snap_pending.specs.Pending.{pending_of};
@@ -14,7 +14,7 @@ ghost use Rattle.snap_pending.specs.Saved.{with_lines, SavingEnd, PrintEnd};
 use crate::pending::PendingInlineSnapshot;
 use crate::record::line_text;
 use snap_content::{Error, OutOfMemory, Text};
-use snap_outside::{Store, StoreError};
+use snap_io::{Store, StoreError};
 use std::alloc::Global;
 
 impl PendingInlineSnapshot {

@@ -6,17 +6,17 @@ use Rattle.snap_print.specs.Blocks.{blocks_if}
 use Rattle.snap_select.specs.Put.{Objects}
 use Rattle.snap_select.specs.declared.replacement.Replacement.{Replacement}
 use Rattle.snap_select.specs.declared.selector.Selector.{Selector}
-use Rattle.snap_settings.specs.Replaced.{replacements_of, redaction_for, redacted_by}
-use Rattle.snap_settings.specs.Settings.{SettingsView, settings_of, redactions_in, sorted_where, PrintsAs}
-use Rattle.snap_settings.specs.declared.settings.Settings.{Settings}
-use Rattle.snap_settings.proofs.PlainRedactions.{plain_prints}
-use Rattle.snap_place.specs.Place.{PlaceView}
+use Rattle.snap_assert_settings.specs.Replaced.{replacements_of, redaction_for, redacted_by}
+use Rattle.snap_assert_settings.specs.Settings.{SettingsView, settings_of, redactions_in, sorted_where, PrintsAs}
+use Rattle.snap_assert_settings.specs.declared.settings.Settings.{Settings}
+use Rattle.snap_assert_settings.proofs.PlainRedactions.{plain_prints}
+use Rattle.snap_assert_place.specs.Place.{PlaceView}
 use Rattle.snap_assert.specs.Judging.{May}
 use Rattle.snap_assert.specs.Session.{empty_session}
 use Rattle.snap_assert.specs.Assertions.{Assertion, assertion_of, asked_in}
 use Rattle.snap_assert.specs.Outcomes.{IsAnswered, ErrorCause, left_by}
-use Rattle.snap_request.specs.declared.request.RequestError.{RequestError}
-use Rattle.snap_request.specs.declared.request.RequestError.TheVariants as request
+use Rattle.snap_run_requests.specs.declared.request.RequestError.{RequestError}
+use Rattle.snap_run_requests.specs.declared.request.RequestError.TheVariants as request
 use Rattle.snap_run.specs.Refused.{unread, unanswered}
 use Rattle.snap_run.specs.declared.document_error.DocumentError.TheVariants.{OutOfMemory}
 use Rattle.snap_assert.specs.declared.error.AssertError.{AssertError}

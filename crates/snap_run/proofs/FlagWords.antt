@@ -3,7 +3,7 @@ use Rattle.snap_run.proofs.Prelude.{◌≡◌, ◌&&◌, ◌||◌, not, ℕ, Boo
 use Rattle.std.proofs.Common.{cond}
 use Rattle.std.specs.Str.{bytes_eq}
 use Rattle.std.proofs.lemmas.Slice.Eq.{bytes_eq-Decides}
-use Rattle.snap_settings.specs.declared.config.Flags.{Flags}
+use Rattle.snap_assert_settings.specs.declared.config.Flags.{Flags}
 use Rattle.snap_run.specs.Answers.{is_force, is_force_pass, is_literal, with_flags, stands, are_flags, flags_told, flags_mean, no_flags}
 
 -- these flags and those that stand among the words

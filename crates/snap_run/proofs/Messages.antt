@@ -2,7 +2,7 @@
 use Rattle.snap_run.proofs.Prelude.{◌≡◌, inl, ◌≤◌, ℕ, List, [], ◌∷◌, ◌++◌, length, Option, Some, Result, Ok, Err, OnOk, OnErr, refl, sym, ◌∙◌, ap, subst, arith, encode_utf8_all, take_all, Counted, is_fault, Rose, HoldsFront, IsSteady, Status, message, IsSaid}
 use Rattle.snap_run.specs.Describe.{code_of, description}
 use Rattle.snap_run.specs.declared.status.Status.TheVariants as status
-use Rattle.snap_outside.specs.declared.outside.Fault.{Fault}
+use Rattle.snap_io.specs.declared.outside.Fault.{Fault}
 
 pub message_is : (end : Status) → 2 ≤ code_of end → message end ≡ encode_utf8_all (description end ++ 10 ∷ [])
 message_is status.AllPassed h = absurd (omega arith)

@@ -7,12 +7,12 @@ pub use Rattle.snap_assert.proofs.Keeping.{step_keeps, gone_after}
 pub use Rattle.snap_assert.specs.Kept.{KeptBy, IsOwn, FaultIsOwn, Keeps, IsKeptOrGone, is_written, may_change}
 pub use Rattle.snap_assert.specs.Steps.{asked_path, verdict_of, is_failure}
 pub use Rattle.snap_assert.specs.declared.outcome.Outcome.{Outcome}
-pub use Rattle.snap_outside.specs.Causes.{Rose, Counted, CountedIf, is_fault}
-pub use Rattle.snap_outside.specs.Files.{Files}
-pub use Rattle.snap_outside.specs.Streams.{HoldsFront}
-pub use Rattle.snap_request.specs.Cut.{documents}
-pub use Rattle.snap_request.specs.Requests.{RequestView, Spells, ReadsAs, Reads}
-pub use Rattle.snap_settings.specs.declared.config.Update.{Update}
+pub use Rattle.snap_io.specs.Causes.{Rose, Counted, CountedIf, is_fault}
+pub use Rattle.snap_io.specs.Files.{Files}
+pub use Rattle.snap_io.specs.Streams.{HoldsFront}
+pub use Rattle.snap_run_requests.specs.Cut.{documents}
+pub use Rattle.snap_run_requests.specs.Requests.{RequestView, Spells, ReadsAs, Reads}
+pub use Rattle.snap_assert_settings.specs.declared.config.Update.{Update}
 pub use Rattle.snap_run.specs.Answers.{RunWords, place_by, settings_by, printed_by, asked_by, assertion_by, line_text, line_of, words_mean, Answer, requests_of, step_of, files_after, some_fails, AreAllowed, lines_of, answer_fails}
 pub use Rattle.snap_run.specs.Arguments.{arguments_in, words_given, arguments_of}
 pub use Rattle.snap_run.specs.Program.{message, IsSaid, IsRunOf}

@@ -1,11 +1,11 @@
 -- What the program's run comes to.
 use Rattle.snap_run.proofs.Prelude.{◌≡◌, ◌≤◌, ◌+◌, ℕ, Bool, true, false, List, Option, None, Some, refl, sym, ap, ◌∙◌, subst, inl, inr, length, arith, Files, RunWords, words_mean, documents, words_of, Stopped, RunCause, Ended, RunsTo, RunsBy, RunsFrom, LengthCause, CountedIf, says_read_fault, says_write_fault, says_file_fault, AreSpelled, IsSteady, EndsWell, status_at, DocumentError, Runner, Status, AllPassed, SomeFailed, BadWords, BadRequest, ReadFault, OutOfMemory, InputTooLong}
-use Rattle.snap_stream.specs.Streams.{TakesExactly}
+use Rattle.snap_io_streams.specs.Streams.{TakesExactly}
 use Rattle.snap_run.specs.declared.document_error.DocumentError.TheVariants as error
 use Rattle.snap_run.specs.declared.status.Status.TheVariants.{FileIo, WriteFault}
 use Rattle.snap_run.proofs.Statuses.{before_all}
 use Rattle.snap_run.proofs.Completeness.{ends_well, not_rose}
-use Rattle.snap_stream.proofs.Pieces.{exactly_long}
+use Rattle.snap_io_streams.proofs.Pieces.{exactly_long}
 
 -- where the run stops before any document nothing is changed
 pub bad_words : (words : Option RunWords) (left : Option (List ℕ)) (f : Option Files) (w : Option (List ℕ)) → RunsFrom BadWords words left f f w w

@@ -1,6 +1,6 @@
 -- Statuses before any document is run, and runs in place.
 use Rattle.snap_run.proofs.Prelude.{◌≡◌, ◌||◌, ◌&&◌, ℕ, Bool, true, false, not, List, [], ◌∷◌, Option, None, Some, refl, ap, ◌∙◌, Files, Answer, RunWords, some_fails, verdict_of, is_failure, RunsBy, RunsFrom, Update, Status}
-use Rattle.snap_settings.specs.declared.config.Update.TheVariants.{InPlace}
+use Rattle.snap_assert_settings.specs.declared.config.Update.TheVariants.{InPlace}
 
 -- some bytes are those that are left, where these are told
 input_of : (left : Option (List ℕ)) → (input : List ℕ) × ((xs : List ℕ) → left ≡ Some xs → input ≡ xs)

@@ -5,20 +5,20 @@ use Rattle.std.specs.Str.{bytes_eq}
 use Rattle.std.specs.FinMap.{get}
 use Rattle.snap_content.specs.Spell.{spell_text}
 use Rattle.snap_content.specs.Tree.{Tree}
-use Rattle.snap_outside.specs.Files.{Files}
+use Rattle.snap_io.specs.Files.{Files}
 use Rattle.snap_print.specs.Blocks.{blocks_if}
-use Rattle.snap_settings.specs.Replaced.{redacted_by}
-use Rattle.snap_settings.specs.Settings.{SettingsView, new_settings, sorted_where}
-use Rattle.snap_place.specs.Place.{PlaceView}
+use Rattle.snap_assert_settings.specs.Replaced.{redacted_by}
+use Rattle.snap_assert_settings.specs.Settings.{SettingsView, new_settings, sorted_where}
+use Rattle.snap_assert_place.specs.Place.{PlaceView}
 use Rattle.snap_assert.specs.Judging.{May}
 use Rattle.snap_assert.specs.Session.{empty_session}
 use Rattle.snap_assert.specs.Steps.{Asked, asked_of, verdict_of, is_failure}
 use Rattle.snap_assert.specs.Assertions.{Assertion, assertion_of, assertion_step}
-use Rattle.snap_request.specs.Requests.{RequestView}
+use Rattle.snap_run_requests.specs.Requests.{RequestView}
 use Rattle.snap_run.specs.declared.usage.TheConstants.{USAGE, VERSION}
-use Rattle.snap_settings.specs.declared.config.Flags.{Flags}
-use Rattle.snap_settings.specs.declared.config.Update.{Update}
-use Rattle.snap_settings.specs.declared.config.Update.TheVariants.{InPlace, NewFile, NoUpdate}
+use Rattle.snap_assert_settings.specs.declared.config.Flags.{Flags}
+use Rattle.snap_assert_settings.specs.declared.config.Update.{Update}
+use Rattle.snap_assert_settings.specs.declared.config.Update.TheVariants.{InPlace, NewFile, NoUpdate}
 use Rattle.snap_assert.specs.declared.outcome.Verdict.{Verdict}
 use Rattle.snap_assert.specs.declared.outcome.Verdict.TheVariants.{Passed, Updated, Pending, Rejected}
 

@@ -1,7 +1,7 @@
 -- What the system sees of a run.
 use Rattle.std.specs.Prelude.{◌≡◌, ◌⊎◌, ℕ, List, [], ◌∷◌, ◌++◌, Option, None, Some, encode_utf8_all}
-use Rattle.snap_outside.specs.Files.{Files}
-use Rattle.snap_outside.specs.Streams.{HoldsFront}
+use Rattle.snap_io.specs.Files.{Files}
+use Rattle.snap_io.specs.Streams.{HoldsFront}
 use Rattle.snap_run.specs.Answers.{words_mean, text_asked}
 use Rattle.snap_run.specs.Describe.{code_of, description}
 use Rattle.snap_run.specs.Status.{WordsCause, IsTold, RunsFrom, IsSteady}

@@ -2,11 +2,11 @@
 use Rattle.std.specs.Prelude.{◌≡◌, ℕ, Bool, false, List, [], ◌∷◌, Option, None, Some}
 use Rattle.std.specs.FinMap.{get}
 use Rattle.std.specs.List.{All}
-use Rattle.snap_outside.specs.Files.{Files}
+use Rattle.snap_io.specs.Files.{Files}
 use Rattle.snap_run.specs.Answers.{RunWords, asked_by}
 use Rattle.snap_assert.specs.Kept.{IsKeptOrGone, is_written, may_change}
-use Rattle.snap_request.specs.Requests.{RequestView, ReadsAs}
-use Rattle.snap_settings.specs.declared.config.Update.{Update}
+use Rattle.snap_run_requests.specs.Requests.{RequestView, ReadsAs}
+use Rattle.snap_assert_settings.specs.declared.config.Update.{Update}
 
 -- the first of the documents are read as these requests, one for one
 abbrev pub AreRead : List (List ℕ) → List RequestView → Type 0

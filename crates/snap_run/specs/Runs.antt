@@ -1,8 +1,8 @@
 -- What a run over many documents leaves, and where it stops.
 use Rattle.std.specs.Prelude.{◌≡◌, ◌⊎◌, ℕ, ◌+◌, List, ◌∷◌, ◌++◌, [], Bool, true, false, length, Option, Some}
-use Rattle.snap_outside.specs.Files.{Files}
-use Rattle.snap_outside.specs.Streams.{HoldsFront}
-use Rattle.snap_request.specs.Requests.{RequestView, Spells, ReadsAs, Reads}
+use Rattle.snap_io.specs.Files.{Files}
+use Rattle.snap_io.specs.Streams.{HoldsFront}
+use Rattle.snap_run_requests.specs.Requests.{RequestView, Spells, ReadsAs, Reads}
 use Rattle.snap_run.specs.Refused.{status_at}
 use Rattle.snap_run.specs.Answers.{Answer, RunWords, asked_by, IsAllowed, step_of, line_of, requests_of, AreAllowed, files_after, lines_of, answer_fails}
 use Rattle.snap_assert.specs.Steps.{verdict_of}

@@ -1,12 +1,12 @@
 -- What a status says of a whole run.
 use Rattle.std.specs.Prelude.{◌≡◌, ◌⊎◌, ◌≤◌, ◌<◌, ◌-◌, ◌+◌, ◌∷◌, ◌++◌, ◌^◌, ℕ, Bool, true, false, List, [], length, Option, None, Some}
-use Rattle.snap_outside.specs.Files.{Files}
-use Rattle.snap_outside.specs.Streams.{HoldsFront}
-use Rattle.snap_request.specs.Cut.{documents}
-use Rattle.snap_request.specs.Requests.{RequestView, Spells}
+use Rattle.snap_io.specs.Files.{Files}
+use Rattle.snap_io.specs.Streams.{HoldsFront}
+use Rattle.snap_run_requests.specs.Cut.{documents}
+use Rattle.snap_run_requests.specs.Requests.{RequestView, Spells}
 use Rattle.snap_run.specs.Answers.{Answer, RunWords, words_mean, text_asked, some_fails}
 use Rattle.snap_run.specs.Runs.{Ran, Stopped}
-use Rattle.snap_stream.specs.Streams.{TakesAtMost, TakesExactly}
+use Rattle.snap_io_streams.specs.Streams.{TakesAtMost, TakesExactly}
 use Rattle.snap_run.specs.declared.status.Status.{Status}
 use Rattle.snap_run.specs.declared.status.Status.TheVariants.{AllPassed, SomeFailed, BadWords, BadRequest, Refused, FileIo, ReadFault, WriteFault, OutOfMemory, InputTooLong}
 

@@ -2,8 +2,8 @@
 use crate::status::Status;
 use snap_assert::error::AssertError;
 use snap_content::{OutOfMemory, Text};
-use snap_outside::Fault;
-use snap_request::request::RequestError;
+use snap_io::Fault;
+use snap_run_requests::request::RequestError;
 
 /// Why a document stops a run: its status, but for the document's number.
 #[derive(Debug, Drop)]

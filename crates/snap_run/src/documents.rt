@@ -1,8 +1,8 @@
 //! One document, and many in turn.
 ghost use Rattle.std.specs.Prelude.{◌≡◌, ◌<◌, ◌≤◌, ◌^◌, List, ℕ, IfOk, IfErr, length, true};
-ghost use Rattle.snap_outside.specs.Causes.{Counted};
-ghost use Rattle.snap_request.specs.Cut.{documents};
-ghost use Rattle.snap_place.specs.Place.{names_file, place_of};
+ghost use Rattle.snap_io.specs.Causes.{Counted};
+ghost use Rattle.snap_run_requests.specs.Cut.{documents};
+ghost use Rattle.snap_assert_place.specs.Place.{names_file, place_of};
 ghost use Rattle.snap_run.specs.Runner.{IsReady, words_of};
 ghost use Rattle.snap_run.specs.Answers.{line_text, place_at};
 ghost use Rattle.snap_run.specs.Status.{Ended, says_file_fault, says_write_fault};
@@ -14,14 +14,14 @@ use crate::status::Status;
 use snap_assert::engine::assert_content;
 use snap_assert::outcome::{Outcome, Verdict};
 use snap_assert::session::Session;
+use snap_assert_place::place::Place;
+use snap_assert_settings::settings::Settings;
 use snap_content::{OutOfMemory, Text};
 use snap_emit::push_spelled_text;
-use snap_outside::{Sink, Store};
-use snap_place::place::Place;
-use snap_request::cut::first_document_end;
-use snap_request::request::{Request, read_request};
-use snap_settings::settings::Settings;
-use snap_stream::streams::write_all;
+use snap_io::{Sink, Store};
+use snap_io_streams::streams::write_all;
+use snap_run_requests::cut::first_document_end;
+use snap_run_requests::request::{Request, read_request};
 use std::alloc::Global;
 
 /// The line that tells of an answer.

@@ -1,7 +1,7 @@
 //! Laws of a run, and worked examples.
 ghost use Rattle.std.specs.Prelude.{◌≡◌, ◌∷◌, ℕ, List, [], None, Some, false, true, codes, if◌then◌else◌};
 ghost use Rattle.snap_run.specs.Answers.{Answer, RunWords, are_flags, flags_mean, flags_told, some_fails, text_asked, words_mean};
-ghost use Rattle.snap_settings.specs.declared.config.Update.TheVariants.{InPlace};
+ghost use Rattle.snap_assert_settings.specs.declared.config.Update.TheVariants.{InPlace};
 
 /// Where the mode writes in place no answer fails, so a run does not end with failures.
 pub const fn nothing_fails_in_place()

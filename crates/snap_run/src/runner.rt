@@ -1,8 +1,8 @@
 //! What the documents of a run share.
 ghost use Rattle.std.specs.Prelude.{◌≡◌, IfOk};
 
+use snap_assert_settings::config::{Config, Flags, Update};
 use snap_content::{OutOfMemory, Text};
-use snap_settings::config::{Config, Flags, Update};
 use std::alloc::Global;
 
 /// The workspace and the mode of a run.

@@ -1,11 +1,11 @@
 //! All that the program does.
 ghost use Rattle.std.specs.Prelude.{◌≡◌, ◌≤◌, ◌+◌, List, ℕ, None, Some, MatchOption, length, false};
-ghost use Rattle.snap_outside.specs.Causes.{CountedIf};
-ghost use Rattle.snap_request.specs.Cut.{documents};
+ghost use Rattle.snap_io.specs.Causes.{CountedIf};
+ghost use Rattle.snap_run_requests.specs.Cut.{documents};
 ghost use Rattle.snap_run.specs.Answers.{RunWords, words_mean, text_asked};
 ghost use Rattle.snap_run.specs.RunKept.{KeptByRun};
 ghost use Rattle.snap_run.specs.Status.{RunCause, WordsCause, IsTold, RunsFrom, LengthCause, says_read_fault, says_write_fault, says_file_fault, AreSpelled, IsSteady, EndsWell};
-ghost use Rattle.snap_stream.specs.Streams.{TakesAtMost, input_limit};
+ghost use Rattle.snap_io_streams.specs.Streams.{TakesAtMost, input_limit};
 
 use crate::documents::run_documents;
 use crate::runner::Runner;
@@ -14,8 +14,8 @@ use crate::usage::{tell, text_in};
 use crate::words::said_in;
 use snap_assert::session::Session;
 use snap_content::Text;
-use snap_outside::{Sink, Source, Store};
-use snap_stream::streams::{ReadError, read_all};
+use snap_io::{Sink, Source, Store};
+use snap_io_streams::streams::{ReadError, read_all};
 use std::alloc::Global;
 
 /// What `run` does with words that ask for no text.

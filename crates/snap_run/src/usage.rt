@@ -1,14 +1,14 @@
 //! What the program says of itself.
 ghost use Rattle.std.specs.Prelude.{◌≡◌, ◌++◌, List, ℕ, None, Some, MatchOption};
-ghost use Rattle.snap_outside.specs.Causes.{CountedIf};
+ghost use Rattle.snap_io.specs.Causes.{CountedIf};
 ghost use Rattle.snap_run.specs.Answers.{text_asked};
 ghost use Rattle.snap_run.specs.Status.{IsTold, says_write_fault};
 
 use crate::status::Status;
 use snap_content::Text;
 use snap_content::characters::is_same;
-use snap_outside::Sink;
-use snap_stream::streams::write_all;
+use snap_io::Sink;
+use snap_io_streams::streams::write_all;
 
 /// The answer to `--version`.
 pub const VERSION: &str = "snap 0.1.0\n";

@@ -2,9 +2,9 @@
 ghost use Rattle.std.specs.Prelude.{◌≡◌, None, Some, MatchOption};
 ghost use Rattle.snap_run.specs.Answers.{mode_of, with_flag, flags_mean, words_mean, words_at};
 
+use snap_assert_settings::config::{Flags, Update};
 use snap_content::Text;
 use snap_content::characters::is_same;
-use snap_settings::config::{Flags, Update};
 
 /// What the words of a run say.
 #[derive(Clone, Copy, Debug)]

@@ -1,6 +1,6 @@
 -- What begins at a place begins with its sign.
 use Rattle.snap_scan.proofs.Prelude.{◌≡◌, ◌≢◌, ℕ, Bool, true, false, refl, subst, sym, slice_index, if◌then◌else◌, ◌==◌, ◌&&◌, ◌∙◌, arith, eqb-true, Place, explains, is_document_start, is_document_end, ScanInfo, TokenKind, Begins, is_alone, is_value, kind_of, kind_of_sign, both_second, eqb-false}
-use Rattle.snap_token.specs.declared.info.ScanInfo.TheVariants as i
+use Rattle.snap_scan_tokens.specs.declared.info.ScanInfo.TheVariants as i
 use Rattle.snap_scan.specs.declared.kind.TokenKind.TheVariants as k
 
 pick : (b : Bool) (x y : TokenKind) (c : ℕ) → (b ≡ true → Begins x c) → (b ≡ false → Begins y c) → Begins (if b then x else y) c

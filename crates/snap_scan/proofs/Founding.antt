@@ -1,9 +1,9 @@
 -- Why a fetch refuses, and what one fetch as a whole keeps.
 use Rattle.snap_scan.proofs.Prelude.{◌≡◌, ◌≢◌, ◌≤◌, ◌+◌, ◌∷◌, [], ℕ, Bool, true, false, List, Option, Some, None, length, slice_index, subst, ap, arith, refl, ◌∙◌, ◌&&◌, if◌then◌else◌, All, codes, nat_lt, nat_le, not, ◌||◌, list_any, ltb-false, All-nil, All-head, All-tail, Mark, Place, skipped, forced, mark_of, Plain, plain_from, Quoted, single_from, double_from, needed, is_among, explains, IsExplained, TScalarStyle, ScanInfo, ScanError, Syntax, OutOfMemory, TokenKind, SimpleKey, is_required, is_overdue, any_overdue, is_past, fresh, Begins, kind_of, State, at, in_flow, start_state, stale, is_key_owed, to_next, Outcome, done, refused, Leaves, Names, MayFail, closed, stream_started, plain_read, quoted_read, block_read, Block, block_from, innermost, value_behind, kind_step, at_token, token_step, step, Holds, IsFounded, IsShown, IsNoStart, IsNoEnd, IsPossible, IsSound, IsSoundFrom, untouched, open_still, over, block_signs, both_second, both_first, cond_both}
-use Rattle.snap_token.specs.declared.token.TokenType.TheVariants as t
-use Rattle.snap_token.specs.declared.token.TEncoding.TheVariants.{Utf8}
-use Rattle.snap_token.specs.declared.token.TScalarStyle.TheVariants as style
-use Rattle.snap_token.specs.declared.info.ScanInfo.TheVariants as i
+use Rattle.snap_scan_tokens.specs.declared.token.TokenType.TheVariants as t
+use Rattle.snap_scan_tokens.specs.declared.token.TEncoding.TheVariants.{Utf8}
+use Rattle.snap_scan_tokens.specs.declared.token.TScalarStyle.TheVariants as style
+use Rattle.snap_scan_tokens.specs.declared.info.ScanInfo.TheVariants as i
 use Rattle.snap_scan.specs.declared.kind.TokenKind.TheVariants as k
 use Rattle.snap_scan.proofs.Beginnings.{kind-begins}
 use Rattle.snap_scan.proofs.Growing.{unrefused}

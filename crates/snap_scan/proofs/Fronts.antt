@@ -2,9 +2,9 @@
 use Rattle.snap_scan.proofs.Prelude.{◌≡◌, ℕ, suc, ◌+◌, ◌-◌, ◌≤◌, List, [], ◌∷◌, ◌++◌, Bool, true, false, refl, ap, ◌∙◌, arith, Some, None, Option, map, nat_lt, length, min, get_or, map-append, length-map, take-map, list_any, ◌&&◌, ◌==◌, not, if◌then◌else◌, Mark, Place, mark_of, skipped, skip_from, forced, Plain, plain_from, Quoted, single_from, double_from, is_break, ScanInfo, Token, TokenType, TScalarStyle, Outcome, done, refused, kind_step, token_step, document, sign, flow_start, flow_end, value_behind, read_key, plain_read, quoted_read, block_read, Block, block_from, innermost, Keys, fresh, is_past, is_required, is_overdue, any_overdue, has_levels, deeper, shallower, kind_of, left_by, fetched, State, in_flow, to_next, past_comment, is_space, line_ended, advanced, allowing, unrolled, ends, kept, at, saved, is_innermost, inserted, put, rolled, is_deeper, pushed, keyless, is_key_owed, stale, SimpleKey, TokenKind}
 use Rattle.std.proofs.Math.ListN.{get_or-map}
 use Rattle.snap_scan.proofs.Soundness.{either, to_next-keeps}
-use Rattle.snap_token.specs.declared.info.ScanInfo.TheVariants as i
-use Rattle.snap_token.specs.declared.token.TokenType.TheVariants as t
-use Rattle.snap_token.specs.declared.token.TScalarStyle.TheVariants as style
+use Rattle.snap_scan_tokens.specs.declared.info.ScanInfo.TheVariants as i
+use Rattle.snap_scan_tokens.specs.declared.token.TokenType.TheVariants as t
+use Rattle.snap_scan_tokens.specs.declared.token.TScalarStyle.TheVariants as style
 use Rattle.snap_scan.specs.declared.kind.TokenKind.TheVariants as k
 
 -- other tokens and keys, in the same flow levels

@@ -1,9 +1,9 @@
 -- What the reading of a token makes of a state.
 use Rattle.snap_scan.proofs.Prelude.{◌≡◌, ◌≤◌, ◌+◌, ℕ, Bool, true, false, List, [], ◌∷◌, Option, Some, None, Result, Ok, Err, length, sym, ap, arith, refl, ◌∙◌, if◌then◌else◌, MatchOption, Place, Later, here, next, skip_from, mark_of, Mark, Plain, plain_from, ReadsPlain, Quoted, ReadsQuoted, TokenType, TScalarStyle, ScanError, Syntax, OutOfMemory, S2, TokenKind, is_required, State, Gives, at, pushed, allowing, keyless, saved, unrolled, is_key_owed, in_flow, refused, read, IsTokenOf, Does, closed, directive, read_key, plain, plain_read, quoted_read, block_read, Block, block_from, ReadsBlock, BlockScalar, innermost}
 use Rattle.snap_scan.proofs.Soundness.{either}
-use Rattle.snap_token.specs.declared.plain.PlainScalar.{PlainScalar}
-use Rattle.snap_token.specs.declared.token.TokenType.TheVariants as k
-use Rattle.snap_token.specs.declared.token.TScalarStyle.TheVariants as style
+use Rattle.snap_scan_tokens.specs.declared.plain.PlainScalar.{PlainScalar}
+use Rattle.snap_scan_tokens.specs.declared.token.TokenType.TheVariants as k
+use Rattle.snap_scan_tokens.specs.declared.token.TScalarStyle.TheVariants as style
 use Rattle.snap_scan.specs.declared.kind.TokenKind.TheVariants.{Directive}
 
 skip-index : (cs : List ℕ) (p : Place) → p.index ≤ (skip_from cs p).index

@@ -1,7 +1,7 @@
 -- Each fetch keeps a scanner sound.
 use Rattle.snap_scan.proofs.Prelude.{◌≡◌, ◌≢◌, ◌≤◌, ◌+◌, ◌-◌, ◌++◌, ◌∷◌, [], ℕ, Bool, true, false, List, Option, Some, None, length, slice_index, slice_index_or, length-append, subst, sym, ap, arith, refl, ◌∙◌, ◌&&◌, inl, inr, if◌then◌else◌, All, count_by, codes, nat_lt, not, ltb-false, length-take, All-push, All-head, All-tail, All-take, All-get_or, Mark, Place, Later, skipped, forced, mark_of, Plain, Quoted, single_from, double_from, is_among, Token, TokenType, TScalarStyle, TokenKind, SimpleKey, is_required, is_past, has_levels, deeper, shallower, Begins, State, at, in_flow, pushed, inserted, put, advanced, allowing, unrolled, rolled, is_deeper, keyless, saved, is_key_owed, done, IsTokenOf, IsRead, Leaves, closed, sign, document, plain_read, quoted_read, block_read, Block, block_from, innermost, read_key, value_behind, kind_step, Holds, shown, IsShown, IsIn, IsKeyBehind, HasQuestion, HasColon, KindStands, IsPossible, IsSound, IsSoundFrom, open_still, over, IsNoStart, IsNoEnd, EndsStream, is_start, is_end, block_signs, or_left, or_right}
-use Rattle.snap_token.specs.declared.token.TokenType.TheVariants as t
-use Rattle.snap_token.specs.declared.token.TScalarStyle.TheVariants as style
+use Rattle.snap_scan_tokens.specs.declared.token.TokenType.TheVariants as t
+use Rattle.snap_scan_tokens.specs.declared.token.TScalarStyle.TheVariants as style
 use Rattle.snap_scan.specs.declared.kind.TokenKind.TheVariants as k
 use Rattle.snap_scan.proofs.Growing.{unrefused, unrefused-else}
 use Rattle.snap_scan.proofs.Possible.{in-source, in-later, in-bracket, in-fewer, stands}

@@ -1,6 +1,6 @@
 -- What the parts of a fetch keep.
 use Rattle.snap_scan.proofs.Prelude.{◌≡◌, ◌≢◌, ◌≤◌, ◌<◌, ◌+◌, ◌++◌, ◌∷◌, [], ℕ, zero, suc, Bool, true, false, List, Option, Some, None, length, take, drop, slice_index, min, sym, ap, arith, refl, ◌∙◌, ◌==◌, ◌&&◌, if◌then◌else◌, All, insert, length-map, append-nil, All-append, All-cons, All-nil, All-head, All-take, All-drop, All-map, All-weaker, Mark, Place, Later, here, next, skipped, skip_from, forced, mark_of, is_break, Token, is_past, fresh, lowered, State, at, in_flow, pushed, inserted, put, advanced, line_ended, is_space, to_next, past_comment, ends, kept, is_right_of, unrolled, rolled, is_deeper, keyless, saved, is_innermost, stale, given, Holds, IsShown, IsKeySound, IsPossible, IsSoundFrom, IsNoStart, IsNoEnd, IsEndLast, begins_stream, is_start, block_signs, SimpleKey, both_second, cond_both, IsSoundAt, ArePossible, Keys, IsIn}
-use Rattle.snap_token.specs.declared.token.TokenType.TheVariants as t
+use Rattle.snap_scan_tokens.specs.declared.token.TokenType.TheVariants as t
 use Rattle.snap_scan.proofs.Possible.{in-source, in-later, in-fewer, in-forced, keys-later, keys-further, keys-nearer, keys-forced}
 
 pub either : {A : Type 0} (P : A → Type 0) (b : Bool) (x y : A) → P x → P y → P (if b then x else y)

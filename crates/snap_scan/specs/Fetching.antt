@@ -1,20 +1,20 @@
 -- One fetch: the token that stands next is put into the queue.
 use Rattle.std.specs.Prelude.{ℕ, ◌+◌, ◌≡◌, ◌≤◌, ◌&&◌, nat_lt, Some, Result, Ok, Err, List, [], ◌∷◌, length, Bool, true, false, not, Option, None, if◌then◌else◌}
-use Rattle.snap_token.specs.Place.{Place, Later, mark_of, forced}
-use Rattle.snap_token.specs.Causes.{IsExplained}
-use Rattle.snap_token.specs.Plain.{Plain, plain_from}
-use Rattle.snap_token.specs.Quoted.{Quoted, single_from, double_from}
-use Rattle.snap_block.specs.Block.{Block, block_from}
-use Rattle.snap_token.specs.Mark.{Mark}
-use Rattle.snap_token.specs.declared.token.TokenType.{TokenType}
-use Rattle.snap_token.specs.declared.token.TokenType.TheVariants as t
-use Rattle.snap_token.specs.declared.token.TEncoding.TheVariants.{Utf8}
-use Rattle.snap_token.specs.declared.token.TScalarStyle.{TScalarStyle}
-use Rattle.snap_token.specs.declared.token.TScalarStyle.TheVariants as style
-use Rattle.snap_token.specs.declared.info.ScanInfo.{ScanInfo}
-use Rattle.snap_token.specs.declared.info.ScanInfo.TheVariants as i
-use Rattle.snap_token.specs.declared.info.ScanError.{ScanError}
-use Rattle.snap_token.specs.declared.info.ScanError.TheVariants.{Syntax, OutOfMemory}
+use Rattle.snap_scan_tokens.specs.Place.{Place, Later, mark_of, forced}
+use Rattle.snap_scan_tokens.specs.Causes.{IsExplained}
+use Rattle.snap_scan_tokens.specs.Plain.{Plain, plain_from}
+use Rattle.snap_scan_tokens.specs.Quoted.{Quoted, single_from, double_from}
+use Rattle.snap_scan_blocks.specs.Block.{Block, block_from}
+use Rattle.snap_scan_tokens.specs.Mark.{Mark}
+use Rattle.snap_scan_tokens.specs.declared.token.TokenType.{TokenType}
+use Rattle.snap_scan_tokens.specs.declared.token.TokenType.TheVariants as t
+use Rattle.snap_scan_tokens.specs.declared.token.TEncoding.TheVariants.{Utf8}
+use Rattle.snap_scan_tokens.specs.declared.token.TScalarStyle.{TScalarStyle}
+use Rattle.snap_scan_tokens.specs.declared.token.TScalarStyle.TheVariants as style
+use Rattle.snap_scan_tokens.specs.declared.info.ScanInfo.{ScanInfo}
+use Rattle.snap_scan_tokens.specs.declared.info.ScanInfo.TheVariants as i
+use Rattle.snap_scan_tokens.specs.declared.info.ScanError.{ScanError}
+use Rattle.snap_scan_tokens.specs.declared.info.ScanError.TheVariants.{Syntax, OutOfMemory}
 use Rattle.snap_scan.specs.Keys.{deeper, shallower, is_required, any_overdue}
 use Rattle.snap_scan.specs.Kinds.{kind_of}
 use Rattle.snap_scan.specs.declared.kind.TokenKind.{TokenKind}

@@ -1,7 +1,7 @@
 -- Simple keys: held tokens that a `:` may still make a key.
 use Rattle.std.specs.Prelude.{◌-◌, ◌==◌, ◌||◌, ◌&&◌, nat_lt, List, [], ◌∷◌, ◌++◌, length, take, map, slice_index_or, Bool, true, false, Option, None, Some, if◌then◌else◌}
 use Rattle.std.specs.List.{list_any}
-use Rattle.snap_token.specs.Mark.{Mark}
+use Rattle.snap_scan_tokens.specs.Mark.{Mark}
 use Rattle.snap_scan.specs.declared.keys.SimpleKey.{SimpleKey}
 
 -- the possible key of the innermost flow level, and those of the levels outside, the outermost first

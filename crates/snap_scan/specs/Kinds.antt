@@ -1,9 +1,9 @@
 -- What begins at a place.
 use Rattle.std.specs.Prelude.{ℕ, ◌≡◌, ◌≢◌, List, Bool, true, ◌==◌, ◌||◌, ◌&&◌, if◌then◌else◌, slice_index}
-use Rattle.snap_token.specs.Place.{Place}
-use Rattle.snap_token.specs.Causes.{explains}
-use Rattle.snap_token.specs.Characters.{is_blank_or_end, is_flow_sign, is_document_start, is_document_end}
-use Rattle.snap_token.specs.declared.info.ScanInfo.TheVariants as i
+use Rattle.snap_scan_tokens.specs.Place.{Place}
+use Rattle.snap_scan_tokens.specs.Causes.{explains}
+use Rattle.snap_scan_tokens.specs.Characters.{is_blank_or_end, is_flow_sign, is_document_start, is_document_end}
+use Rattle.snap_scan_tokens.specs.declared.info.ScanInfo.TheVariants as i
 use Rattle.snap_scan.specs.declared.kind.TokenKind.{TokenKind}
 use Rattle.snap_scan.specs.declared.kind.TokenKind.TheVariants as k
 

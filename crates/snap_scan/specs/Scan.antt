@@ -1,7 +1,7 @@
 -- What a scanner is seen as.
 use Rattle.std.specs.Prelude.{OnOk, ℕ, ◌≡◌, ◌<◌, ◌≤◌, ◌⊎◌, List, true, false, Option, Some, None, Result, Ok, Err, is_some}
-use Rattle.snap_token.specs.declared.token.Token.{Token}
-use Rattle.snap_token.specs.declared.info.ScanError.{ScanError}
+use Rattle.snap_scan_tokens.specs.declared.token.Token.{Token}
+use Rattle.snap_scan_tokens.specs.declared.info.ScanError.{ScanError}
 use Rattle.snap_scan.specs.State.{State, start_state, left_of, has_ended}
 use Rattle.snap_scan.specs.Sound.{IsShown, IsFounded, IsSound, is_start, is_end, is_start_ahead}
 

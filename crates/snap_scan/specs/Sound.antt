@@ -1,13 +1,13 @@
 -- What holds of a scanner at any time, of the tokens that it gives, and of its errors.
 use Rattle.std.specs.Prelude.{ℕ, ◌+◌, ◌≡◌, ◌<◌, ◌≤◌, ◌⊎◌, ◌==◌, All, List, [], ◌∷◌, ◌++◌, drop, length, count_by, codes, Bool, true, false, not, ◌||◌, Option, Some, None, Result, Ok, Err}
-use Rattle.snap_token.specs.Mark.{Mark}
-use Rattle.snap_token.specs.Place.{Place}
-use Rattle.snap_token.specs.Causes.{Need, one_of, nothing, is_among, HasCause}
-use Rattle.snap_token.specs.declared.token.Token.{Token}
-use Rattle.snap_token.specs.declared.token.TokenType.{TokenType}
-use Rattle.snap_token.specs.declared.token.TokenType.TheVariants as t
-use Rattle.snap_token.specs.declared.info.ScanError.{ScanError}
-use Rattle.snap_token.specs.declared.info.ScanError.TheVariants.{Syntax, OutOfMemory}
+use Rattle.snap_scan_tokens.specs.Mark.{Mark}
+use Rattle.snap_scan_tokens.specs.Place.{Place}
+use Rattle.snap_scan_tokens.specs.Causes.{Need, one_of, nothing, is_among, HasCause}
+use Rattle.snap_scan_tokens.specs.declared.token.Token.{Token}
+use Rattle.snap_scan_tokens.specs.declared.token.TokenType.{TokenType}
+use Rattle.snap_scan_tokens.specs.declared.token.TokenType.TheVariants as t
+use Rattle.snap_scan_tokens.specs.declared.info.ScanError.{ScanError}
+use Rattle.snap_scan_tokens.specs.declared.info.ScanError.TheVariants.{Syntax, OutOfMemory}
 use Rattle.snap_scan.specs.Keys.{Keys}
 use Rattle.snap_scan.specs.State.{State, start_state, has_ended}
 use Rattle.snap_scan.specs.declared.keys.SimpleKey.{SimpleKey}

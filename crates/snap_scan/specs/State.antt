@@ -1,14 +1,14 @@
 -- What the fetching of tokens works on, and what its parts make of it.
 use Rattle.std.specs.Prelude.{ℕ, ◌+◌, ◌*◌, ◌==◌, ◌&&◌, ◌||◌, ◌≡◌, nat_lt, min, Some, Result, Ok, Err, List, [], ◌∷◌, ◌++◌, drop, length, Bool, true, false, not, Option, None, if◌then◌else◌}
 use Rattle.std.specs.List.{insert}
-use Rattle.snap_token.specs.Characters.{is_break}
-use Rattle.snap_token.specs.Place.{Place, start_of, mark_of, skipped}
-use Rattle.snap_token.specs.Mark.{Mark}
-use Rattle.snap_token.specs.declared.token.Token.{Token}
-use Rattle.snap_token.specs.declared.token.TokenType.{TokenType}
-use Rattle.snap_token.specs.declared.token.TokenType.TheVariants as k
-use Rattle.snap_token.specs.declared.info.ScanError.{ScanError}
-use Rattle.snap_token.specs.declared.info.ScanError.TheVariants.{OutOfMemory}
+use Rattle.snap_scan_tokens.specs.Characters.{is_break}
+use Rattle.snap_scan_tokens.specs.Place.{Place, start_of, mark_of, skipped}
+use Rattle.snap_scan_tokens.specs.Mark.{Mark}
+use Rattle.snap_scan_tokens.specs.declared.token.Token.{Token}
+use Rattle.snap_scan_tokens.specs.declared.token.TokenType.{TokenType}
+use Rattle.snap_scan_tokens.specs.declared.token.TokenType.TheVariants as k
+use Rattle.snap_scan_tokens.specs.declared.info.ScanError.{ScanError}
+use Rattle.snap_scan_tokens.specs.declared.info.ScanError.TheVariants.{OutOfMemory}
 use Rattle.snap_scan.specs.Keys.{Keys, no_keys, has_levels, is_required, still_fresh, all_lowered}
 use Rattle.snap_scan.specs.declared.keys.SimpleKey.{SimpleKey}
 use Rattle.snap_scan.specs.declared.fetcher.Fetcher.{Fetcher}

@@ -6,7 +6,7 @@ ghost use Rattle.snap_scan.specs.Owed.{IsFirstSure, KeepsOwed, GivesOfOwed};
 ghost use Rattle.snap_scan.specs.Scan.{Pays, IsNoneAtEnd};
 
 use crate::fetcher::{Fetcher, ScanResult};
-use snap_token::{ScanError, Token};
+use snap_scan_tokens::{ScanError, Token};
 
 impl<'a> Fetcher<'a> {
     /// Whether StreamEnd was made, and is held no longer.

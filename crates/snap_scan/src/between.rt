@@ -1,10 +1,10 @@
 //! What lies between tokens: blanks, breaks and comments.
 ghost use Rattle.std.specs.Prelude.{◌≡◌, ◌≤◌, true, slice_index};
-ghost use Rattle.snap_token.specs.Characters.{is_break_or_end};
+ghost use Rattle.snap_scan_tokens.specs.Characters.{is_break_or_end};
 ghost use Rattle.snap_scan.specs.State.{state_of, spent, work, to_next, past_comment};
 
 use crate::fetcher::Fetcher;
-use snap_token::characters::{is_break, is_break_or_end};
+use snap_scan_tokens::characters::{is_break, is_break_or_end};
 
 impl<'a> Fetcher<'a> {
     /// Goes to the next character that begins a token, or to the end.

@@ -5,7 +5,7 @@ ghost use Rattle.snap_scan.specs.Fetching.{Does, block_entry, block_key, value_o
 
 use crate::fetcher::{Fetcher, ScanResult};
 use crate::keys::SimpleKey;
-use snap_token::{ScanError, ScanInfo, TokenType};
+use snap_scan_tokens::{ScanError, ScanInfo, TokenType};
 
 impl<'a> Fetcher<'a> {
     /// `-`.

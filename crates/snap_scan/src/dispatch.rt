@@ -1,8 +1,8 @@
 //! One fetch: what stands next is put into the queue.
 ghost use Rattle.std.specs.Prelude.{◌≡◌, ◌<◌, ◌≤◌, OnOk, MatchResult, true, false, length, slice_index};
-ghost use Rattle.snap_token.specs.declared.info.ScanError.TheVariants.{Syntax};
-ghost use Rattle.snap_token.specs.declared.info.ScanInfo.TheVariants.{S1};
-ghost use Rattle.snap_token.specs.Place.{mark_of};
+ghost use Rattle.snap_scan_tokens.specs.declared.info.ScanError.TheVariants.{Syntax};
+ghost use Rattle.snap_scan_tokens.specs.declared.info.ScanInfo.TheVariants.{S1};
+ghost use Rattle.snap_scan_tokens.specs.Place.{mark_of};
 ghost use Rattle.snap_scan.specs.Keys.{any_overdue};
 ghost use Rattle.snap_scan.specs.Kinds.{Begins};
 ghost use Rattle.snap_scan.specs.State.{state_of, spent, left_of, work, stale};
@@ -10,7 +10,7 @@ ghost use Rattle.snap_scan.specs.Fetching.{Does, token_step, kind_step, step};
 
 use crate::fetcher::{Fetcher, ScanResult};
 use crate::kind::{TokenKind, kind_here};
-use snap_token::{ScanError, ScanInfo, TokenType};
+use snap_scan_tokens::{ScanError, ScanInfo, TokenType};
 
 impl<'a> Fetcher<'a> {
     /// Gives up the keys that can be none here; one that must become a key is a fault.

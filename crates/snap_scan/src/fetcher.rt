@@ -1,15 +1,15 @@
 //! The queue of held tokens, and what all fetches work with.
 ghost use Rattle.std.specs.Prelude.{◌≡◌, ◌≢◌, ◌+◌, ◌≤◌, OnOk, MatchResult, true, false, slice_index};
 ghost use Rattle.std.specs.Str.{chars};
-ghost use Rattle.snap_token.specs.declared.info.ScanError.TheVariants.{Syntax};
-ghost use Rattle.snap_token.specs.declared.info.ScanInfo.TheVariants.{S2};
-ghost use Rattle.snap_token.specs.Place.{before_nul, mark_of};
+ghost use Rattle.snap_scan_tokens.specs.declared.info.ScanError.TheVariants.{Syntax};
+ghost use Rattle.snap_scan_tokens.specs.declared.info.ScanInfo.TheVariants.{S2};
+ghost use Rattle.snap_scan_tokens.specs.Place.{before_nul, mark_of};
 ghost use Rattle.snap_scan.specs.State.{state_of, start_state, spent, work, Gives, at, in_flow, pushed, inserted, advanced, allowing, unrolled, rolled, keyless, saved, is_key_owed, is_innermost, is_right_of};
 ghost use Rattle.snap_scan.specs.Keys.{is_required};
 
 use crate::columns::Columns;
 use crate::keys::{Keys, SimpleKey};
-use snap_token::{Cursor, Marker, ScanError, ScanInfo, Token, TokenType};
+use snap_scan_tokens::{Cursor, Marker, ScanError, ScanInfo, Token, TokenType};
 use std::alloc::Global;
 use std::collections::VecDeque;
 

@@ -4,7 +4,7 @@ ghost use Rattle.snap_scan.specs.State.{state_of, spent, work};
 ghost use Rattle.snap_scan.specs.Fetching.{Does, flow_start, flow_end, flow_entry};
 
 use crate::fetcher::{Fetcher, ScanResult};
-use snap_token::{ScanError, ScanInfo, TokenType};
+use snap_scan_tokens::{ScanError, ScanInfo, TokenType};
 
 /// How many flow collections may be open at once.
 const MOST_LEVELS: usize = 1023;

@@ -1,10 +1,10 @@
 //! Simple keys: held tokens that a `:` may still make a key, at most one for each flow level.
 ghost use Rattle.std.specs.Prelude.{◌≡◌, if◌then◌else◌, IfErr, OnOk, None, Some, length, map};
 ghost use Rattle.std.specs.List.{list_any};
-ghost use Rattle.snap_token.specs.declared.info.ScanError.TheVariants.{OutOfMemory as WantOfMemory};
+ghost use Rattle.snap_scan_tokens.specs.declared.info.ScanError.TheVariants.{OutOfMemory as WantOfMemory};
 ghost use Rattle.snap_scan.specs.Keys.{is_past, fresh, is_overdue, is_required, names_first, lowered, no_keys, has_levels, any_overdue, still_fresh, any_names_first, all_lowered, deeper, shallower};
 
-use snap_token::{Marker, ScanError};
+use snap_scan_tokens::{Marker, ScanError};
 use std::alloc::Global;
 use std::marker::Model;
 

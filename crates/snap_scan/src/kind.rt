@@ -1,10 +1,10 @@
 //! What begins at a place.
 ghost use Rattle.std.specs.Prelude.{◌≡◌, slice_index, if◌then◌else◌};
-ghost use Rattle.snap_token.specs.Characters.{is_blank_or_end, is_flow_sign};
+ghost use Rattle.snap_scan_tokens.specs.Characters.{is_blank_or_end, is_flow_sign};
 ghost use Rattle.snap_scan.specs.Kinds.{is_alone, is_value, kind_of_sign, kind_of, Begins};
 
-use snap_token::characters::{is_blank_or_end, is_flow_sign};
-use snap_token::{Cursor, ScanInfo};
+use snap_scan_tokens::characters::{is_blank_or_end, is_flow_sign};
+use snap_scan_tokens::{Cursor, ScanInfo};
 
 /// What begins at a token's place.
 #[derive(Clone, Copy, Debug, PartialEq, Eq)]

@@ -20,4 +20,6 @@ mod stream;
 
 pub use fetcher::ScanResult;
 pub use scanner::Scanner;
-pub use snap_token::{Marker, ScanError, ScanInfo, TEncoding, TScalarStyle, Token, TokenType};
+pub use snap_scan_tokens::{
+    Marker, ScanError, ScanInfo, TEncoding, TScalarStyle, Token, TokenType,
+};

@@ -1,15 +1,15 @@
 //! The public calls.
 ghost use Rattle.std.specs.Prelude.{◌≡◌, ◌+◌, ◌*◌, ◌≤◌, OnOk, IfErr, MatchOption, ⊤, Some, None, true, false, length};
 ghost use Rattle.std.specs.Str.{chars};
-ghost use Rattle.snap_token.specs.Place.{before_nul, mark_of};
-ghost use Rattle.snap_token.specs.declared.info.ScanError.{ScanError};
+ghost use Rattle.snap_scan_tokens.specs.Place.{before_nul, mark_of};
+ghost use Rattle.snap_scan_tokens.specs.declared.info.ScanError.{ScanError};
 ghost use Rattle.snap_scan.specs.Sound.{IsShown, IsFounded};
 ghost use Rattle.snap_scan.specs.Scan.{start_scan, left, Fails, Keeps, Pays, IsNoneAtEnd, HasStopped, IsGiven, IsNext, GivesNext, KeepsOrder};
 ghost use Rattle.snap_scan.specs.Owed.{GivesOwed, NextOwed};
 ghost use Rattle.snap_scan.specs.State.{has_ended};
 
 use crate::fetcher::{Fetcher, ScanResult};
-use snap_token::{Marker, ScanError, Token};
+use snap_scan_tokens::{Marker, ScanError, Token};
 use std::alloc::Global;
 use std::marker::Model;
 
@@ -24,7 +24,7 @@ pub struct Scanner<'a> {
 
 impl<'a> Model for Scanner<'a> {
     ghost use Rattle.std.specs.Str.{chars};
-    ghost use Rattle.snap_token.specs.Place.{before_nul};
+    ghost use Rattle.snap_scan_tokens.specs.Place.{before_nul};
     ghost use Rattle.snap_scan.specs.Scan.{Scan};
 
     ghost Value = { Scan };

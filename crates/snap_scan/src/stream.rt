@@ -4,8 +4,8 @@ ghost use Rattle.snap_scan.specs.State.{state_of, spent, work, Gives};
 ghost use Rattle.snap_scan.specs.Fetching.{Does, stream_started, stream_end, document, directive};
 
 use crate::fetcher::{Fetcher, ScanResult};
-use snap_property::directive::{Directive, scan_directive};
-use snap_token::{TEncoding, TokenType};
+use snap_scan_properties::directive::{Directive, scan_directive};
+use snap_scan_tokens::{TEncoding, TokenType};
 
 impl<'a> Fetcher<'a> {
     pub(crate) fn fetch_stream_start(&mut self) -> ScanResult

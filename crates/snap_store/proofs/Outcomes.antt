@@ -3,7 +3,7 @@ use Rattle.snap_store.proofs.Prelude.{◌≡◌, ℕ, Bool, false, List, Option,
 use Rattle.snap_content.specs.declared.error.Error.TheVariants.{FailedParsingYaml, UnexpectedDataType, MissingField, FileIo, FloatText, JsonKey, NotText, NoFile, OutOfMemory}
 use Rattle.snap_emit.specs.Parsed.{IsHeaderReadFrom, MayBeHeaderOf, HeaderRefusalEnd}
 use Rattle.snap_emit.specs.Spelled.{IsHeaderOf, KeepsNumber}
-use Rattle.snap_outside.specs.Causes.{CountedIf}
+use Rattle.snap_io.specs.Causes.{CountedIf}
 use Rattle.snap_store.specs.Causes.{is_file_fault}
 use Rattle.snap_store.specs.Reading.{IsTextFile, ReadsHeader, HoldsBody, KeepsNumberIn, IsRefused, FileEnd, IsReadAs, Tells}
 use Rattle.snap_store.specs.Split.{IsSplit}

@@ -16,7 +16,7 @@ pub use Rattle.snap_content.specs.Readable.{IsWithin}
 pub use Rattle.snap_content.specs.View.{tree, pair_list, pair_trees, Pairs}
 pub use Rattle.snap_content.specs.declared.content.Content.{Content, String, U32, Map, the_lemmas}
 pub use Rattle.snap_content.specs.declared.error.Error.{Error}
-pub use Rattle.snap_outside.specs.Files.{Files, SameBut}
+pub use Rattle.snap_io.specs.Files.{Files, SameBut}
 pub use Rattle.snap_print.specs.Blocks.{Blocks}
 pub use Rattle.snap_print.specs.Lines.{document_of, text_of, lines_of}
 pub use Rattle.snap_str.specs.Lines.{ended_lines, onto}

@@ -10,7 +10,7 @@ use Rattle.snap_emit.specs.Parsed.{MayBeHeaderOf}
 use Rattle.snap_emit.specs.Spelled.{IsHeaderOf, KeepsNumber}
 use Rattle.snap_text.specs.Contents.{raw_of, kind_of}
 use Rattle.snap_text.specs.declared.contents.TextSnapshotKind.TheVariants.{File}
-use Rattle.snap_outside.specs.Files.{Files}
+use Rattle.snap_io.specs.Files.{Files}
 use Rattle.snap_store.specs.FileSplit.{is_headed, header_of, body_of}
 use Rattle.snap_store.specs.Fields.{kind_in, fields}
 use Rattle.snap_store.specs.Meta.{Meta, legacy_meta}

@@ -22,7 +22,7 @@ pub mod split;
 
 pub use contents::SnapshotContents;
 pub use metadata::{MetaData, SnapshotKind};
-pub use snap_outside::{
+pub use snap_io::{
     Fault, FolderStore, MemorySink, MemorySource, MemoryStore, Names, Sink, Source, SteadySink,
     SteadySource, SteadyStore, Store, StoreError, StreamSink, StreamSource,
 };

@@ -2,7 +2,7 @@
 ghost use Rattle.std.specs.Prelude.{◌≡◌, ℕ, false, List, Option, IfOk};
 ghost use Rattle.snap_store.specs.Named.{HasNames};
 ghost use Rattle.std.specs.Str.{chars};
-ghost use Rattle.snap_outside.specs.Causes.{Counted};
+ghost use Rattle.snap_io.specs.Causes.{Counted};
 ghost use Rattle.snap_store.specs.Causes.{is_file_fault};
 ghost use Rattle.snap_store.specs.FileSplit.{is_headed};
 ghost use Rattle.snap_store.specs.Reading.{IsTextFile, HoldsBody, FileEnd, IsReadAs, IsReadFrom};
@@ -15,7 +15,7 @@ use crate::snapshot::Snapshot;
 use crate::split::{Headed, split_file};
 use snap_content::{Blob, Error, OutOfMemory, Text};
 use snap_emit::yaml::parse_header;
-use snap_outside::{Store, StoreError};
+use snap_io::{Store, StoreError};
 use snap_path::names_of_path;
 use snap_text::{TextSnapshotContents, TextSnapshotKind};
 use std::alloc::Global;

@@ -1,8 +1,8 @@
 //! Writing the file of a snapshot.
 ghost use Rattle.std.specs.Prelude.{◌≡◌, List, ℕ, Some, IsSome, IfOk, OnOk, OnErr, encode_utf8_all};
 ghost use Rattle.std.specs.FinMap.{insert};
-ghost use Rattle.snap_outside.specs.Files.{Files, SameBut};
-ghost use Rattle.snap_outside.specs.Causes.{Counted};
+ghost use Rattle.snap_io.specs.Files.{Files, SameBut};
+ghost use Rattle.snap_io.specs.Causes.{Counted};
 ghost use Rattle.snap_store.specs.Causes.{is_file_fault};
 ghost use Rattle.snap_store.specs.Image.{text_under, saved_text, pending_path};
 ghost use Rattle.snap_store.specs.Reading.{SaveEnd};
@@ -17,7 +17,7 @@ use crate::metadata::MetaData;
 use crate::snapshot::Snapshot;
 use snap_content::{Error, OutOfMemory, Text};
 use snap_emit::yaml;
-use snap_outside::{Store, StoreError};
+use snap_io::{Store, StoreError};
 use std::alloc::Global;
 
 impl Snapshot {

@@ -1,9 +1,9 @@
 -- What is written of an inline text reads back as contents that match it.
 use Rattle.snap_text.proofs.Prelude.{◌≡◌, ℕ, List, Result, Ok, Err, sym, ap, ◌∙◌, subst, IfOk, inline_normal, spelled, meant, IsIndentation, Inline, raw_of, kind_of, normal_as, normal_of, MatchLatest, IsSettled, InlineLaw}
-use Rattle.snap_literal.specs.Literal.{literal_reads}
-use Rattle.snap_literal.specs.OfLiteral.{of_literal}
-use Rattle.snap_literal.proofs.InlineLaw.{inline-law}
-use Rattle.snap_literal.proofs.Meanings.{reads}
+use Rattle.snap_text_literals.specs.Literal.{literal_reads}
+use Rattle.snap_text_literals.specs.OfLiteral.{of_literal}
+use Rattle.snap_text_literals.proofs.InlineLaw.{inline-law}
+use Rattle.snap_text_literals.proofs.Meanings.{reads}
 use Rattle.snap_text.specs.declared.contents.TextSnapshotContents.{TextSnapshotContents}
 
 -- contents made of the text that was meant match

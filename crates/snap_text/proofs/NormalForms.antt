@@ -1,7 +1,7 @@
 -- Normal forms of printed texts.
 use Rattle.snap_text.proofs.Prelude.{◌≡◌, ◌==◌, ℕ, List, [], ◌∷◌, ◌++◌, Bool, false, ◌||◌, refl, sym, ap, ◌∙◌, append_assoc, append-nil, list_any, flat_map, subst, true, ended, Plain, IsWithin, Blocks, text_of, IsLine, AreRows, EndsWell, is_trimmed, is_break, normal, or_left, or_right}
 use Rattle.snap_text.specs.Normal.{trimmed}
-use Rattle.snap_literal.proofs.Returns.{unreturned-free}
+use Rattle.snap_text_literals.proofs.Returns.{unreturned-free}
 use Rattle.snap_print.proofs.Rows.{printed-rows, printed-end, printed-first}
 use Rattle.snap_text.proofs.Trimming.{trimmed-well, trimmed-push, trimmed-behind}
 

@@ -8,9 +8,9 @@ pub use Rattle.snap_content.proofs.Booleans.{or_left, or_right}
 pub use Rattle.snap_content.specs.Lines.{ended}
 pub use Rattle.snap_content.specs.Plain.{Plain}
 pub use Rattle.snap_content.specs.Readable.{IsWithin}
-pub use Rattle.snap_literal.specs.Inline.{inline_normal, from_byte, written}
-pub use Rattle.snap_literal.specs.Normal.{trimmed}
-pub use Rattle.snap_literal.specs.Spelled.{spelled, meant, IsIndentation}
+pub use Rattle.snap_text_literals.specs.Inline.{inline_normal, from_byte, written}
+pub use Rattle.snap_text_literals.specs.Normal.{trimmed}
+pub use Rattle.snap_text_literals.specs.Spelled.{spelled, meant, IsIndentation}
 pub use Rattle.snap_print.specs.Blocks.{Blocks}
 pub use Rattle.snap_print.specs.Lines.{text_of}
 pub use Rattle.snap_print.specs.Printed.{IsLine, AreRows, EndsWell, is_trimmed, is_break, begins_dashes}

@@ -3,8 +3,8 @@ use Rattle.snap_text.proofs.Prelude.{◌≡◌, ℕ, List, [], ◌∷◌, ◌++�
 use Rattle.std.proofs.Output.{has_written_append, has_written_of_eq}
 use Rattle.std.proofs.lemmas.Str.{encodes-append, encodes-chars}
 use Rattle.std.specs.declared.fmt.Formatter.{Formatter}
-use Rattle.snap_literal.specs.Lines.{IsUnbroken, IsLineThen, without_returns}
-use Rattle.snap_literal.proofs.Written.{written-line, written-last, written-zero, written-inline}
+use Rattle.snap_text_literals.specs.Lines.{IsUnbroken, IsLineThen, without_returns}
+use Rattle.snap_text_literals.proofs.Written.{written-line, written-last, written-zero, written-inline}
 use Rattle.snap_text.specs.declared.contents.TextSnapshotKind.{TextSnapshotKind}
 use lib.Utf8.{encodes, encode}
 

@@ -1,12 +1,12 @@
 -- What the contents of a text snapshot are seen as, and when two of them match.
 use Rattle.std.specs.Prelude.{◌≡◌, ℕ, List}
-use Rattle.snap_literal.specs.Frame.{inline_legacy}
-use Rattle.snap_literal.specs.Inline.{normalized, inline_normal, inline_width}
-use Rattle.snap_literal.specs.Legacy.{legacy}
-use Rattle.snap_literal.specs.Literal.{literal_reads}
-use Rattle.snap_literal.specs.Normal.{normal, trimmed}
-use Rattle.snap_literal.specs.OfLiteral.{of_literal}
-use Rattle.snap_literal.specs.Spelled.{IsIndentation}
+use Rattle.snap_text_literals.specs.Frame.{inline_legacy}
+use Rattle.snap_text_literals.specs.Inline.{normalized, inline_normal, inline_width}
+use Rattle.snap_text_literals.specs.Legacy.{legacy}
+use Rattle.snap_text_literals.specs.Literal.{literal_reads}
+use Rattle.snap_text_literals.specs.Normal.{normal, trimmed}
+use Rattle.snap_text_literals.specs.OfLiteral.{of_literal}
+use Rattle.snap_text_literals.specs.Spelled.{IsIndentation}
 use Rattle.snap_text.specs.declared.contents.TextSnapshotContents.{TextSnapshotContents}
 use Rattle.snap_text.specs.declared.contents.TextSnapshotKind.{TextSnapshotKind}
 use Rattle.snap_text.specs.declared.contents.TextSnapshotKind.TheVariants.{Inline, File}

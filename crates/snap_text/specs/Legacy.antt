@@ -1,2 +1,2 @@
 -- When two texts agree by the older rule.
-pub use Rattle.snap_literal.specs.Legacy.{without_breaks, without_fence, legacy}
+pub use Rattle.snap_text_literals.specs.Legacy.{without_breaks, without_fence, legacy}

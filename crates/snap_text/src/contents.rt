@@ -1,18 +1,18 @@
 //! The text of a snapshot, with its kind. The one error of these calls is want of memory.
 ghost use Rattle.std.specs.Prelude.{◌≡◌, ◌↔◌, IsTrue, IfOk};
 ghost use Rattle.std.specs.Str.{chars};
-ghost use Rattle.snap_literal.specs.OfLiteral.{of_literal};
-ghost use Rattle.snap_literal.specs.Spelled.{spelled};
+ghost use Rattle.snap_text_literals.specs.OfLiteral.{of_literal};
+ghost use Rattle.snap_text_literals.specs.Spelled.{spelled};
 ghost use Rattle.snap_text.specs.declared.contents.TextSnapshotKind.TheVariants.{Inline, File};
 
 use snap_content::{OutOfMemory, Text};
-use snap_literal::frame::inline_legacy_text;
-use snap_literal::inline::{inline_normal_text, inline_width};
-use snap_literal::legacy::legacy_text;
-use snap_literal::lines::{from_byte, split_line, trim_returns};
-use snap_literal::literal;
-use snap_literal::normal::{normal_text, trimmed_text};
-use snap_literal::spelling::spell;
+use snap_text_literals::frame::inline_legacy_text;
+use snap_text_literals::inline::{inline_normal_text, inline_width};
+use snap_text_literals::legacy::legacy_text;
+use snap_text_literals::lines::{from_byte, split_line, trim_returns};
+use snap_text_literals::literal;
+use snap_text_literals::normal::{normal_text, trimmed_text};
+use snap_text_literals::spelling::spell;
 use std::alloc::Global;
 use std::fmt;
 

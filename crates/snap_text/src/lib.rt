@@ -4,7 +4,7 @@
 //!
 //! An inline text is written as a literal that reads back as contents that match it.
 //!
-//! `lines`, `normal` and `legacy` hand on what `snap_literal` knows of texts, as the calls on literals are; `contents` is a
+//! `lines`, `normal` and `legacy` hand on what `snap_text_literals` knows of texts, as the calls on literals are; `contents` is a
 //! snapshot's text, compared and written, and `laws` what comparing promises.
 #![tactic(auto)]
 
@@ -15,6 +15,6 @@ pub mod lines;
 pub mod normal;
 
 pub use contents::{TextSnapshotContents, TextSnapshotKind};
-pub use snap_literal::{
+pub use snap_text_literals::{
     LiteralError, literal_is_open, min_indentation, normalize_inline, read_literal, required_hashes,
 };

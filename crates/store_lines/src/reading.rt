@@ -3,7 +3,7 @@ use crate::shown::{add_metadata, snapshot_into_line};
 use rows::{add_escaped, first_column, text_of};
 use rows_snapshots::bytes_of;
 use snap_content::{Error, OutOfMemory, Text};
-use snap_outside::SteadyStore;
+use snap_io::SteadyStore;
 use snap_store::legacy::{legacy_metadata, legacy_text};
 use snap_store::split::{Headed, split_file};
 use snap_store::{MetaData, Snapshot};

@@ -5,7 +5,7 @@ ghost use Rattle.snap_store.specs.Views.{contents_in, text_in};
 use rows::{add_escaped, add_file, first_column, text_of};
 use rows_snapshots::snapshot_of;
 use snap_content::{Error, OutOfMemory, Text};
-use snap_outside::SteadyStore;
+use snap_io::SteadyStore;
 use snap_store::Snapshot;
 use snap_text::TextSnapshotKind;
 use std::alloc::Global;

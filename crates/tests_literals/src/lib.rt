@@ -1,4 +1,4 @@
-//! Tests of `snap_literal` through its public calls.
+//! Tests of `snap_text_literals` through its public calls.
 //! They stand apart, since a crate with tests is proved twice.
 #![tactic(auto)]
 

@@ -1,10 +1,10 @@
 //! Outside vectors: each call once with ample memory, and each rule's plainest cases.
-use snap_literal::frame::inline_legacy_text;
-use snap_literal::inline::inline_normal_text;
-use snap_literal::legacy::legacy_text;
-use snap_literal::literal::{from_inline_literal, to_inline};
-use snap_literal::normal::normal_text;
-use snap_literal::{
+use snap_text_literals::frame::inline_legacy_text;
+use snap_text_literals::inline::inline_normal_text;
+use snap_text_literals::legacy::legacy_text;
+use snap_text_literals::literal::{from_inline_literal, to_inline};
+use snap_text_literals::normal::normal_text;
+use snap_text_literals::{
     LiteralError, literal_is_open, min_indentation, normalize_inline, read_literal, required_hashes,
 };
 use std::test::Fail;

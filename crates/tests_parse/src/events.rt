@@ -1,6 +1,6 @@
 //! Events one by one: what ends a stream comes again.
 use snap_event::Event;
-use snap_parser::Parser;
+use snap_parse_events::Parser;
 
 #[test]
 fn an_error_comes_again(rt: HostRuntime) {

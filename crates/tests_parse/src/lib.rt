@@ -1,4 +1,4 @@
-//! Tests of the parser and the loader through their public calls: `events` and `loading` of `snap_parser`, `readers` of
+//! Tests of the parser and the loader through their public calls: `events` and `loading` of `snap_parse_events`, `readers` of
 //! `snap_parse`, whose documents are told by the rows of `load_lines`. They stand apart, since a crate with tests is proved twice.
 #![tactic(auto)]
 

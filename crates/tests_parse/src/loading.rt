@@ -1,8 +1,8 @@
 //! Events handed on to receivers.
 use snap_content::{OutOfMemory, Text};
 use snap_event::{Event, EventReceiver, MarkedEventReceiver};
-use snap_parser::{LoadError, Parser};
-use snap_token::{Marker, ScanError, ScanInfo};
+use snap_parse_events::{LoadError, Parser};
+use snap_scan_tokens::{Marker, ScanError, ScanInfo};
 use std::alloc::Global;
 use std::process::Abort;
 use std::test::Fail;

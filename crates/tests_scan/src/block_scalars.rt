@@ -1,6 +1,6 @@
 //! Block scalars and their faults, as insta's own scanner reads them.
-use snap_block::{BlockScalar, scan_block_scalar};
-use snap_token::{Cursor, Marker, ScanError, ScanInfo};
+use snap_scan_blocks::{BlockScalar, scan_block_scalar};
+use snap_scan_tokens::{Cursor, Marker, ScanError, ScanInfo};
 use std::alloc::Global;
 use std::process::Abort;
 use std::test::Fail;

@@ -1,6 +1,6 @@
 //! Tests of the scanner and the crates below it through their public calls, beside the rows of `scan_lines`, which hold its tokens
-//! against the original's: `places` and `pieces` of `snap_token`, `properties` and `property_faults` of `snap_property`,
-//! `block_scalars` of `snap_block`, `calls` of `snap_scan`. They stand apart, since a crate with tests is proved twice.
+//! against the original's: `places` and `pieces` of `snap_scan_tokens`, `properties` and `property_faults` of `snap_scan_properties`,
+//! `block_scalars` of `snap_scan_blocks`, `calls` of `snap_scan`. They stand apart, since a crate with tests is proved twice.
 #![tactic(auto)]
 
 #[cfg(test)]

@@ -1,8 +1,8 @@
 //! An escape, and a text that is gathered from pieces.
 use snap_content::{Lent, OutOfMemory};
-use snap_token::escapes::{hexadecimal, scan_escape};
-use snap_token::folding::{Gap, Gathered};
-use snap_token::{Cursor, ScanInfo};
+use snap_scan_tokens::escapes::{hexadecimal, scan_escape};
+use snap_scan_tokens::folding::{Gap, Gathered};
+use snap_scan_tokens::{Cursor, ScanInfo};
 use std::alloc::Global;
 use std::process::Abort;
 use std::test::Fail;

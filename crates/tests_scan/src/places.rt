@@ -1,11 +1,13 @@
 //! Places in a text, kinds of characters, and what errors say.
 use snap_content::{Lent, OutOfMemory, Text};
-use snap_token::characters::{
+use snap_scan_tokens::characters::{
     Kind, before_nul, character_at, is_alpha, is_blank, is_blank_or_end, is_break, is_break_or_end,
     is_digit, is_flow_sign, is_uri,
 };
-use snap_token::folding::Fold;
-use snap_token::{Cursor, Marker, ScanError, ScanInfo, TEncoding, TScalarStyle, Token, TokenType};
+use snap_scan_tokens::folding::Fold;
+use snap_scan_tokens::{
+    Cursor, Marker, ScanError, ScanInfo, TEncoding, TScalarStyle, Token, TokenType,
+};
 use std::process::Abort;
 use std::test::Fail;
 

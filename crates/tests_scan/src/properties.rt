@@ -1,8 +1,8 @@
 //! What the readers answer where memory is ample, and how far they read.
-use snap_property::anchor::scan_anchor;
-use snap_property::directive::{Directive, scan_directive};
-use snap_property::tag::scan_tag;
-use snap_token::cursor::Cursor;
+use snap_scan_properties::anchor::scan_anchor;
+use snap_scan_properties::directive::{Directive, scan_directive};
+use snap_scan_properties::tag::scan_tag;
+use snap_scan_tokens::cursor::Cursor;
 use std::process::Abort;
 use std::test::Fail;
 

@@ -1,9 +1,9 @@
 //! The smallest text of each fault, and where its mark is.
-use snap_property::anchor::scan_anchor;
-use snap_property::directive::scan_directive;
-use snap_property::tag::scan_tag;
-use snap_token::cursor::Cursor;
-use snap_token::info::{ScanError, ScanInfo};
+use snap_scan_properties::anchor::scan_anchor;
+use snap_scan_properties::directive::scan_directive;
+use snap_scan_properties::tag::scan_tag;
+use snap_scan_tokens::cursor::Cursor;
+use snap_scan_tokens::info::{ScanError, ScanInfo};
 use std::alloc::Global;
 
 /// Where an error is, and what is wrong there.

@@ -1,5 +1,5 @@
 use Rattle.snap_assert.proofs.Prelude.{◌∙◌, ◌++◌, ap, codes, settings_of, place_of}
-use Rattle.snap_place.proofs.FilePaths.{path_of-file}
+use Rattle.snap_assert_place.proofs.FilePaths.{path_of-file}
 use Rattle.snap_assert.proofs.Below.{trimmed-if}
 use Rattle.snap_assert.proofs.prepare.prepare.Goals as goal
 

@@ -1,5 +1,5 @@
 use Rattle.snap_emit.proofs.Prelude.{chars, value_of, refl}
-use Rattle.snap_owed.proofs.FreeLayouts.{free-is-laid}
+use Rattle.snap_parse_laws.proofs.FreeLayouts.{free-is-laid}
 use Rattle.snap_emit.proofs.OneText.{as-header}
 use Rattle.snap_emit.proofs.Parsing.{loaded-plain, loaded-tree, loaded-numbers, loaded-whole, loaded-keeps, json-reads, header-of, header-plain, IsValueIn}
 use Rattle.snap_emit.proofs.loaded.load_tree.Goals as goal

@@ -1,8 +1,8 @@
 use Rattle.snap_run.proofs.Prelude.{refl, ap, ◌∙◌, Err, words_of}
 use Rattle.std.proofs.lemmas.Result.{err_from_is_err_and}
-use Rattle.snap_request.proofs.Requesting.{file_named}
+use Rattle.snap_run_requests.proofs.Requesting.{file_named}
 use Rattle.snap_run.proofs.DocumentEnds.{path_is, printed_is, assertion_is, document_answered, unread_stops, refused_stops, refused_count}
-use Rattle.snap_request.specs.RequestOf.{request_of}
+use Rattle.snap_run_requests.specs.RequestOf.{request_of}
 use Rattle.snap_run.proofs.documents.assert_document.Goals as goal
 
 pub returns-in_err-request-clause-err : goal.returns-in_err-request-clause-err

@@ -1,5 +1,5 @@
 use Rattle.snap_scan.proofs.Prelude.{here, state_of}
-use Rattle.snap_token.specs.declared.token.TokenType.TheVariants as t
+use Rattle.snap_scan_tokens.specs.declared.token.TokenType.TheVariants as t
 use Rattle.snap_scan.proofs.Reading.{does-directive}
 use Rattle.snap_scan.proofs.fetcher.Fetcher.fetch_directive.Goals as goal
 

@@ -1,5 +1,5 @@
 use Rattle.snap_scan.proofs.Prelude.{ap, ◌∙◌, Mark, here, double_from}
-use Rattle.snap_token.specs.declared.token.TScalarStyle.TheVariants as style
+use Rattle.snap_scan_tokens.specs.declared.token.TScalarStyle.TheVariants as style
 use Rattle.snap_scan.proofs.Reading.{does-quoted}
 use Rattle.snap_scan.proofs.fetcher.Fetcher.fetch_double_quoted.Goals as goal
 

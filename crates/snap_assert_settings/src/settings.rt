@@ -1,0 +1,246 @@
+//! The settings of an assertion.
+ghost use Rattle.std.specs.Prelude.{◌≡◌, [], ◌∷◌, ◌++◌, IfOk, IfErr, OnOk, OnErr, is_some, map, option_map};
+ghost use Rattle.std.specs.Str.{chars};
+ghost use Rattle.snap_content.specs.View.{tree};
+ghost use Rattle.snap_select.specs.Grammar.{IsSelector};
+ghost use Rattle.snap_select.specs.Parts.{Parts};
+ghost use Rattle.snap_assert_settings.specs.Replaced.{redaction_for};
+ghost use Rattle.snap_assert_settings.specs.Settings.{sorted_where};
+ghost use Rattle.snap_store.specs.Meta.{shown_text};
+
+use crate::redactions::{Redactions, Replacements};
+use snap_content::{Content, OutOfMemory, Text};
+use snap_select::{FnRedactor, Redaction, Redactor, SelectError};
+use std::alloc::Global;
+
+/// The settings of an assertion. Calls change sorting and the redactions; the rest stays as it is yet.
+#[derive(Drop)]
+pub struct Settings {
+    sort_maps: bool,
+    snapshot_path: Text,
+    redactions: Redactions,
+}
+
+impl Settings {
+    ghost use Rattle.snap_select.specs.Refusal.{IsRefused};
+    ghost use Rattle.snap_assert_settings.specs.Redactions.{AreRedactions, AreRefused, redaction_at, redactions_of};
+    ghost use Rattle.snap_assert_settings.specs.Settings.{settings_of, redactions_in, new_settings, PrintsAs};
+
+    /// Trees as they are, snapshots in the folder `snapshots`, no suffix, the expression kept and the
+    /// module in front of the name.
+    pub fn new(alloc: Global) -> Result<Settings, OutOfMemory>
+        ensures settings { IfOk result (λ settings. settings_of settings ≡ new_settings) }
+        ensures redactions { IfOk result (λ settings. redactions_in settings ≡ []) }
+    {
+        Settings::of_parts(alloc, false, Redactions::new(alloc))
+    }
+
+    /// Whether the entries of maps are sorted before they are printed.
+    pub fn sort_maps(&self) -> bool
+        ensures { result ≡ (settings_of self.now).sort_maps }
+    {
+        self.sort_maps
+    }
+
+    /// Says whether the entries of maps are sorted before they are printed.
+    pub fn set_sort_maps(&mut self, value: bool)
+        ensures settings { settings_of self.new
+            ≡ record (settings_of self.old) { sort_maps = value } }
+        ensures redactions { redactions_in self.new ≡ redactions_in self.old }
+    {
+        self.sort_maps = value;
+    }
+
+    /// Whether the module stands before the name in the name of the snapshot's file.
+    pub fn prepend_module_to_snapshot(&self) -> bool
+        ensures { result ≡ (settings_of self.now).prepends_module }
+    {
+        true
+    }
+
+    /// Whether the expression stays out of the metadata.
+    pub fn omit_expression(&self) -> bool
+        ensures { result ≡ (settings_of self.now).omits_expression }
+    {
+        false
+    }
+
+    /// Whether metadata get a tree of the caller's.
+    pub fn has_info(&self) -> bool
+        ensures { result ≡ is_some (settings_of self.now).info }
+    {
+        false
+    }
+
+    /// What stands behind the name and an `@`; none where it is empty.
+    pub fn snapshot_suffix(&self) -> Option<&str>
+        ensures { option_map (λ suffix. chars suffix.now) result
+            ≡ shown_text (settings_of self.now).suffix }
+    {
+        None
+    }
+
+    /// The file that the tree was made from.
+    pub fn input_file(&self) -> Option<&str>
+        ensures { option_map (λ path. chars path.now) result ≡ (settings_of self.now).input_file }
+    {
+        None
+    }
+
+    /// What a reviewer is told of the snapshot.
+    pub fn description(&self) -> Option<&str>
+        ensures { option_map (λ text. chars text.now) result ≡ (settings_of self.now).description }
+    {
+        None
+    }
+
+    /// The folder of snapshots, below the folder of the assertion's file.
+    pub fn snapshot_path(&self) -> &str
+        ensures { chars result.now ≡ (settings_of self.now).snapshot_path }
+    {
+        self.snapshot_path.as_str()
+    }
+
+    /// Adds a redaction at the end. After a refusal and after want of memory the settings are as they were.
+    pub fn add_redaction(
+        &mut self,
+        selector: &str,
+        replacement: Redaction,
+    ) -> Result<(), SelectError>
+        ensures ok { OnOk result ((parts : Parts) × IsSelector (chars selector.now) parts
+            × (redactions_in self.new
+            ≡ redactions_in self.old ++ redaction_at parts replacement ∷ [])) }
+        ensures refused { IfErr result (λ e. IsRefused (chars selector.now) e) }
+        ensures err { OnErr result (redactions_in self.new ≡ redactions_in self.old) }
+        ensures others { settings_of self.new ≡ settings_of self.old }
+    {
+        let alloc = self.redactions.allocator();
+        self.redactions.add(alloc, selector, replacement)
+    }
+
+    /// Adds a redaction by a stored function at the end: in place of each value that the selector hits stands what the
+    /// function answers. After a refusal and after want of memory the settings are as they were.
+    pub fn add_dynamic_redaction(
+        &mut self,
+        selector: &str,
+        function: FnRedactor,
+    ) -> Result<(), SelectError>
+        ensures ok { OnOk result ((parts : Parts) × IsSelector (chars selector.now) parts
+            × (redactions_in self.new
+            ≡ redactions_in self.old ++ redaction_at parts (Redaction.Function function) ∷ [])) }
+        ensures refused { IfErr result (λ e. IsRefused (chars selector.now) e) }
+        ensures err { OnErr result (redactions_in self.new ≡ redactions_in self.old) }
+        ensures others { settings_of self.new ≡ settings_of self.old }
+    {
+        self.add_redaction(selector, Redaction::Function(function))
+    }
+
+    /// Has the lists that the selector hits put in order, behind the redactions so far.
+    /// After a refusal and after want of memory the settings are as they were.
+    pub fn sort_selector(&mut self, selector: &str) -> Result<(), SelectError>
+        ensures ok { OnOk result ((parts : Parts) × IsSelector (chars selector.now) parts
+            × (redactions_in self.new
+            ≡ redactions_in self.old ++ redaction_at parts Redaction.Sorted ∷ [])) }
+        ensures refused { IfErr result (λ e. IsRefused (chars selector.now) e) }
+        ensures err { OnErr result (redactions_in self.new ≡ redactions_in self.old) }
+        ensures others { settings_of self.new ≡ settings_of self.old }
+    {
+        self.add_redaction(selector, Redaction::Sorted)
+    }
+
+    /// Takes these redactions in place of all. The first text that is no selector is refused.
+    /// After a refusal and after want of memory the settings are as they were.
+    pub fn set_redactions(&mut self, redactions: Vec<(Text, Redaction)>) -> Result<(), SelectError>
+        ensures ok { OnOk result (AreRedactions redactions.items (redactions_in self.new)) }
+        ensures refused { IfErr result (λ e. AreRefused redactions.items e) }
+        ensures err { OnErr result (redactions_in self.new ≡ redactions_in self.old) }
+        ensures others { settings_of self.new ≡ settings_of self.old }
+    {
+        let alloc = self.redactions.allocator();
+        self.redactions = Redactions::from_list(alloc, redactions)?;
+        Ok(())
+    }
+
+    /// Takes all redactions away.
+    pub fn clear_redactions(&mut self)
+        ensures cleared { redactions_in self.new ≡ [] }
+        ensures others { settings_of self.new ≡ settings_of self.old }
+    {
+        self.redactions = Redactions::new(self.redactions.allocator());
+    }
+
+    /// What is replaced before a tree is printed.
+    pub fn redactions(&self) -> &Redactions
+        ensures { redactions_of result.now ≡ redactions_in self.now }
+    {
+        &self.redactions
+    }
+
+    /// The tree that is printed: its maps sorted where that is set, and then each redaction in turn. The one error is
+    /// want of memory.
+    pub fn printed_tree(&self, alloc: Global, content: Content) -> Result<Content, OutOfMemory>
+        ensures printed { IfOk result (λ made. PrintsAs (λ v. (⟦<dyn Redactor as Redactor>⟧ v).allows)
+            self.now (tree content) (tree made)) }
+    {
+        let content = sorted_where(self.sort_maps, alloc, content)?;
+        self.redactions.apply(alloc, content)
+    }
+
+    /// New settings but for sorting and the redactions.
+    pub fn of_parts(
+        alloc: Global,
+        sort_maps: bool,
+        redactions: Redactions,
+    ) -> Result<Settings, OutOfMemory>
+        ensures settings { IfOk result (λ settings. settings_of settings
+            ≡ record new_settings { sort_maps = sort_maps }) }
+        ensures redactions { IfOk result (λ settings.
+            redactions_in settings ≡ redactions_of redactions) }
+    {
+        let snapshot_path = Text::from_ascii(alloc, "snapshots")?;
+        Ok(Settings {
+            sort_maps,
+            snapshot_path,
+            redactions,
+        })
+    }
+
+    /// New settings but for sorting, with the redactions that a document asks for.
+    pub fn from_replacements(
+        alloc: Global,
+        sort_maps: bool,
+        replacements: Replacements,
+    ) -> Result<Settings, OutOfMemory>
+        ensures settings { IfOk result (λ settings. settings_of settings
+            ≡ record new_settings { sort_maps = sort_maps }) }
+        ensures redactions { IfOk result (λ settings. redactions_in settings
+            ≡ map redaction_for replacements.entry.items) }
+    {
+        let redactions = Redactions::from_replacements(alloc, replacements)?;
+        Settings::of_parts(alloc, sort_maps, redactions)
+    }
+
+    /// The same as a text.
+    pub fn snapshot_folder(&self) -> &Text
+        ensures { result.now ≡ (settings_of self.now).snapshot_path }
+    {
+        &self.snapshot_path
+    }
+}
+
+/// The tree with its maps sorted, where that is set.
+fn sorted_where(is_set: bool, alloc: Global, content: Content) -> Result<Content, OutOfMemory>
+    ensures { IfOk result (λ made. tree made ≡ sorted_where is_set (tree content)) }
+{
+    if !is_set {
+        return Ok(content);
+    }
+    let mut sorted = content;
+    match sorted.sort_maps(alloc) {
+        Ok(()) => Ok(sorted),
+        Err(error) => {
+            drop(sorted);
+            Err(error)
+        }
+    }
+}

@@ -1,0 +1,71 @@
+-- What the bytes of a text tell of its characters.
+use Rattle.snap_emit_values.proofs.Prelude.{◌≡◌, ◌==◌, ℕ, zero, suc, ◌<◌, ◌≤◌, List, [], ◌∷◌, Bool, true, false, not, ◌||◌, ◌&&◌, Option, None, Some, length, get_or, refl, sym, ap, ◌∙◌, arith, nat_le, or_from, nat_tests, IsTrue, codes, is_ascii, list_any, list_all, chars, IsUtf8, is_special}
+use Rattle.std.proofs.Common.{is_some}
+use Rattle.std.proofs.lemmas.Bool.{or_left, or_right, false_from_ne_true}
+use Rattle.memchr.specs.Find.{IsFirstByte, is_byte, is_byte2}
+use Rattle.snap_content.proofs.AsciiBytes.{any_of_bytes}
+use Rattle.snap_print.specs.Blocks.{is_unheld}
+
+-- a wide character is none of a list of ASCII characters
+none_of : (c : ℕ) (ks : List ℕ) → 128 ≤ c → IsTrue (list_all is_ascii ks) → list_any (λ k. c == k) ks ≡ false
+none_of c [] wide ascii = refl
+none_of c (k ∷ ks) wide ascii =
+    let p = both (is_ascii k) (list_all is_ascii ks) ascii in
+    or_from (c == k) (list_any (λ k. c == k) ks) (other c k wide p.0) (none_of c ks wide p.1)
+  where
+    both : (a b : Bool) → IsTrue (a && b) → IsTrue a × IsTrue b
+    both true b h = (refl, h)
+    both false b h = (cc, cc)
+
+    other : (c k : ℕ) → 128 ≤ c → IsTrue (is_ascii k) → (c == k) ≡ false
+    other c k wide small = grind (arith, nat_tests)
+
+-- a special character is ASCII
+wide-special : (c : ℕ) → 128 ≤ c → is_special c ≡ false
+wide-special c wide =
+    or_from (list_any (λ special. c == special) (codes ":{}[],#\"'\\`\t\n\r") || nat_le c 6 || (nat_le 14 c && nat_le c 26)) (nat_le 28 c && nat_le c 31)
+    (or_from (list_any (λ special. c == special) (codes ":{}[],#\"'\\`\t\n\r") || nat_le c 6) (nat_le 14 c && nat_le c 26)
+    (or_from (list_any (λ special. c == special) (codes ":{}[],#\"'\\`\t\n\r")) (nat_le c 6) (none_of c (codes ":{}[],#\"'\\`\t\n\r") wide refl) (grind (arith, nat_tests)))
+    (grind (arith, nat_tests)))
+    (grind (arith, nat_tests))
+
+-- special characters are special bytes
+pub special_bytes : (bytes text : List ℕ) → IsUtf8 text → bytes ≡ text → list_any is_special bytes ≡ list_any is_special (chars text)
+special_bytes = any_of_bytes is_special wide-special
+
+nowhere : (p : ℕ → Bool) (bs : List ℕ) → ((k : ℕ) → k < length bs → p (get_or bs k 0) ≡ true → ⊥) → list_any p bs ≡ false
+nowhere p [] h = refl
+nowhere p (b ∷ bs) h =
+    or_from (p b) (list_any p bs) (false_from_ne_true (p b) (h 0 (omega arith))) (nowhere p bs (λ k less. h (suc k) (omega (arith, less))))
+
+somewhere : (p : ℕ → Bool) (bs : List ℕ) (k : ℕ) → k < length bs → p (get_or bs k 0) ≡ true → list_any p bs ≡ true
+somewhere p [] k less h = absurd (omega (arith, less))
+somewhere p (b ∷ bs) zero less h = or_left (p b) (list_any p bs) h
+somewhere p (b ∷ bs) (suc k) less h = or_right (p b) (list_any p bs) (somewhere p bs k (omega (arith, less)) h)
+
+-- a search among the bytes finds one where one is there
+found : (p : ℕ → Bool) (bs : List ℕ) (r : Option ℕ) → IsFirstByte p bs r → is_some r ≡ list_any p bs
+found p bs None none = sym (nowhere p bs (λ k less. none k (omega arith) less))
+found p bs (Some k) (within, passes) = sym (somewhere p bs k within.high passes)
+
+wide-end : (c : ℕ) → 128 ≤ c → (c == 10) ≡ false
+wide-end c wide = grind (arith, nat_tests)
+
+wide-unheld : (c : ℕ) → 128 ≤ c → is_unheld c ≡ false
+wide-unheld c wide = or_from (c == 13) (c == 0) (grind (arith, nat_tests)) (grind (arith, nat_tests))
+
+-- a line's end is a byte, and so is what no block can hold
+pub some_line_end : (bytes text : List ℕ) (r : Option ℕ) (some : Bool) → IsUtf8 text → bytes ≡ text → IsFirstByte (is_byte 10) bytes r → some ≡ is_some r
+    → some ≡ list_any (λ c. c == 10) (chars text)
+some_line_end bytes text r some utf8 same first is =
+    is ∙ found (λ c. c == 10) bytes r first ∙ any_of_bytes (λ c. c == 10) wide-end bytes text utf8 same
+
+turned : (free held : Bool) → held ≡ not free → free ≡ not held
+turned true held is = sym (ap not is)
+turned false held is = sym (ap not is)
+
+pub none_unheld : (bytes text : List ℕ) (r : Option ℕ) (free : Bool) → IsUtf8 text → bytes ≡ text → IsFirstByte (is_byte2 13 0) bytes r
+    → is_some r ≡ not free → free ≡ not (list_any is_unheld (chars text))
+none_unheld bytes text r free utf8 same first is =
+    turned free (list_any is_unheld (chars text))
+    (sym (any_of_bytes is_unheld wide-unheld bytes text utf8 same) ∙ sym (found is_unheld bytes r first) ∙ is)

@@ -1,5 +1,0 @@
-use Rattle.snap_emitter.proofs.Prelude.{◌≡◌, ◌++◌, line_ends}
-use Rattle.snap_emitter.proofs.block.push_line_ends.Given as goal
-
-abbrev pub invariant-loop-done : goal.invariant-loop-done
-invariant-loop-done l = l.out ≡ l.initial.out ++ line_ends l.done

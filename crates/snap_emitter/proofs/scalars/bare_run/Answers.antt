@@ -1,4 +1,0 @@
-use Rattle.snap_emitter.proofs.scalars.bare_run.Goals as goal
-
-pub before_rest-requires : goal.before_rest-requires
-before_rest-requires c = (c.after_bare-rest.ensures.front, c.after_bare-rest.ensures.whole)

@@ -1,5 +1,0 @@
-use Rattle.snap_emitter.proofs.Prelude.{list_all-IsAscii}
-use Rattle.snap_emitter.proofs.scalars.push_number.Goals as goal
-
-pub push_ascii-requires : goal.push_ascii-requires
-push_ascii-requires c = list_all-IsAscii _ c.format.ensures.ascii

@@ -1,9 +1,0 @@
-use Rattle.snap_literal.proofs.Prelude.{length, Utf8, shadow, chars, IsBody}
-use Rattle.snap_literal.proofs.Reading.{IsReading}
-use Rattle.snap_literal.proofs.read.read_body.Given as goal
-
-abbrev pub invariant-loop-c : goal.invariant-loop-c
-invariant-loop-c l = record { utf8 : shadow (Utf8 l.rest); so_far : IsReading (IsBody l.fn.count) (chars l.fn.source) l.made (chars l.rest) }
-
-abbrev pub decreases-loop-c : goal.decreases-loop-c
-decreases-loop-c l = length (chars l.rest)

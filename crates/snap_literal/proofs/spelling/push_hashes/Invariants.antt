@@ -1,8 +1,0 @@
-use Rattle.snap_literal.proofs.Prelude.{◌≡◌, ◌++◌, hashes}
-use Rattle.snap_literal.proofs.spelling.push_hashes.Given as goal
-
-abbrev pub invariant-loop-left : goal.invariant-loop-left
-invariant-loop-left l = l.made ++ hashes l.left ≡ l.fn.made ++ hashes l.fn.count
-
-abbrev pub decreases-loop-left : goal.decreases-loop-left
-decreases-loop-left l = l.left

@@ -1,6 +1,0 @@
-use Rattle.snap_outside.proofs.Prelude.{ap, sym, ◌∙◌, get}
-use Rattle.snap_outside.proofs.Entries.{get-entries}
-use Rattle.snap_outside.proofs.files.MemoryFiles.get.Goals as goal
-
-pub returns : goal.returns
-returns c = c.get.ensures.value ∙ sym (get-entries c.self.inside.tree.entries c.args.path.now) ∙ ap (λ m. get m c.args.path.now) c.self.view_is

@@ -1,6 +1,0 @@
-use Rattle.snap_outside.proofs.Prelude.{sym, ◌∙◌}
-use Rattle.snap_outside.proofs.Joined.{name_test}
-use Rattle.snap_outside.proofs.listing.is_name.Goals as goal
-
-pub returns-then-is_part : goal.returns-then-is_part
-returns-then-is_part c = name_test _ c.has_slash.result (sym c.is_part.ensures ∙ c.if-is_part.true) c.has_slash.ensures

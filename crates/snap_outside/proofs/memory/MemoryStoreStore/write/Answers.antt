@@ -1,5 +1,0 @@
-use Rattle.snap_outside.proofs.Unchanged.{same_but}
-use Rattle.snap_outside.proofs.memory.MemoryStoreStore.write.Goals as goal
-
-pub returns-in-Err-clause-unknown : goal.returns-in-Err-clause-unknown
-returns-in-Err-clause-unknown c = λ m told. same_but c.args.path.now m c.args.self.now.files c.put.new.self c.in-Err.ensures.err told

@@ -1,5 +1,0 @@
-use Rattle.snap_owed.proofs.Documents.{plain-source}
-use Rattle.snap_owed.proofs.laws.printed_texts_owe_their_tokens.Goals as goal
-
-pub returns : goal.returns
-returns c = plain-source

@@ -1,5 +1,0 @@
-use Rattle.snap_owed_json.proofs.Texts.{text-source}
-use Rattle.snap_owed_json.proofs.laws.json_texts_owe_their_tokens.Goals as goal
-
-pub returns : goal.returns
-returns c = text-source

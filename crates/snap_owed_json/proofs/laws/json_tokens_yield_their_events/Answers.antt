@@ -1,5 +1,0 @@
-use Rattle.snap_owed_json.proofs.Events.{json-events}
-use Rattle.snap_owed_json.proofs.laws.json_tokens_yield_their_events.Goals as goal
-
-pub returns : goal.returns
-returns c = json-events

@@ -1,0 +1,8 @@
+use Rattle.snap_parse_events.proofs.Prelude.{◌≡◌, rules, OutOfMemory}
+use Rattle.snap_parse_events.proofs.parser.Parser.hand_on.Goals as goal
+
+pub returns-in_err-event-clause-memory : goal.returns-in_err-event-clause-memory
+returns-in_err-event-clause-memory g c =
+    λ events will.
+    let e : c.in_err-event.field-0.0 ≡ OutOfMemory = c.in_err-event.ensures.memory events will in
+    search rules

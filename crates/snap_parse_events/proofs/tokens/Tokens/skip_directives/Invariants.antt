@@ -1,0 +1,12 @@
+use Rattle.snap_parse_events.proofs.Prelude.{◌≡◌, ◌≤◌, ℕ, List, ◌∷◌, false, TokenType, is_directive, tokens_left, Feeds, WillTake}
+use Rattle.snap_parse_events.proofs.tokens.Tokens.skip_directives.Given as goal
+
+abbrev pub invariant-directives : goal.invariant-directives
+invariant-directives l = record {
+  left : tokens_left l.self ≤ tokens_left l.fn.self;
+  feeds : (source : List ℕ) → Feeds source l.fn.self → Feeds source l.self;
+  takes : (t : TokenType) (ts : List TokenType) → is_directive t ≡ false → WillTake l.fn.self (t ∷ ts) → WillTake l.self (t ∷ ts);
+}
+
+abbrev pub decreases-directives : goal.decreases-directives
+decreases-directives l = tokens_left l.self

@@ -1,0 +1,19 @@
+-- Errors of loading.
+use Rattle.std.specs.Prelude.{List, ℕ}
+use Rattle.snap_scan_tokens.specs.declared.info.ScanError.{ScanError}
+use Rattle.snap_scan_tokens.specs.declared.info.ScanError.TheVariants as c
+use Rattle.snap_scan.specs.Sound.{IsFounded}
+use Rattle.snap_parse_events.specs.declared.error.LoadError.{LoadError}
+use Rattle.snap_parse_events.specs.declared.error.LoadError.TheVariants as l
+
+-- want of memory is one answer, wherever it comes from
+abbrev pub load_error : ScanError → LoadError
+load_error (c.Syntax mark info) = l.Scan (c.Syntax mark info)
+load_error c.OutOfMemory = l.OutOfMemory
+
+-- a refusal is one that the source explains, and never want of memory
+abbrev pub IsLoadFounded : List ℕ → LoadError → Type 0
+IsLoadFounded source (l.Scan (c.Syntax mark info)) = IsFounded source (c.Syntax mark info)
+IsLoadFounded source (l.Scan c.OutOfMemory) = ⊥
+IsLoadFounded source l.InsideDocument = Unit {0}
+IsLoadFounded source l.OutOfMemory = Unit {0}

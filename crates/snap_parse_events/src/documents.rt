@@ -1,0 +1,139 @@
+//! The stream and its documents.
+ghost use Rattle.std.specs.Prelude.{◌≡◌, ◌+◌, ◌*◌, ◌≤◌, ℕ, List, [], IfOk, OnOk, Some, true};
+ghost use Rattle.snap_event.specs.Meaning.{ahead, open_in, after};
+ghost use Rattle.snap_parse_events.specs.Feed.{tokens_left, starts};
+
+use crate::machine::{Machine, ParseResult};
+use crate::state::{Ends, Stage, State};
+use crate::tokens::unexpected;
+use snap_event::Event;
+use snap_scan_tokens::{ScanInfo, Token, TokenType};
+
+impl<'a> Machine<'a> {
+    ghost use Rattle.snap_parse_events.specs.Machine.{spot_of, meaning_now, events_now, IsSoundAhead, StaysSound, KeepsSoundIn, GivesIn, PaysIn, KeepsNames, StaysOnError};
+    ghost use Rattle.snap_parse_events.specs.Twin.{Follows, document_end_step, document_step, first_document_step, start_step, state_step, stream_step};
+
+    pub(crate) fn stream_start(&mut self) -> ParseResult<'a>
+        ensures event { IfOk result (λ given. after given.0 ahead ≡ Some (meaning_now self.new)) }
+        ensures left { OnOk result (events_now self.new + 1 ≤ 4 * tokens_left self.old.tokens) }
+        ensures names { KeepsNames result self.old self.new }
+        ensures same { StaysOnError result self.old self.new }
+        ensures sound { (source : List ℕ) → IsSoundAhead source self.old.tokens self.old.outer.items
+            → StaysSound source result self.new.tokens (spot_of self.new) }
+        ensures twin { Follows (stream_step self.old.outer.items) result self.old self.new }
+    {
+        match self.tokens.take()? {
+            Token(mark, TokenType::StreamStart(_)) => {
+                self.stage = Stage::Open(State::ImplicitDocumentStart);
+                Ok((Event::StreamStart, mark))
+            }
+            token => Err(unexpected(token, ScanInfo::P1)),
+        }
+    }
+
+    /// The start of the first document, which needs no mark, or the stream's end.
+    pub(crate) fn implicit_document_start(&mut self) -> ParseResult<'a>
+        ensures event { GivesIn State.ImplicitDocumentStart result self.old self.new }
+        ensures left { PaysIn State.ImplicitDocumentStart result self.old self.new }
+        ensures names { KeepsNames result self.old self.new }
+        ensures same { StaysOnError result self.old self.new }
+        ensures sound { KeepsSoundIn State.ImplicitDocumentStart result self.old self.new }
+        ensures twin { Follows (first_document_step self.old.outer.items)
+            result self.old self.new }
+    {
+        match self.tokens.take()? {
+            Token(mark, TokenType::StreamEnd) => {
+                self.stage = Stage::Ended;
+                Ok((Event::StreamEnd, mark))
+            }
+            Token(mark, TokenType::DocumentStart) => {
+                self.stage = Stage::Open(State::DocumentContent);
+                Ok((Event::DocumentStart, mark))
+            }
+            Token(_, TokenType::VersionDirective(..)) => self.explicit_document_start(),
+            Token(_, TokenType::TagDirective(..)) => self.explicit_document_start(),
+            token => {
+                let mark = token.0;
+                self.tokens.put_back(token);
+                self.stage = Stage::Open(State::BlockNode);
+                Ok((Event::DocumentStart, mark))
+            }
+        }
+    }
+
+    /// The start of a further document, or the stream's end.
+    pub(crate) fn document_start(&mut self) -> ParseResult<'a>
+        ensures event { GivesIn State.DocumentStart result self.old self.new }
+        ensures left { PaysIn State.DocumentStart result self.old self.new }
+        ensures names { KeepsNames result self.old self.new }
+        ensures same { StaysOnError result self.old self.new }
+        ensures sound { KeepsSoundIn State.DocumentStart result self.old self.new }
+        ensures twin { Follows (document_step self.old.outer.items) result self.old self.new }
+    {
+        self.tokens.skip_document_ends()?;
+        match self.tokens.take()? {
+            Token(mark, TokenType::StreamEnd) => {
+                self.stage = Stage::Ended;
+                Ok((Event::StreamEnd, mark))
+            }
+            token => {
+                self.tokens.put_back(token);
+                self.explicit_document_start()
+            }
+        }
+    }
+
+    /// A document's start that is written, behind its directives.
+    fn explicit_document_start(&mut self) -> ParseResult<'a>
+        ensures event { GivesIn State.DocumentStart result self.old self.new }
+        ensures left { PaysIn State.DocumentStart result self.old self.new }
+        ensures names { KeepsNames result self.old self.new }
+        ensures same { StaysOnError result self.old self.new }
+        ensures sound { KeepsSoundIn State.DocumentStart result self.old self.new }
+        ensures twin { Follows (start_step self.old.outer.items) result self.old self.new }
+    {
+        self.tokens.skip_directives()?;
+        match self.tokens.take()? {
+            Token(mark, TokenType::DocumentStart) => {
+                self.stage = Stage::Open(State::DocumentContent);
+                Ok((Event::DocumentStart, mark))
+            }
+            token => Err(unexpected(token, ScanInfo::P2)),
+        }
+    }
+
+    pub(crate) fn document_content(&mut self) -> ParseResult<'a>
+        ensures event { GivesIn State.DocumentContent result self.old self.new }
+        ensures left { PaysIn State.DocumentContent result self.old self.new }
+        ensures names { KeepsNames result self.old self.new }
+        ensures same { StaysOnError result self.old self.new }
+        ensures sound { KeepsSoundIn State.DocumentContent result self.old self.new }
+        ensures twin { Follows (state_step State.DocumentContent self.old.outer.items)
+            result self.old self.new }
+    {
+        self.parse_filled(Ends::Document, true, false, State::DocumentEnd)
+    }
+
+    /// The end of a document, which may be written.
+    pub(crate) fn document_end(&mut self) -> ParseResult<'a>
+        ensures event { GivesIn State.DocumentEnd result self.old self.new }
+        ensures left { PaysIn State.DocumentEnd result self.old self.new }
+        ensures names { KeepsNames result self.old self.new }
+        ensures same { StaysOnError result self.old self.new }
+        ensures sound { KeepsSoundIn State.DocumentEnd result self.old self.new }
+        ensures twin { Follows (document_end_step self.old.outer.items) result self.old self.new }
+    {
+        match self.tokens.take()? {
+            Token(mark, TokenType::DocumentEnd) => {
+                self.stage = Stage::Open(State::DocumentStart);
+                Ok((Event::DocumentEnd, mark))
+            }
+            token => {
+                let mark = token.0;
+                self.tokens.put_back(token);
+                self.stage = Stage::Open(State::DocumentStart);
+                Ok((Event::DocumentEnd, mark))
+            }
+        }
+    }
+}

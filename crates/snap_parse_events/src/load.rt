@@ -1,0 +1,120 @@
+//! Events handed on to a receiver.
+ghost use Rattle.std.specs.Prelude.{◌≡◌, ◌≢◌, ◌<◌, List, ◌∷◌, Err, None, Some, IfOk, OnOk, OnErr, IfErr, true, false};
+ghost use Rattle.snap_event.specs.declared.event.Event.{Event as EventSeen};
+ghost use Rattle.snap_event.specs.Meaning.{ahead, is_inside, is_stream_end};
+ghost use Rattle.snap_parse_events.specs.Errors.{IsLoadFounded};
+ghost use Rattle.snap_parse_events.specs.Parsing.{source, meaning, events_left, WillGive};
+ghost use Rattle.snap_parse_events.specs.Runs.{Steps, passed_of, stops, GetsMore, HandsOn, LoadsUpTo, LoadsPart, TellsStream};
+
+use crate::error::LoadError;
+use crate::parser::Parser;
+use snap_event::{Event, MarkedEventReceiver};
+use snap_scan_tokens::Marker;
+
+/// What kind of event was handed on, as far as loading has to know.
+#[derive(Clone, Copy, Debug, PartialEq, Eq)]
+pub enum Passed {
+    StreamEnd,
+    DocumentEnd,
+    Other,
+}
+
+impl Passed {
+    fn of(event: &Event<'_>) -> Passed
+        ensures { result ≡ passed_of event.now }
+    {
+        match event {
+            Event::StreamEnd => Passed::StreamEnd,
+            Event::DocumentEnd => Passed::DocumentEnd,
+            _ => Passed::Other,
+        }
+    }
+
+    /// Whether loading stops behind it.
+    fn stops(self, multi: bool) -> bool
+        ensures { result ≡ stops multi self }
+    {
+        match self {
+            Passed::StreamEnd => true,
+            Passed::DocumentEnd => !multi,
+            Passed::Other => false,
+        }
+    }
+}
+
+impl<'a> Parser<'a> {
+    /// The next event. At a document's start all names are forgotten.
+    fn next_forgetting(&mut self) -> Result<(Event<'a>, Marker), LoadError>
+        ensures ok { IfOk result (λ given. Steps given.0 self.old self.new) }
+        ensures goes { IfOk result (λ given. is_stream_end given.0 ≡ false
+            → events_left self.new < events_left self.old) }
+        ensures inside { IfErr result (λ e. e ≢ LoadError.InsideDocument) }
+        ensures memory { (events : List EventSeen) → WillGive self.old events
+            → IfErr result (λ e. e ≡ LoadError.OutOfMemory) }
+        ensures cause { IfErr result (λ e. IsLoadFounded (source self.old) e) }
+        ensures source { source self.new ≡ source self.old }
+    {
+        let (event, mark) = self.next()?;
+        if let Event::DocumentStart = event {
+            self.forget_names();
+        }
+        Ok((event, mark))
+    }
+
+    /// Hands one event on.
+    fn hand_on<R: MarkedEventReceiver>(&mut self, receiver: &mut R) -> Result<Passed, LoadError>
+        ensures ok { IfOk result (λ kind.
+            HandsOn R.told receiver.old receiver.new self.old self.new kind) }
+        ensures goes { IfOk result (λ kind. kind ≢ Passed.StreamEnd
+            → events_left self.new < events_left self.old) }
+        ensures err { (events : List EventSeen) → R.told receiver.old events
+            → OnErr result (R.told receiver.new events) }
+        ensures inside { IfErr result (λ e. e ≢ LoadError.InsideDocument) }
+        ensures memory { (events : List EventSeen) → WillGive self.old events
+            → IfErr result (λ e. e ≡ LoadError.OutOfMemory) }
+        ensures cause { IfErr result (λ e. IsLoadFounded (source self.old) e) }
+        ensures source { source self.new ≡ source self.old }
+    {
+        let (event, mark) = self.next_forgetting()?;
+        let passed = Passed::of(&event);
+        receiver.on_event(event, mark)?;
+        Ok(passed)
+    }
+
+    /// Hands events on, each document without the names of the one before: with `multi` all that are to come, else those of
+    /// one document, or StreamEnd where none is left. Inside a document it does nothing.
+    pub fn load<R: MarkedEventReceiver>(
+        &mut self,
+        receiver: &mut R,
+        multi: bool,
+    ) -> Result<(), LoadError>
+        ensures inside { is_inside (meaning self.old) ≡ true → (result ≡ Err LoadError.InsideDocument)
+            × (self.new ≡ self.old) × (receiver.new ≡ receiver.old) }
+        ensures outside { is_inside (meaning self.old) ≡ false
+            → IfErr result (λ e. e ≢ LoadError.InsideDocument) }
+        ensures ok { OnOk result
+            (LoadsUpTo R.told multi receiver.old receiver.new self.old self.new) }
+        ensures stream { multi ≡ true → meaning self.old ≡ ahead
+            → OnOk result (TellsStream R.told receiver.old receiver.new) }
+        ensures gives { (event : EventSeen) (events : List EventSeen) → multi ≡ true
+            → WillGive self.old (event ∷ events)
+            → OnOk result (GetsMore R.told receiver.old receiver.new (event ∷ events)) }
+        ensures closed { OnOk result (is_inside (meaning self.new) ≡ false) }
+        ensures err { is_inside (meaning self.old) ≡ false
+            → OnErr result (LoadsPart R.told multi receiver.old receiver.new self.old) }
+        ensures memory { (events : List EventSeen) → is_inside (meaning self.old) ≡ false
+            → WillGive self.old events → IfErr result (λ e. e ≡ LoadError.OutOfMemory) }
+        ensures cause { IfErr result (λ e. IsLoadFounded (source self.old) e) }
+        ensures source { source self.new ≡ source self.old }
+    {
+        if self.is_inside_document() {
+            return Err(LoadError::InsideDocument);
+        }
+        'events: loop {
+            let passed = self.hand_on(receiver)?;
+            if passed.stops(multi) {
+                return Ok(());
+            }
+        }
+    }
+}

@@ -1,0 +1,258 @@
+//! Nodes, with their anchors and tags.
+ghost use Rattle.std.specs.Prelude.{◌≡◌, ◌+◌, ◌*◌, ◌≤◌, ℕ, List, IfOk, OnOk, All, None, false, ◌∷◌, Some};
+ghost use Rattle.snap_scan.specs.Sound.{IsFounded};
+ghost use Rattle.snap_parse_events.specs.Feed.{tokens_left, Took};
+ghost use Rattle.snap_parse_events.specs.Names.{Names, Naming, IsAnchored};
+
+use crate::machine::{Machine, ParseResult};
+use crate::state::{Ends, Stage, State};
+use snap_content::{Lent, Text};
+use snap_event::{Event, Tag};
+use snap_scan_tokens::{Marker, ScanError, ScanInfo, TScalarStyle, Token, TokenType};
+
+impl<'a> Machine<'a> {
+    ghost use Rattle.snap_scan_tokens.specs.declared.token.TokenType.{TokenType as Kind};
+    ghost use Rattle.snap_parse_events.specs.Taking.{WillTake};
+    ghost use Rattle.snap_parse_events.specs.Machine.{spot_of, meaning_now, events_now, events_before, if_indentless, HasSigns, StaysSound, KeepsSoundIn, KeepsSoundFrom, GivesNode, KeepsNames, StaysOnError};
+    ghost use Rattle.snap_parse_events.specs.Twin.{Parsed, Parses, Follows, filled_step, node_step};
+
+    /// A node: its anchor and its tag, in either order, and what they stand before; or an alias.
+    pub(crate) fn parse_node(
+        &mut self,
+        is_block: bool,
+        is_indentless: bool,
+        behind: State,
+    ) -> ParseResult<'a>
+        ensures event { GivesNode behind result self.old self.new }
+        ensures left { OnOk result (events_now self.new + 2
+            ≤ events_before (tokens_left self.old.tokens) behind self.old + if_indentless is_indentless) }
+        ensures names { KeepsNames result self.old self.new }
+        ensures same { StaysOnError result self.old self.new }
+        ensures sound { KeepsSoundIn behind result self.old self.new }
+        ensures twin { Follows (node_step is_block is_indentless behind self.old.outer.items)
+            result self.old self.new }
+    {
+        let token = self.tokens.take()?;
+        self.parse_node_from(token, is_block, is_indentless, behind)
+    }
+
+    /// The node that a token begins, which was taken.
+    pub(crate) fn parse_node_from(
+        &mut self,
+        token: Token<'a>,
+        is_block: bool,
+        is_indentless: bool,
+        behind: State,
+    ) -> ParseResult<'a>
+        ensures event { GivesNode behind result self.old self.new }
+        ensures left { OnOk result (events_now self.new
+            ≤ events_before (tokens_left self.old.tokens) behind self.old
+            + (2 + if_indentless is_indentless)) }
+        ensures names { KeepsNames result self.old self.new }
+        ensures same { StaysOnError result self.old self.new }
+        ensures sound { (source : List ℕ) → Took source token.entry self.old.tokens
+            → HasSigns source behind → All (HasSigns source) self.old.outer.items
+            → StaysSound source result self.new.tokens (spot_of self.new) }
+        ensures twin { (rest : List Kind) (found : Parsed) → WillTake self.old.tokens rest
+            → self.old.tokens.held ≡ None
+            → node_step is_block is_indentless behind self.old.outer.items (token.entry.1 ∷ rest)
+            ≡ Some found
+            → Parses result (spot_of self.new) self.new.tokens found }
+    {
+        match token {
+            Token(mark, TokenType::Alias(name)) => self.parse_alias(mark, &name, behind),
+            Token(_, TokenType::Anchor(name)) => {
+                let anchor = self.anchors.register(name)?;
+                self.parse_anchored(anchor, is_block, is_indentless, behind)
+            }
+            Token(_, TokenType::Tag(handle, suffix)) => {
+                self.parse_tagged(Tag { handle, suffix }, is_block, is_indentless, behind)
+            }
+            token => self.parse_content(token, 0, None, is_block, is_indentless, behind),
+        }
+    }
+
+    /// The node of an anchor again.
+    fn parse_alias(&mut self, mark: Marker, name: &Text, behind: State) -> ParseResult<'a>
+        ensures event { GivesNode behind result self.old self.new }
+        ensures left { OnOk result (events_now self.new
+            ≤ events_before (tokens_left self.old.tokens) behind self.old) }
+        ensures names { KeepsNames result self.old self.new }
+        ensures same { StaysOnError result self.old self.new }
+        ensures sound { (source : List ℕ) → IsFounded source (ScanError.Syntax mark ScanInfo.P3)
+            → KeepsSoundFrom source behind result self.old self.new }
+    {
+        match self.anchors.id_of(name) {
+            None => Err(ScanError::Syntax(mark, ScanInfo::P3)),
+            Some(id) => {
+                self.stage = Stage::Open(behind);
+                Ok((Event::Alias(id), mark))
+            }
+        }
+    }
+
+    /// A node behind its anchor.
+    fn parse_anchored(
+        &mut self,
+        anchor: usize,
+        is_block: bool,
+        is_indentless: bool,
+        behind: State,
+    ) -> ParseResult<'a>
+        ensures event { GivesNode behind result self.old self.new }
+        ensures left { OnOk result (events_now self.new
+            ≤ events_before (tokens_left self.old.tokens) behind self.old + 1) }
+        ensures names { (old : Names) → IsAnchored anchor old self.old.anchors
+            → IfOk result (λ given. Naming given.0 old self.new.anchors) }
+        ensures same { StaysOnError result self.old self.new }
+        ensures sound { KeepsSoundIn behind result self.old self.new }
+    {
+        match self.tokens.take()? {
+            Token(_, TokenType::Tag(handle, suffix)) => {
+                let token = self.tokens.take()?;
+                let tag = Some(Tag { handle, suffix });
+                self.parse_content(token, anchor, tag, is_block, is_indentless, behind)
+            }
+            token => self.parse_content(token, anchor, None, is_block, is_indentless, behind),
+        }
+    }
+
+    /// A node behind its tag.
+    fn parse_tagged(
+        &mut self,
+        tag: Tag,
+        is_block: bool,
+        is_indentless: bool,
+        behind: State,
+    ) -> ParseResult<'a>
+        ensures event { GivesNode behind result self.old self.new }
+        ensures left { OnOk result (events_now self.new
+            ≤ events_before (tokens_left self.old.tokens) behind self.old + 1) }
+        ensures names { KeepsNames result self.old self.new }
+        ensures same { StaysOnError result self.old self.new }
+        ensures sound { KeepsSoundIn behind result self.old self.new }
+    {
+        match self.tokens.take()? {
+            Token(_, TokenType::Anchor(name)) => {
+                let anchor = self.anchors.register(name)?;
+                let token = self.tokens.take()?;
+                self.parse_content(token, anchor, Some(tag), is_block, is_indentless, behind)
+            }
+            token => self.parse_content(token, 0, Some(tag), is_block, is_indentless, behind),
+        }
+    }
+
+    /// A node behind its anchor and tag. With one of them it may be empty.
+    fn parse_content(
+        &mut self,
+        token: Token<'a>,
+        anchor: usize,
+        tag: Option<Tag>,
+        is_block: bool,
+        is_indentless: bool,
+        behind: State,
+    ) -> ParseResult<'a>
+        ensures event { GivesNode behind result self.old self.new }
+        ensures left { OnOk result (events_now self.new
+            ≤ events_before (tokens_left self.old.tokens) behind self.old + 5) }
+        ensures bare { anchor ≡ 0 → tag ≡ None → is_indentless ≡ false
+            → OnOk result (events_now self.new
+            ≤ events_before (tokens_left self.old.tokens) behind self.old + 2) }
+        ensures names { (old : Names) → IsAnchored anchor old self.old.anchors
+            → IfOk result (λ given. Naming given.0 old self.new.anchors) }
+        ensures same { StaysOnError result self.old self.new }
+        ensures sound { (source : List ℕ) → Took source token.entry self.old.tokens
+            → HasSigns source behind → All (HasSigns source) self.old.outer.items
+            → StaysSound source result self.new.tokens (spot_of self.new) }
+        ensures twin { (rest : List Kind) (found : Parsed) → anchor ≡ 0 → tag ≡ None
+            → WillTake self.old.tokens rest → self.old.tokens.held ≡ None
+            → node_step is_block is_indentless behind self.old.outer.items (token.entry.1 ∷ rest)
+            ≡ Some found
+            → Parses result (spot_of self.new) self.new.tokens found }
+    {
+        match token {
+            Token(mark, TokenType::Scalar(style, text)) => {
+                self.stage = Stage::Open(behind);
+                Ok((Event::Scalar(text, style, anchor, tag), mark))
+            }
+            Token(mark, TokenType::FlowSequenceStart) => {
+                self.begin(State::FlowSequenceFirstEntry, behind)?;
+                Ok((Event::SequenceStart(anchor), mark))
+            }
+            Token(mark, TokenType::FlowMappingStart) => {
+                self.begin(State::FlowMappingFirstKey, behind)?;
+                Ok((Event::MappingStart(anchor), mark))
+            }
+            Token(mark, TokenType::BlockSequenceStart) if is_block => {
+                self.begin(State::BlockSequenceEntry, behind)?;
+                Ok((Event::SequenceStart(anchor), mark))
+            }
+            Token(mark, TokenType::BlockMappingStart) if is_block => {
+                self.begin(State::BlockMappingKey, behind)?;
+                Ok((Event::MappingStart(anchor), mark))
+            }
+            Token(mark, TokenType::BlockEntry) if is_indentless => {
+                self.begin(State::IndentlessSequenceEntry, behind)?;
+                self.tokens.put_back(Token(mark, TokenType::BlockEntry));
+                Ok((Event::SequenceStart(anchor), mark))
+            }
+            token => self.parse_nothing(token, anchor, tag, behind),
+        }
+    }
+
+    /// Where no node begins: the empty text with the anchor and the tag that stand before it.
+    fn parse_nothing(
+        &mut self,
+        token: Token<'a>,
+        anchor: usize,
+        tag: Option<Tag>,
+        behind: State,
+    ) -> ParseResult<'a>
+        ensures event { GivesNode behind result self.old self.new }
+        ensures left { OnOk result (events_now self.new
+            ≤ events_before (tokens_left self.old.tokens) behind self.old + 4) }
+        ensures bare { anchor ≡ 0 → tag ≡ None → OnOk result (events_now self.new
+            ≤ events_before (tokens_left self.old.tokens) behind self.old) }
+        ensures names { (old : Names) → IsAnchored anchor old self.old.anchors
+            → IfOk result (λ given. Naming given.0 old self.new.anchors) }
+        ensures same { StaysOnError result self.old self.new }
+        ensures sound { (source : List ℕ) → Took source token.entry self.old.tokens
+            → HasSigns source behind → All (HasSigns source) self.old.outer.items
+            → StaysSound source result self.new.tokens (spot_of self.new) }
+    {
+        let mark = token.0;
+        if anchor == 0 && tag.is_none() {
+            return Err(ScanError::Syntax(mark, ScanInfo::P4));
+        }
+        self.tokens.put_back(token);
+        self.stage = Stage::Open(behind);
+        let event = Event::Scalar(Lent::borrowed(""), TScalarStyle::Plain, anchor, tag);
+        Ok((event, mark))
+    }
+
+    /// A node, or the scalar `~` where a token stands that ends it.
+    pub(crate) fn parse_filled(
+        &mut self,
+        ends: Ends,
+        is_block: bool,
+        is_indentless: bool,
+        behind: State,
+    ) -> ParseResult<'a>
+        ensures event { GivesNode behind result self.old self.new }
+        ensures left { OnOk result (events_now self.new
+            ≤ events_before (tokens_left self.old.tokens) behind self.old + 1) }
+        ensures names { KeepsNames result self.old self.new }
+        ensures same { StaysOnError result self.old self.new }
+        ensures sound { KeepsSoundIn behind result self.old self.new }
+        ensures twin { Follows (filled_step ends is_block is_indentless behind self.old.outer.items)
+            result self.old self.new }
+    {
+        let token = self.tokens.take()?;
+        if !ends.has(&token.1) {
+            return self.parse_node_from(token, is_block, is_indentless, behind);
+        }
+        let mark = token.0;
+        self.tokens.put_back(token);
+        self.give_empty(mark, behind)
+    }
+}

@@ -1,8 +1,0 @@
-use Rattle.snap_parser.proofs.Prelude.{◌∙◌, ap, ℕ, Option, Names, id_of}
-use Rattle.snap_parser.proofs.Naming.{known-is}
-use Rattle.snap_parser.proofs.anchors.Anchors.id_of.Goals as goal
-
-pub returns : goal.returns
-returns c =
-    let f : Names → Option ℕ = λ v. id_of c.args.name.now v in
-    known-is c.copied.result c.args.name.now c.args.self.now (c.copied.ensures ∙ c.get.ensures.value ∙ ap f c.self.view_is)

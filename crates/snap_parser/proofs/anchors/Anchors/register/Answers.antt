@@ -1,8 +1,0 @@
-use Rattle.snap_parser.proofs.Prelude.{rules}
-use Rattle.snap_parser.proofs.Naming.{registers}
-use Rattle.snap_parser.proofs.anchors.Anchors.register.Goals as goal
-
-pub returns-clause-ok : goal.returns-clause-ok
-returns-clause-ok c =
-    registers c.self.inside.next c.args.name c.self.inside.ids.entries c.insert.new.self.entries c.in-Some.next c.args.self.now c.self.view_is c.self.invariant
-    (search rules) c.in_ok-insert.ensures.updates.0

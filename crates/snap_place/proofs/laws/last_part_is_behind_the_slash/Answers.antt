@@ -1,5 +1,0 @@
-use Rattle.snap_place.proofs.LastPart.{alone, behind}
-use Rattle.snap_place.proofs.laws.last_part_is_behind_the_slash.Goals as goal
-
-pub returns : goal.returns
-returns c = record { alone = alone; behind = behind }

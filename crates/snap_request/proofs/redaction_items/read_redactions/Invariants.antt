@@ -1,6 +1,0 @@
-use Rattle.snap_request.proofs.Prelude.{drop, replacements_of}
-use Rattle.snap_request.proofs.RedactionsRead.{ReadsOn}
-use Rattle.snap_request.proofs.redaction_items.read_redactions.Given as goal
-
-abbrev pub invariant-loop-item : goal.invariant-loop-item
-invariant-loop-item l = ReadsOn l.fn.items (drop l.item-index l.items) (replacements_of l.redactions.items)

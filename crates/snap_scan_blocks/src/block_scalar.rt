@@ -1,0 +1,52 @@
+//! Block scalars: lines behind `|` or `>`.
+ghost use Rattle.std.specs.Prelude.{ℕ, ◌≡◌, ◌+◌, ◌≤◌, true, codes, OnOk, IfOk, IfErr, length, slice_index};
+ghost use Rattle.snap_scan_tokens.specs.Causes.{IsExplained, is_among};
+ghost use Rattle.snap_scan_tokens.specs.Place.{Place, Later};
+ghost use Rattle.snap_scan_blocks.specs.Block.{block_from, ReadsBlock};
+
+use crate::header::scan_header;
+use crate::indentation::scan_opening;
+use crate::lines::Lines;
+use snap_content::Lent;
+use snap_scan_tokens::cursor::Cursor;
+use snap_scan_tokens::info::ScanError;
+use snap_scan_tokens::marker::Marker;
+use std::alloc::Global;
+
+/// A block scalar, and the place where its content begins.
+#[derive(Debug, Drop)]
+pub struct BlockScalar<'a> {
+    pub mark: Marker,
+    pub text: Lent<'a>,
+}
+
+/// Reads a block scalar. `indent` is the column of the innermost block, from which a given indentation counts.
+pub fn scan_block_scalar<'a>(
+    alloc: Global,
+    cursor: &mut Cursor<'a>,
+    indent: Option<usize>,
+    literal: bool,
+) -> Result<BlockScalar<'a>, ScanError>
+    requires { is_among (codes "|>") (slice_index cursor.old.left 0) ≡ true }
+    ensures value { ReadsBlock (block_from indent literal cursor.old) result cursor.new }
+    ensures onward { (p : Place) → Later p cursor.old → Later p cursor.new }
+    ensures sum { cursor.new.index + length cursor.new.left
+        ≡ cursor.old.index + length cursor.old.left }
+    ensures lighter { length cursor.new.left ≤ length cursor.old.left }
+    ensures falls { OnOk result (length cursor.new.left + 1 ≤ length cursor.old.left) }
+    ensures mark { IfOk result (λ s. (cursor.old.index ≤ s.mark.index)
+        × (s.mark.index ≤ cursor.new.index)) }
+    ensures cause { IfErr result (λ e. IsExplained cursor.old e) }
+{
+    let start = cursor.mark();
+    let header = scan_header(cursor, start)?;
+    let mut lines = Lines::new();
+    let indentation = scan_opening(alloc, cursor, header, indent, &mut lines.breaks)?;
+    let mark = cursor.mark();
+    lines.scan(alloc, cursor, indentation, literal)?;
+    let text = lines.finish(alloc, header.chomping)?;
+    Ok(BlockScalar {
+        mark,
+        text: Lent::owned(text),
+    })
+}

@@ -1,0 +1,13 @@
+use Rattle.snap_text_literals.proofs.Prelude.{◌≡◌, ◌++◌, length, Utf8, shadow, flat_map, chars, framed_line, line_parts}
+use Rattle.snap_text_literals.proofs.spelling.push_shown.Given as goal
+
+abbrev pub invariant-loop-line : goal.invariant-loop-line
+invariant-loop-line l = record {
+  utf8 : shadow (Utf8 l.rest);
+  same :
+      l.made ++ flat_map (framed_line (chars l.fn.indentation)) (line_parts (chars l.rest))
+      ≡ l.fn.made ++ flat_map (framed_line (chars l.fn.indentation)) (line_parts (chars l.fn.text));
+}
+
+abbrev pub decreases-loop-line : goal.decreases-loop-line
+decreases-loop-line l = length (chars l.rest)

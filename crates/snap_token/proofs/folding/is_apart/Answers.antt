@@ -1,6 +1,0 @@
-use Rattle.snap_token.proofs.Prelude.{ap, not}
-use Rattle.snap_token.proofs.Empties.{same-length}
-use Rattle.snap_token.proofs.folding.is_apart.Goals as goal
-
-pub returns : goal.returns
-returns c = ap not (same-length c.args.text.now c.args.rest.now c.utf8.text c.utf8.rest c.requires)
