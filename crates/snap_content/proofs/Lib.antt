@@ -1,7 +1,6 @@
 mod Prelude
 pub mod Views
 pub mod Ascii
-pub mod AsciiBytes
 pub mod Ends
 pub mod PlainMade
 pub mod Ordered

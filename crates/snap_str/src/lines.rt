@@ -1,9 +1,35 @@
 //! A text line by line, without memory.
 ghost use Rattle.std.specs.Prelude.{◌≡◌, ◌<◌, [], ◌∷◌, length, IfSome, MatchOption};
 ghost use Rattle.std.specs.Str.{chars};
-ghost use Rattle.snap_str.specs.Lines.{without_return, lines, ended_lines};
+ghost use Rattle.snap_str.specs.Cut.{Lacks, IsCutAtFirst};
+ghost use Rattle.snap_str.specs.Lines.{without_return, lines, ended_lines, FindsLineEnd};
 
-use crate::cut::{split_once, strip_suffix};
+use crate::cut::strip_suffix;
+use memchr::memchr;
+
+/// At which byte the first line ends; none where no line does. A search for one byte is much faster than one for a character.
+fn first_line_end(text: &str) -> Option<usize>
+    ensures { FindsLineEnd text.now result }
+{
+    memchr(b'\n', text.as_bytes())
+}
+
+/// What stands before the first line's end, and after it; none where the text holds none.
+pub fn split_line(text: &str) -> Option<(&str, &str)>
+    ensures cut { MatchOption result (Lacks 10 (chars text.now))
+        (λ parts. IsCutAtFirst 10 (chars text.now) (chars parts.0.now) (chars parts.1.now)) }
+    ensures shorter { IfSome result (λ parts.
+        length (chars parts.1.now) < length (chars text.now)) }
+{
+    match first_line_end(text) {
+        None => None,
+        Some(at) => {
+            let (_, rest) = text.split_at(at + 1);
+            let (line, _) = text.split_at(at);
+            Some((line, rest))
+        }
+    }
+}
 
 /// The line without one return at its end.
 fn without_return(line: &str) -> &str
@@ -22,7 +48,7 @@ pub fn next_line(text: &str) -> Option<(&str, &str)>
     ensures shorter { IfSome result (λ parts.
         length (chars parts.1.now) < length (chars text.now)) }
 {
-    match split_once(text, '\n') {
+    match split_line(text) {
         Some((line, rest)) => Some((without_return(line), rest)),
         None if text.is_empty() => None,
         None => Some((text, "")),
@@ -37,7 +63,7 @@ pub fn next_ended_line(text: &str) -> Option<(&str, &str)>
     ensures shorter { IfSome result (λ parts.
         length (chars parts.1.now) < length (chars text.now)) }
 {
-    match text.find('\n') {
+    match first_line_end(text) {
         Some(at) => Some(text.split_at(at + 1)),
         None if text.is_empty() => None,
         None => Some((text, "")),
