@@ -17,3 +17,4 @@ mod Settled
 mod Visits
 mod ListOrder
 pub mod WalkTurns
+mod FirstByte

@@ -1,5 +1,5 @@
 //! Kinds of characters, and the characters of a text one by one.
-ghost use Rattle.std.specs.Prelude.{◌≡◌, ℕ, List, [], ◌∷◌, MatchOption, slice_index};
+ghost use Rattle.std.specs.Prelude.{◌≡◌, ◌≢◌, true, ℕ, List, [], ◌∷◌, MatchOption, slice_index};
 ghost use Rattle.std.specs.Str.{chars};
 ghost use Rattle.snap_scan_tokens.specs.Place.{before_nul};
 ghost use Rattle.snap_scan_tokens.specs.Characters.{is_break, is_blank, is_break_or_end, is_blank_or_end, is_flow_sign, is_digit, is_alpha, is_uri, is_of};
@@ -107,9 +107,10 @@ pub fn is_uri(c: char) -> bool
 }
 
 impl Kind {
-    /// Whether a character is of this kind.
+    /// Whether a character is of this kind. No kind has the line feed.
     pub fn has(self, c: char) -> bool
-        ensures { result ≡ is_of self c }
+        ensures value { result ≡ is_of self c }
+        ensures in_line { result ≡ true → c ≢ 10 }
     {
         match self {
             Kind::Blank => is_blank(c),
