@@ -1,6 +1,6 @@
 mod Prelude
 mod Cuts
+pub mod AsciiBytes
+mod Bytes
 mod Trims
 pub mod LineTexts
-pub mod AsciiBytes
-mod LineEnds

@@ -1,7 +1,8 @@
 -- The first line of a text.
 use Rattle.snap_str.proofs.Prelude.{◌≡◌, ◌≢◌, ◌==◌, ℕ, ◌+◌, ◌<◌, List, [], ◌∷◌, ◌++◌, Bool, true, false, ◌&&◌, cond, length, take, drop, refl, sym, ap, ◌∙◌, arith, append_assoc, or_parts, ne_eqb, take-append-drop, append_cancel_right, chars-nil, chars-append, IsUtf8-take, encodes-chars, list_any, chars, IsUtf8, Lacks, IsCutAtFirst, encodes}
-use Rattle.snap_str.proofs.Cuts.{parted, lacks, CutsFirst, cuts_first}
-use Rattle.snap_str.specs.Lines.{onto, lines, ended_lines, without_return, IsFirstLineEnd}
+use Rattle.snap_str.proofs.Cuts.{parted, lacks}
+use Rattle.snap_str.specs.Lines.{onto, lines, ended_lines, without_return}
+use Rattle.snap_str.specs.Cut.{IsFirstByte}
 
 abbrev is_end : ℕ → Bool
 is_end c = c == 10
@@ -112,7 +113,7 @@ pub record SplitsLine (text line more : List ℕ) : Type 0 where
   pub cut : ended_lines (chars text) ≡ chars line ∷ ended_lines (chars more)
   pub shorter : length (chars more) < length (chars text)
 
-pub splits_line : (s line more : List ℕ) (i : ℕ) → IsUtf8 s → IsFirstLineEnd s i → line ≡ take (i + 1) s → more ≡ drop (i + 1) s → SplitsLine s line more
+pub splits_line : (s line more : List ℕ) (i : ℕ) → IsUtf8 s → IsFirstByte 10 s i → line ≡ take (i + 1) s → more ≡ drop (i + 1) s → SplitsLine s line more
 splits_line s line more i u e line_is more_is =
     let j : ℕ = i + 1 in
     let none = e.first.0 in
@@ -129,7 +130,3 @@ splits_line s line more i u e line_is more_is =
       cut = ap ended_lines p.is ∙ ended-line before (chars more) first ∙ ap (λ l. l ∷ ended_lines (chars more)) (sym line_chars);
       shorter = p.back_shorter;
     }
-
--- the parts before and after it
-pub splits_round : (s line more : List ℕ) (i : ℕ) → IsUtf8 s → IsFirstLineEnd s i → line ≡ take i s → more ≡ drop (i + 1) s → CutsFirst 10 s line more
-splits_round s line more i u e line_is more_is = cuts_first 10 s line more i (i + 1) u refl e.first line_is more_is e.before.0

@@ -1,7 +1,5 @@
 -- The lines of a text.
-use Rattle.std.specs.Prelude.{◌==◌, ◌+◌, ◌&&◌, ℕ, List, [], ◌∷◌, Bool, false, Option, None, Some, if◌then◌else◌}
-use Rattle.std.specs.Str.{NoCharPasses, IsCharBoundary}
-use Rattle.std.specs.Str.Pattern.{FindsChar}
+use Rattle.std.specs.Prelude.{◌==◌, ◌&&◌, ℕ, List, [], ◌∷◌, Bool, false, if◌then◌else◌}
 
 -- the text begins with a line's end
 abbrev pub begins_line_end : List ℕ → Bool
@@ -28,14 +26,3 @@ abbrev pub without_return : List ℕ → List ℕ
 without_return [] = []
 without_return (c ∷ []) = if c == 13 then [] else c ∷ []
 without_return (c ∷ d ∷ ds) = c ∷ without_return (d ∷ ds)
-
--- the first line's end of a text is this byte of it, where the text may be cut, and after it too
-pub record IsFirstLineEnd (text : List ℕ) (i : ℕ) : Type 0 where
-  pub first : FindsChar 10 text (Some (i, i + 1))
-  pub before : IsCharBoundary text i
-  pub after : IsCharBoundary text (i + 1)
-
--- at which byte of a text its first line ends, if one does
-abbrev pub FindsLineEnd : List ℕ → Option ℕ → Type 0
-FindsLineEnd text None = NoCharPasses (λ c. c == 10) text
-FindsLineEnd text (Some i) = IsFirstLineEnd text i

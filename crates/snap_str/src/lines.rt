@@ -2,17 +2,9 @@
 ghost use Rattle.std.specs.Prelude.{◌≡◌, ◌<◌, [], ◌∷◌, length, IfSome, MatchOption};
 ghost use Rattle.std.specs.Str.{chars};
 ghost use Rattle.snap_str.specs.Cut.{Lacks, IsCutAtFirst};
-ghost use Rattle.snap_str.specs.Lines.{without_return, lines, ended_lines, FindsLineEnd};
+ghost use Rattle.snap_str.specs.Lines.{without_return, lines, ended_lines};
 
-use crate::cut::strip_suffix;
-use memchr::memchr;
-
-/// At which byte the first line ends; none where no line does. A search for one byte is much faster than one for a character.
-fn first_line_end(text: &str) -> Option<usize>
-    ensures { FindsLineEnd text.now result }
-{
-    memchr(b'\n', text.as_bytes())
-}
+use crate::cut::{find_byte, split_at_byte, strip_suffix};
 
 /// What stands before the first line's end, and after it; none where the text holds none.
 pub fn split_line(text: &str) -> Option<(&str, &str)>
@@ -21,14 +13,7 @@ pub fn split_line(text: &str) -> Option<(&str, &str)>
     ensures shorter { IfSome result (λ parts.
         length (chars parts.1.now) < length (chars text.now)) }
 {
-    match first_line_end(text) {
-        None => None,
-        Some(at) => {
-            let (_, rest) = text.split_at(at + 1);
-            let (line, _) = text.split_at(at);
-            Some((line, rest))
-        }
-    }
+    split_at_byte(text, b'\n')
 }
 
 /// The line without one return at its end.
@@ -63,7 +48,7 @@ pub fn next_ended_line(text: &str) -> Option<(&str, &str)>
     ensures shorter { IfSome result (λ parts.
         length (chars parts.1.now) < length (chars text.now)) }
 {
-    match first_line_end(text) {
+    match find_byte(text, b'\n') {
         Some(at) => Some(text.split_at(at + 1)),
         None if text.is_empty() => None,
         None => Some((text, "")),
