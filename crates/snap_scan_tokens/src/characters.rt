@@ -109,7 +109,6 @@ pub fn is_uri(c: char) -> bool
 
 impl Kind {
     /// Whether a character is of this kind. No kind has the line feed.
-    #[inline(always)]
     pub fn has(self, c: char) -> bool
         ensures value { result ≡ is_of self c }
         ensures in_line { result ≡ true → c ≢ 10 }
