@@ -1,6 +1,7 @@
 -- What open blocks do to an assertion.
-use Rattle.snap_assert.proofs.Prelude.{◌≡◌, ℕ, Bool, cond, List, [], ◌∷◌, Option, None, Some, refl, ap, ◌∙◌, false_from_ne_true, bytes_eq-Decides, some_same, Files, legacy_of, Agree, SnapshotContents, Text, Binary, Assertion, Left, asked_in, key_in, new_contents, goes_on, is_refused, in_block, by_blocks, assertion_step, SessionView, Update}
+use Rattle.snap_assert.proofs.Prelude.{◌≡◌, ℕ, Bool, cond, List, [], ◌∷◌, Option, None, Some, refl, ap, ◌∙◌, false_from_ne_true, bytes_eq-Decides, some_same, Files, normal_of, legacy_of, bytes_eq, Agree, SnapshotContents, Text, Binary, Assertion, Left, asked_in, key_in, new_contents, goes_on, is_refused, in_block, by_blocks, assertion_step, SessionView, Update}
 use Rattle.std.specs.Bool.{Decides}
+use Rattle.std.proofs.lemmas.Bool.Decides.{Decides-or}
 use Rattle.snap_assert.specs.Blocks.{Block, kept_for, same_payload, do_agree}
 
 payloads : (a b : Option (List ℕ)) → Decides (same_payload a b) (a ≡ b)
@@ -10,7 +11,8 @@ payloads (Some a) None = (λ e. cc, λ h. cc)
 payloads (Some a) (Some b) = (λ e. ap Some ((bytes_eq-Decides a b).0 e), λ h. (bytes_eq-Decides a b).1 (some_same a b h))
 
 agreement : (a b : SnapshotContents) → Decides (do_agree a b) (Agree a b)
-agreement (Text a) (Text b) = bytes_eq-Decides (legacy_of a) (legacy_of b)
+agreement (Text a) (Text b) =
+    Decides-or (bytes_eq (normal_of a) (normal_of b)) (bytes_eq (legacy_of a) (legacy_of b)) (bytes_eq-Decides (normal_of a) (normal_of b)) (bytes_eq-Decides (legacy_of a) (legacy_of b))
 agreement (Text a) (Binary b) = (λ e. cc, λ h. absurd h)
 agreement (Binary a) (Text b) = (λ e. cc, λ h. absurd h)
 agreement (Binary a) (Binary b) = payloads a b

@@ -1,8 +1,9 @@
 -- What a reading of a file says of a pass.
 use Rattle.snap_assert.proofs.Prelude.{◌≡◌, ◌↔◌, inl, inr, IsTrue, ℕ, Bool, true, false, cond, List, Option, None, Some, refl, sym, ap, ◌∙◌, subst, codes, Plain, dict, Entries, Blocks, is_trimmed, text_of, Error, FailedParsingYaml, UnexpectedDataType, MissingField, FileIo, FloatText, JsonKey, NotText, NoFile, OutOfMemory, raw_of, kind_of, compared_as, legacy_as, TextSnapshotKind, File, legacy, Agree, is_headed, body_of, Meta, IsTextFile, HasHeader, HoldsBody, IsReadAs, IsRefused, Tells, meta_in, contents_in, legacy_in, text_in, IsFileText, SnapshotContents, Text, Binary, SnapshotKind, Snapshot, BodyAgrees, HasTextHeader, HasBinaryHeader, IsLegacyFile, IsUnread, May, some_same, false_from_ne_true}
+use Rattle.snap_text.proofs.Agreeing.{files_older}
 use Rattle.snap_store.specs.Fields.{is_binary, kind_in, binary_kind, last_value, text_value}
 use Rattle.snap_store.specs.declared.metadata.SnapshotKind.TheVariants as kind
-use Rattle.snap_assert.proofs.Readings.{one_text, no_text_file, text_or_none, one_reading, headed_or_not, entries_same}
+use Rattle.snap_store.proofs.Readings.{one_text, no_text_file, text_or_none, one_reading, headed_or_not, entries_same}
 use Rattle.snap_assert.proofs.Saved.{against_saved}
 
 -- a pass that is decided by three facts and three refusals
@@ -80,7 +81,9 @@ fresh_legacy k raw printed e file =
 held_agrees : (k : SnapshotKind) (body printed : List ℕ) (old new : SnapshotContents) → HoldsBody k body old → text_in new ≡ Some printed → IsFileText new → Agree old new
     → legacy body ≡ legacy printed
 held_agrees kind.Text body printed (Text held) (Text fresh) h e f a =
-    sym (held_legacy (kind_of held) (raw_of held) body h.0 h.1) ∙ a ∙ fresh_legacy (kind_of fresh) (raw_of fresh) printed e f
+    sym (held_legacy (kind_of held) (raw_of held) body h.0 h.1)
+    ∙ files_older (kind_of held) (kind_of fresh) (raw_of held) (raw_of fresh) h.1 f a
+    ∙ fresh_legacy (kind_of fresh) (raw_of fresh) printed e f
 held_agrees kind.Text body printed (Text held) (Binary payload) h e f a = absurd a
 held_agrees kind.Text body printed (Binary payload) new h e f a = absurd h
 held_agrees (kind.Binary extension) body printed (Text held) new h e f a = absurd h
@@ -90,7 +93,7 @@ held_agrees (kind.Binary extension) body printed (Binary payload) (Binary other)
 agrees_held : (body printed : List ℕ) (old new : SnapshotContents) → HoldsBody kind.Text body old → text_in new ≡ Some printed → IsFileText new → legacy body ≡ legacy printed
     → Agree old new
 agrees_held body printed (Text held) (Text fresh) h e f n =
-    held_legacy (kind_of held) (raw_of held) body h.0 h.1 ∙ n ∙ sym (fresh_legacy (kind_of fresh) (raw_of fresh) printed e f)
+    inr (held_legacy (kind_of held) (raw_of held) body h.0 h.1 ∙ n ∙ sym (fresh_legacy (kind_of fresh) (raw_of fresh) printed e f))
 agrees_held body printed (Text held) (Binary payload) h e f n = absurd f
 agrees_held body printed (Binary payload) new h e f n = absurd h
 

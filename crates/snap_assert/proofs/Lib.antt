@@ -1,6 +1,5 @@
 mod Prelude
 mod Below
-mod Readings
 mod Saved
 mod Judgements
 mod StrayPaths

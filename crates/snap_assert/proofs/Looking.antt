@@ -7,7 +7,7 @@ use Rattle.snap_assert.specs.declared.error.AssertError.TheVariants as stop
 use Rattle.snap_assert.specs.declared.outcome.Warning.{Warning}
 use Rattle.snap_assert.specs.declared.outcome.Warning.TheVariants.{Unreadable, LegacyContents}
 use Rattle.snap_assert.proofs.Judgements.{read_judged, refused_no_pass}
-use Rattle.snap_assert.proofs.Readings.{one_text}
+use Rattle.snap_store.proofs.Readings.{one_text}
 
 no_warning : (path : List ℕ) (file : Option (List ℕ)) (passed : Bool) (printed : List ℕ) (ws : List Warning) → ws ≡ [] → AreWarnings path file passed printed [] → AreWarnings path file passed printed ws
 no_warning path file passed printed ws none h = let P : List Warning → Type 0 = λ w. AreWarnings path file passed printed w in subst P (sym none) h

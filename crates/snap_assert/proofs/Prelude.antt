@@ -33,7 +33,7 @@ pub use Rattle.snap_store.specs.declared.contents.SnapshotContents.{SnapshotCont
 pub use Rattle.snap_store.specs.declared.contents.SnapshotContents.TheVariants.{Text, Binary}
 pub use Rattle.snap_store.specs.declared.metadata.SnapshotKind.{SnapshotKind}
 pub use Rattle.snap_store.specs.declared.snapshot.Snapshot.{Snapshot}
-pub use Rattle.snap_text.specs.Contents.{legacy_of, raw_of, kind_of, compared_as, legacy_as, compared_of}
+pub use Rattle.snap_text.specs.Contents.{normal_of, legacy_of, raw_of, kind_of, compared_as, legacy_as, compared_of}
 pub use Rattle.snap_text.specs.Legacy.{legacy, without_breaks, without_fence}
 pub use Rattle.snap_text.specs.Normal.{normal, unreturned}
 pub use Rattle.snap_text.specs.declared.contents.TextSnapshotKind.{TextSnapshotKind}

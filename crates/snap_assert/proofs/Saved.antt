@@ -4,7 +4,7 @@ use Rattle.snap_emit.proofs.OneText.{texts_same}
 use Rattle.snap_text.proofs.NormalForms.{normal-printed}
 use Rattle.snap_text.proofs.OlderForms.{legacy-printed}
 use Rattle.snap_assert.proofs.Below.{splits-file_of, normal-ended}
-use Rattle.snap_assert.proofs.Readings.{one_text}
+use Rattle.snap_store.proofs.Readings.{one_text}
 
 -- two printed trees with one older form are one tree
 pub forms_same : (w : Blocks) (a b : Plain) → is_trimmed w ≡ true → IsWithin a → IsWithin b → legacy (text_of w a) ≡ legacy (text_of w b) → a ≡ b

@@ -1,7 +1,7 @@
 -- What open blocks of duplicates keep: for each key the contents that were asserted first.
-use Rattle.std.specs.Prelude.{◌==◌, ◌&&◌, ℕ, Bool, true, false, List, [], ◌∷◌, Option, None, Some, if◌then◌else◌}
+use Rattle.std.specs.Prelude.{◌==◌, ◌&&◌, ◌||◌, ℕ, Bool, true, false, List, [], ◌∷◌, Option, None, Some, if◌then◌else◌}
 use Rattle.std.specs.Str.{bytes_eq}
-use Rattle.snap_text.specs.Contents.{legacy_of}
+use Rattle.snap_text.specs.Contents.{normal_of, legacy_of}
 use Rattle.snap_store.specs.declared.contents.SnapshotContents.{SnapshotContents}
 use Rattle.snap_store.specs.declared.contents.SnapshotContents.TheVariants.{Text, Binary}
 use Rattle.snap_assert.specs.declared.error.DuplicateKey.{DuplicateKey}
@@ -27,6 +27,6 @@ same_payload _ _ = false
 
 -- whether contents agree; law `a_block_keeps_the_first` holds it to `Agree`
 abbrev pub do_agree : SnapshotContents → SnapshotContents → Bool
-do_agree (Text a) (Text b) = bytes_eq (legacy_of a) (legacy_of b)
+do_agree (Text a) (Text b) = bytes_eq (normal_of a) (normal_of b) || bytes_eq (legacy_of a) (legacy_of b)
 do_agree (Binary a) (Binary b) = same_payload a b
 do_agree _ _ = false

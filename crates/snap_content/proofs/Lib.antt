@@ -1,7 +1,6 @@
 mod Prelude
 pub mod Views
 pub mod Ascii
-pub mod AsciiBytes
 pub mod Ends
 pub mod PlainMade
 pub mod Ordered
@@ -18,3 +17,4 @@ mod Settled
 mod Visits
 mod ListOrder
 pub mod WalkTurns
+mod FirstByte

@@ -13,7 +13,7 @@ use crate::scalars::{push_run, push_word};
 use memchr::{memchr, memchr2};
 use snap_content::characters::{split_first, split_last};
 use snap_content::{OutOfMemory, Text};
-use snap_str::cut::split_once;
+use snap_str::lines::split_line;
 use std::alloc::Global;
 
 /// Whether the text is written as a block, where it is an item or a value.
@@ -130,7 +130,7 @@ fn push_lines(out: &mut Text, alloc: Global, column: usize, text: &str) -> Resul
     ensures err { OnErr result (IsBegun out.old out.new (shifted column (chars text.now))) }
 {
     let mut rest = text;
-    'lines: while let Some((line, behind)) = split_once(rest, '\n') {
+    'lines: while let Some((line, behind)) = split_line(rest) {
         push_line(out, alloc, column, line)?;
         rest = behind;
     }

@@ -9,3 +9,4 @@ pub mod Singles
 pub mod Doubles
 pub mod Explained
 pub mod Backslashes
+mod Nuls

@@ -1,10 +1,11 @@
 //! Kinds of characters, and the characters of a text one by one.
-ghost use Rattle.std.specs.Prelude.{◌≡◌, ℕ, List, [], ◌∷◌, MatchOption, slice_index};
+ghost use Rattle.std.specs.Prelude.{◌≡◌, ◌≢◌, true, ℕ, List, [], ◌∷◌, MatchOption, slice_index};
 ghost use Rattle.std.specs.Str.{chars};
 ghost use Rattle.snap_scan_tokens.specs.Place.{before_nul};
 ghost use Rattle.snap_scan_tokens.specs.Characters.{is_break, is_blank, is_break_or_end, is_blank_or_end, is_flow_sign, is_digit, is_alpha, is_uri, is_of};
 
 use snap_content::characters::split_first;
+use snap_str::cut::split_at_byte;
 
 /// The kinds of characters that are passed in runs.
 #[derive(Clone, Copy, Debug, PartialEq, Eq)]
@@ -107,9 +108,10 @@ pub fn is_uri(c: char) -> bool
 }
 
 impl Kind {
-    /// Whether a character is of this kind.
+    /// Whether a character is of this kind. No kind has the line feed.
     pub fn has(self, c: char) -> bool
-        ensures { result ≡ is_of self c }
+        ensures value { result ≡ is_of self c }
+        ensures in_line { result ≡ true → c ≢ 10 }
     {
         match self {
             Kind::Blank => is_blank(c),
@@ -145,10 +147,8 @@ pub fn character_at(text: &str, place: usize) -> char
 pub fn before_nul(text: &str) -> &str
     ensures { chars result.now ≡ before_nul (chars text.now) }
 {
-    let bytes = text.as_bytes();
-    let mut end = 0;
-    while end < bytes.len() && bytes[end] != 0 {
-        end += 1;
+    match split_at_byte(text, 0) {
+        None => text,
+        Some((before, _)) => before,
     }
-    &text[..end]
 }

@@ -1,5 +1,5 @@
 //! A text from its first character to its end, as its readers see it: the characters that are left.
-ghost use Rattle.std.specs.Prelude.{◌≡◌, ◌≢◌, ℕ, ◌+◌, ◌≤◌, List, false, length, slice_index};
+ghost use Rattle.std.specs.Prelude.{◌≡◌, ◌≢◌, ℕ, ◌+◌, ◌≤◌, List, ◌∷◌, false, length, slice_index};
 ghost use Rattle.std.specs.Str.{chars};
 ghost use Rattle.snap_scan_tokens.specs.Place.{Place, Later, before_nul, start_of, mark_of, skipped, skipped_while, forced};
 ghost use Rattle.snap_scan_tokens.specs.Characters.{is_of, past_break, past_comment, is_document_start, is_document_end, is_document_indicator};
@@ -131,6 +131,23 @@ impl<'a> Cursor<'a> {
         }
     }
 
+    /// Passes the character that stands here before the rest, and ends no line.
+    fn pass(&mut self, first: char, rest: &'a str)
+        requires here { self.old.left ≡ first ∷ chars rest.now }
+        requires in_line { first ≢ 10 }
+        ensures value { self.new ≡ skipped self.old }
+        ensures onward { (p : Place) → Later p self.old → Later p self.new }
+        ensures within { (all : List ℕ) → EndsIn all self.old.left → EndsIn all self.new.left }
+        ensures sum { self.new.index + length self.new.left
+            ≡ self.old.index + length self.old.left }
+        ensures lighter { length self.new.left ≤ length self.old.left }
+        ensures falls { length self.new.left + 1 ≤ length self.old.left }
+    {
+        self.rest = rest;
+        self.index += 1;
+        self.col += 1;
+    }
+
     /// Passes the characters of a kind that stand here.
     pub fn skip_while(&mut self, kind: Kind)
         ensures value { self.new ≡ skipped_while (is_of kind) self.old }
@@ -141,11 +158,11 @@ impl<'a> Cursor<'a> {
         ensures lighter { length self.new.left ≤ length self.old.left }
         ensures end { is_of kind (slice_index self.new.left 0) ≡ false }
     {
-        'characters: while let Some((first, _)) = split_first(self.rest) {
+        'characters: while let Some((first, rest)) = split_first(self.rest) {
             if !kind.has(first) {
                 return;
             }
-            self.skip();
+            self.pass(first, rest);
         }
     }
 

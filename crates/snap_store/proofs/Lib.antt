@@ -12,4 +12,7 @@ mod Lookups
 pub mod TreesMade
 pub mod MetaTrees
 mod Outcomes
+pub mod Readings
+mod NormalBodies
+mod ReadBack
 pub mod Written

@@ -1,5 +1,5 @@
 -- The words that the proofs of this crate speak in: those of the library, of the crates below, and of its own definitions.
-pub use Rattle.std.proofs.Common.{refl, sym, ◌≡◌, ℕ, List, true, cond, ap, [], ◌∷◌, ◌++◌, Option, None, Some, ◌∙◌, rules, pos, ◌==◌, Bool, false, map, drop, Bor, true-eqb, ◌&&◌, ◌+◌, ◌<◌, ◌≤◌, not, length, take, get_or, add-one, ◌^◌, Result, Ok, Err, subst, IsErrAnd, append_assoc, append-nil, ◌||◌, ℤ, negsuc, nat_lt, OnOk, OnErr}
+pub use Rattle.std.proofs.Common.{refl, sym, inl, inr, ◌≡◌, ℕ, List, true, cond, ap, [], ◌∷◌, ◌++◌, Option, None, Some, ◌∙◌, rules, pos, ◌==◌, Bool, false, map, drop, Bor, true-eqb, ◌&&◌, ◌+◌, ◌<◌, ◌≤◌, not, length, take, get_or, add-one, ◌^◌, Result, Ok, Err, subst, IsErrAnd, append_assoc, append-nil, ◌||◌, ℤ, negsuc, nat_lt, OnOk, OnErr}
 pub use Rattle.std.proofs.lemmas.Bool.{and_parts, lt-ltb}
 pub use Rattle.std.specs.FinMap.{get, insert}
 pub use Rattle.std.specs.List.{list_any, flat_map, concat}

@@ -10,7 +10,7 @@ use Rattle.snap_store.proofs.LineEnds.{ended_by_feed}
 use Rattle.snap_store.proofs.Bodies.{body-headed}
 use Rattle.snap_text.proofs.Trimming.{trimmed-push, trimmed-dashes}
 use Rattle.snap_text.specs.Normal.{trimmed}
-use Rattle.snap_store.specs.FileSplit.{is_fence}
+use Rattle.snap_store.specs.FileSplit.{is_fence, header_of, body_of}
 
 -- a line holds no LF, and ends in no CR
 unbroken_line : (line : List ℕ) → list_any is_break line ≡ false → IsUnbroken line
@@ -68,26 +68,41 @@ joined-ended line (next ∷ lines) =
     append_assoc line (10 ∷ joined_lines (next ∷ lines)) (10 ∷ []) ∙ ap (λ t. line ++ 10 ∷ t) (joined-ended next lines)
     ∙ sym (append_assoc line (10 ∷ []) (flat_map ended (next ∷ lines)))
 
-pub lines-split : (header : List (List ℕ)) (line : List ℕ) (lines : List (List ℕ)) → AreRows header → AreRows (line ∷ lines)
-    → FallsInto ((codes "---\n" ++ flat_map ended header) ++ codes "---\n" ++ flat_map ended (line ∷ lines)) (codes "---\n" ++ flat_map ended header) (flat_map ended (line ∷ lines))
-lines-split header line lines h k =
-    let body = flat_map ended (line ∷ lines) in
+-- the text is headed, and falls into this header and the pieces of this body
+pub record IsUnder (text header body : List ℕ) : Type 0 where
+  pub headed : is_headed text ≡ true
+  pub header_is : header_of text ≡ header
+  pub body_is : body_of text ≡ lines_text (ended_lines body)
+
+-- a header of rows, and whatever body
+pub rows-under : (header : List (List ℕ)) (body : List ℕ) → AreRows header
+    → IsUnder ((codes "---\n" ++ flat_map ended header) ++ codes "---\n" ++ body) (codes "---\n" ++ flat_map ended header) body
+rows-under header body h =
     let text = (codes "---\n" ++ flat_map ended header) ++ codes "---\n" ++ body in
-    let rest = map ended (line ∷ lines) in
-    let body_pieces : ended_lines body ≡ rest =
-    ap ended_lines (sym (append-nil body)) ∙ pieces-lines (line ∷ lines) [] k ∙ append-nil rest in
+    let rest = ended_lines body in
     let cut : ended_lines text ≡ codes "---\n" ∷ (map ended header ++ codes "---\n" ∷ rest) =
     ap ended_lines (append_assoc (codes "---\n" ++ flat_map ended header) (codes "---\n") body)
-    ∙ ap (λ ps. codes "---\n" ∷ ps) (pieces-lines header (codes "---\n" ++ body) h)
-    ∙ ap (λ ps. codes "---\n" ∷ (map ended header ++ codes "---\n" ∷ ps)) body_pieces in
+    ∙ ap (λ ps. codes "---\n" ∷ ps) (pieces-lines header (codes "---\n" ++ body) h) in
     let headed : is_headed text ≡ true = ap first_is_fence cut in
     record {
       headed = headed;
       header_is = ap header_text cut ∙ ap (λ t. codes "---\n" ++ t) (ap concat (up_to header rest h) ∙ concat-ended header);
+      body_is = body-headed text headed ∙ ap (λ ps. lines_text (past_fence (drop 1 ps))) cut ∙ ap lines_text (past header rest h);
+    }
+
+pub lines-split : (header : List (List ℕ)) (line : List ℕ) (lines : List (List ℕ)) → AreRows header → AreRows (line ∷ lines)
+    → FallsInto ((codes "---\n" ++ flat_map ended header) ++ codes "---\n" ++ flat_map ended (line ∷ lines)) (codes "---\n" ++ flat_map ended header) (flat_map ended (line ∷ lines))
+lines-split header line lines h k =
+    let body = flat_map ended (line ∷ lines) in
+    let rest = map ended (line ∷ lines) in
+    let under = rows-under header body h in
+    let body_pieces : ended_lines body ≡ rest =
+    ap ended_lines (sym (append-nil body)) ∙ pieces-lines (line ∷ lines) [] k ∙ append-nil rest in
+    record {
+      headed = under.headed;
+      header_is = under.header_is;
       body_is =
-          ap (λ t. t ++ 10 ∷ [])
-          (body-headed text headed ∙ ap (λ ps. lines_text (past_fence (drop 1 ps))) cut ∙ ap lines_text (past header rest h) ∙ ap joined_lines (lines-ended (line ∷ lines) k))
-          ∙ joined-ended line lines;
+          ap (λ t. t ++ 10 ∷ []) (under.body_is ∙ ap lines_text body_pieces ∙ ap joined_lines (lines-ended (line ∷ lines) k)) ∙ joined-ended line lines;
     }
 
 -- a plain tree has a line

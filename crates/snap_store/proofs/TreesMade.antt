@@ -58,7 +58,7 @@ line_of_number : (z : ℤ) → line_number (Some z) ≡ line_value (Some (p.int 
 line_of_number (pos n) = refl
 line_of_number (negsuc n) = refl
 
-line_made : (q : p.Plain) → tree_line (p.content_of q) ≡ line_value (Some q)
+pub line_made : (q : p.Plain) → tree_line (p.content_of q) ≡ line_value (Some q)
 line_made p.null = refl
 line_made (p.bool b) = refl
 line_made (p.int z) = ap line_number (number z) ∙ line_of_number z

@@ -9,5 +9,6 @@ pub mod Header
 pub mod Agreement
 pub mod Image
 pub mod Reading
+pub mod ReadBack
 pub mod Named
 pub mod Causes

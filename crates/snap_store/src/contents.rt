@@ -53,14 +53,13 @@ impl SnapshotContents {
         }
     }
 
-    /// Whether both agree: two texts where their normal forms are equal or their older forms are, which the former
-    /// implies; two payloads where they are equal or both absent. A text and a payload never do.
+    /// Whether both agree: two texts where they have one normal form or one older form, each by its kind; two payloads where they are equal or both absent. A text and a payload never do.
     pub fn agrees(&self, alloc: Global, other: &SnapshotContents) -> Result<bool, OutOfMemory>
         ensures { IfOk result (λ same. IsTrue same ↔ Agree self.now other.now) }
     {
         match (self, other) {
             (SnapshotContents::Text(left), SnapshotContents::Text(right)) => {
-                left.matches_legacy(alloc, right)
+                left.agrees(alloc, right)
             }
             (SnapshotContents::Binary(left), SnapshotContents::Binary(right)) => Ok(left == right),
             _ => Ok(false),

@@ -39,13 +39,18 @@ pub record CutsFirst (mark : ℕ) (text before behind : List ℕ) : Type 0 where
   pub cut : IsCutAtFirst mark (chars text) (chars before) (chars behind)
   pub shorter : length (chars behind) < length (chars text)
 
-first : (mark : ℕ) (s before behind : List ℕ) → IsUtf8 s → IsScalar mark → SplitsAroundMatch (FindsChar mark) s before behind → CutsFirst mark s before behind
-first mark s before behind u scalar (i, j, (none, at), before_is, behind_is, order, before_len, behind_len) =
-    let p = parted mark s before behind i j u scalar at before_is behind_is (omega (arith, order, behind_len)) in
+pub cuts_first : (mark : ℕ) (s before behind : List ℕ) (i j : ℕ) → IsUtf8 s → IsScalar mark → FindsChar mark s (Some (i, j)) → before ≡ take i s → behind ≡ drop j s → i ≤ length s
+    → CutsFirst mark s before behind
+cuts_first mark s before behind i j u scalar (none, at) before_is behind_is within =
+    let p = parted mark s before behind i j u scalar at before_is behind_is within in
     record {
       cut = record { is = p.is; first = lacks mark before p.front (subst (λ x. NoCharPasses (λ d. d == mark) x) (sym before_is) none) };
       shorter = p.back_shorter;
     }
+
+first : (mark : ℕ) (s before behind : List ℕ) → IsUtf8 s → IsScalar mark → SplitsAroundMatch (FindsChar mark) s before behind → CutsFirst mark s before behind
+first mark s before behind u scalar (i, j, found, before_is, behind_is, order, before_len, behind_len) =
+    cuts_first mark s before behind i j u scalar found before_is behind_is (omega (arith, order, behind_len))
 
 pub first_clause : (mark : ℕ) (s : List ℕ) (r : Option (Bor (List ℕ) × Bor (List ℕ))) → IsUtf8 s → IsScalar mark
     → MatchOption r (FindsChar mark s None) (λ x. SplitsAroundMatch (FindsChar mark) s x.0.now x.1.now)

@@ -1,4 +1,6 @@
 mod Prelude
 mod Cuts
+pub mod AsciiBytes
+mod Bytes
 mod Trims
 pub mod LineTexts

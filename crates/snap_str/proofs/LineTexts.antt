@@ -1,7 +1,8 @@
 -- The first line of a text.
-use Rattle.snap_str.proofs.Prelude.{◌≡◌, ◌≢◌, ◌==◌, ℕ, ◌+◌, ◌<◌, ◌≤◌, List, [], ◌∷◌, ◌++◌, Bool, true, false, ◌&&◌, Some, cond, length, take, drop, refl, sym, ap, ◌∙◌, arith, append_assoc, or_parts, ne_eqb, take-append-drop, append_cancel_right, chars-nil, chars-append, IsUtf8-take, encodes-chars, list_any, chars, IsUtf8, IsCharBoundary, FindsChar, Lacks, IsCutAtFirst, encodes}
+use Rattle.snap_str.proofs.Prelude.{◌≡◌, ◌≢◌, ◌==◌, ℕ, ◌+◌, ◌<◌, List, [], ◌∷◌, ◌++◌, Bool, true, false, ◌&&◌, cond, length, take, drop, refl, sym, ap, ◌∙◌, arith, append_assoc, or_parts, ne_eqb, take-append-drop, append_cancel_right, chars-nil, chars-append, IsUtf8-take, encodes-chars, list_any, chars, IsUtf8, Lacks, IsCutAtFirst, encodes}
 use Rattle.snap_str.proofs.Cuts.{parted, lacks}
 use Rattle.snap_str.specs.Lines.{onto, lines, ended_lines, without_return}
+use Rattle.snap_str.specs.Cut.{IsFirstByte}
 
 abbrev is_end : ℕ → Bool
 is_end c = c == 10
@@ -112,16 +113,16 @@ pub record SplitsLine (text line more : List ℕ) : Type 0 where
   pub cut : ended_lines (chars text) ≡ chars line ∷ ended_lines (chars more)
   pub shorter : length (chars more) < length (chars text)
 
-pub splits_line : (s line more : List ℕ) (i : ℕ) → IsUtf8 s → (j : ℕ) × FindsChar 10 s (Some (i, j)) × (i ≤ j) × IsCharBoundary s i × IsCharBoundary s j
-    → line ≡ take (i + 1) s → more ≡ drop (i + 1) s → SplitsLine s line more
-splits_line s line more i u (j, (none, at), order, at_mark, past_mark) line_is more_is =
-    let next : i + 1 ≡ j = omega (arith, at.ends) in
-    let p = parted 10 s (take i s) more i j u refl at refl (more_is ∙ ap (λ k. drop k s) next) (omega (arith, at_mark.0)) in
-    let whole : IsUtf8 (take j s) = IsUtf8-take s j u past_mark in
+pub splits_line : (s line more : List ℕ) (i : ℕ) → IsUtf8 s → IsFirstByte 10 s i → line ≡ take (i + 1) s → more ≡ drop (i + 1) s → SplitsLine s line more
+splits_line s line more i u e line_is more_is =
+    let j : ℕ = i + 1 in
+    let none = e.first.0 in
+    let p = parted 10 s (take i s) more i j u refl e.first.1 refl more_is e.before.0 in
+    let whole : IsUtf8 (take j s) = IsUtf8-take s j u e.after in
     let before : List ℕ = chars (take i s) in
     let is : chars s ≡ chars line ++ chars more =
     ap chars (sym (take-append-drop j s)) ∙ chars-append (take j s) (drop j s) whole
-    ∙ ap (λ k. chars (take k s) ++ chars (drop k s)) (sym next) ∙ ap (λ t. chars t ++ chars (drop (i + 1) s)) (sym line_is) ∙ ap (λ t. chars line ++ chars t) (sym more_is) in
+    ∙ ap (λ t. chars t ++ chars (drop (i + 1) s)) (sym line_is) ∙ ap (λ t. chars line ++ chars t) (sym more_is) in
     let line_chars : chars line ≡ before ++ 10 ∷ [] =
     append_cancel_right (chars line) (before ++ 10 ∷ []) (chars more) (sym is ∙ p.is ∙ sym (append_assoc before (10 ∷ []) (chars more))) in
     let first : Lacks 10 before = lacks 10 (take i s) p.front none in

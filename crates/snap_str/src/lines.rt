@@ -1,9 +1,20 @@
 //! A text line by line, without memory.
 ghost use Rattle.std.specs.Prelude.{◌≡◌, ◌<◌, [], ◌∷◌, length, IfSome, MatchOption};
 ghost use Rattle.std.specs.Str.{chars};
+ghost use Rattle.snap_str.specs.Cut.{Lacks, IsCutAtFirst};
 ghost use Rattle.snap_str.specs.Lines.{without_return, lines, ended_lines};
 
-use crate::cut::{split_once, strip_suffix};
+use crate::cut::{find_byte, split_at_byte, strip_suffix};
+
+/// What stands before the first line's end, and after it; none where the text holds none.
+pub fn split_line(text: &str) -> Option<(&str, &str)>
+    ensures cut { MatchOption result (Lacks 10 (chars text.now))
+        (λ parts. IsCutAtFirst 10 (chars text.now) (chars parts.0.now) (chars parts.1.now)) }
+    ensures shorter { IfSome result (λ parts.
+        length (chars parts.1.now) < length (chars text.now)) }
+{
+    split_at_byte(text, b'\n')
+}
 
 /// The line without one return at its end.
 fn without_return(line: &str) -> &str
@@ -22,7 +33,7 @@ pub fn next_line(text: &str) -> Option<(&str, &str)>
     ensures shorter { IfSome result (λ parts.
         length (chars parts.1.now) < length (chars text.now)) }
 {
-    match split_once(text, '\n') {
+    match split_line(text) {
         Some((line, rest)) => Some((without_return(line), rest)),
         None if text.is_empty() => None,
         None => Some((text, "")),
@@ -37,7 +48,7 @@ pub fn next_ended_line(text: &str) -> Option<(&str, &str)>
     ensures shorter { IfSome result (λ parts.
         length (chars parts.1.now) < length (chars text.now)) }
 {
-    match text.find('\n') {
+    match find_byte(text, b'\n') {
         Some(at) => Some(text.split_at(at + 1)),
         None if text.is_empty() => None,
         None => Some((text, "")),

@@ -4,3 +4,4 @@ mod Shown
 pub mod Trimming
 pub mod NormalForms
 pub mod OlderForms
+pub mod Agreeing

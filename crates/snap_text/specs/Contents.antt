@@ -1,5 +1,5 @@
 -- What the contents of a text snapshot are seen as, and when two of them match.
-use Rattle.std.specs.Prelude.{◌≡◌, ℕ, List}
+use Rattle.std.specs.Prelude.{◌≡◌, ◌⊎◌, ℕ, List}
 use Rattle.snap_text_literals.specs.Frame.{inline_legacy}
 use Rattle.snap_text_literals.specs.Inline.{normalized, inline_normal, inline_width}
 use Rattle.snap_text_literals.specs.Legacy.{legacy}
@@ -59,6 +59,10 @@ pub record AreAlike (a b : TextSnapshotContents) : Type 0 where
 -- what `matches_latest` tells: both have one normal form, each by its kind
 abbrev pub MatchLatest : TextSnapshotContents → TextSnapshotContents → Type 0
 MatchLatest a b = normal_of a ≡ normal_of b
+
+-- both agree: they have one normal form or one older form, each by its kind
+abbrev pub TextsAgree : TextSnapshotContents → TextSnapshotContents → Type 0
+TextsAgree a b = MatchLatest a b ⊎ legacy_of a ≡ legacy_of b
 
 -- the contents are an inline text whose normal form is its own normal form
 pub record IsSettled (contents : TextSnapshotContents) : Type 0 where

@@ -33,7 +33,7 @@ pub struct TextSnapshotContents {
 }
 
 impl TextSnapshotContents {
-    ghost use Rattle.snap_text.specs.Contents.{raw_of, kind_of, normal_of, legacy_of, width_of, AreAlike, MatchLatest, InlineLaw};
+    ghost use Rattle.snap_text.specs.Contents.{raw_of, kind_of, normal_of, legacy_of, width_of, AreAlike, MatchLatest, TextsAgree, InlineLaw};
 
     /// The contents of a snapshot of this kind.
     pub fn new(contents: Text, kind: TextSnapshotKind) -> TextSnapshotContents
@@ -166,6 +166,18 @@ impl TextSnapshotContents {
         let left = self.normal(alloc)?;
         let right = other.normal(alloc)?;
         Ok(left == right)
+    }
+
+    /// Whether both have one normal form or one older form, each by its kind. Of two texts of files the older forms alone tell
+    /// it. Of inline texts they don't: ` a`, and ` a` with a line's end, have one normal form, and the older forms ` a` and `a`.
+    /// The error is that memory is out.
+    pub fn agrees(&self, alloc: Global, other: &TextSnapshotContents) -> Result<bool, OutOfMemory>
+        ensures { IfOk result (λ same. IsTrue same ↔ TextsAgree self.now other.now) }
+    {
+        if self.matches_legacy(alloc, other)? {
+            return Ok(true);
+        }
+        self.matches_latest(alloc, other)
     }
 
     /// The normal form as a literal, at this indentation. For an inline text whose normal form is its own normal form, and

@@ -6,8 +6,7 @@ ghost use Rattle.snap_text_literals.specs.Lines.{IsUnbroken, IsLineThen, without
 ghost use Rattle.snap_text_literals.specs.Inline.{lead, from_byte, is_short};
 
 use snap_content::characters::{before_rest, split_first, split_last};
-use snap_str::cut::split_once;
-use snap_str::lines::next_line;
+use snap_str::lines::{self, next_line};
 
 /// The first line without its end, and what follows; none where the text holds no line's end.
 pub fn split_line(text: &str) -> Option<(&str, &str)>
@@ -15,7 +14,7 @@ pub fn split_line(text: &str) -> Option<(&str, &str)>
         (λ p. IsLineThen (chars text.now) (chars p.0.now) (chars p.1.now)) }
     ensures shorter { IfSome result (λ p. length (chars p.1.now) < length (chars text.now)) }
 {
-    split_once(text, '\n')
+    lines::split_line(text)
 }
 
 /// The text without the returns at its end.

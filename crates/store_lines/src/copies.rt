@@ -1,6 +1,6 @@
 //! Copies and agreement.
 //!
-//! Contents stand in one column: `text=` and a text, `payload=` and bytes, or `absent`.
+//! Contents stand in one column: `text=` and a file's text, `inline=` and an inline one, `payload=` and bytes, or `absent`.
 use crate::shown::{metadata_shown, snapshot_shown};
 use rows::{first_column, text_of};
 use rows_snapshots::{bytes_of, metadata_of, snapshot_of};
@@ -31,13 +31,20 @@ pub(crate) fn snapshot_line(alloc: Global, columns: &str) -> Result<Text, OutOfM
     snapshot_copied(alloc, &snapshot)
 }
 
+fn text_contents(
+    alloc: Global,
+    held: &str,
+    kind: TextSnapshotKind,
+) -> Result<SnapshotContents, OutOfMemory> {
+    let text = text_of(alloc, held)?;
+    Ok(SnapshotContents::from_text(TextSnapshotContents::new(text, kind)))
+}
+
 fn contents_of(alloc: Global, column: &str) -> Result<SnapshotContents, OutOfMemory> {
     let (kind, held) = column.split_once('=').unwrap_or((column, ""));
     match kind {
-        "text" => Ok(SnapshotContents::from_text(TextSnapshotContents::new(
-            text_of(alloc, held)?,
-            TextSnapshotKind::File,
-        ))),
+        "text" => text_contents(alloc, held, TextSnapshotKind::File),
+        "inline" => text_contents(alloc, held, TextSnapshotKind::Inline),
         "payload" => Ok(SnapshotContents::Binary(Some(bytes_of(alloc, held)?))),
         _ => Ok(SnapshotContents::Binary(None)),
     }

@@ -1,5 +1,8 @@
 -- One file is read in one way.
-use Rattle.snap_assert.proofs.Prelude.{◌≡◌, ℕ, true, false, List, Option, None, sym, ap, ◌∙◌, subst, chars, IsUtf8, Plain, dict, Entries, is_headed, header_of, IsTextFile, HasHeader, ReadsHeader, IsNoText, some_same}
+use Rattle.snap_store.proofs.Prelude.{◌≡◌, ℕ, true, false, List, Option, None, sym, ap, ◌∙◌, subst, chars, IsUtf8, Plain, dict, Entries, is_headed}
+use Rattle.snap_content.proofs.Booleans.{some_same}
+use Rattle.snap_store.specs.FileSplit.{header_of}
+use Rattle.snap_store.specs.Reading.{IsTextFile, HasHeader, ReadsHeader, IsNoText}
 use Rattle.snap_emit.specs.Spelled.{IsHeaderOf}
 
 pub one_text : (file : Option (List ℕ)) (a b : List ℕ) → IsTextFile file a → IsTextFile file b → a ≡ b
