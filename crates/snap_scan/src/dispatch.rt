@@ -10,7 +10,7 @@ ghost use Rattle.snap_scan.specs.Fetching.{Does, token_step, kind_step, step};
 
 use crate::fetcher::{Fetcher, ScanResult};
 use crate::kind::{TokenKind, kind_here};
-use snap_scan_tokens::{ScanError, ScanInfo, TokenType};
+use snap_scan_tokens::{Quotes, ScanError, ScanInfo, TokenType};
 
 impl<'a> Fetcher<'a> {
     /// Gives up the keys that can be none here; one that must become a key is a fault.
@@ -64,10 +64,10 @@ impl<'a> Fetcher<'a> {
             TokenKind::Alias => self.fetch_alias(),
             TokenKind::Anchor => self.fetch_anchor(),
             TokenKind::Tag => self.fetch_tag(),
-            TokenKind::Literal => self.fetch_literal(),
-            TokenKind::Folded => self.fetch_folded(),
-            TokenKind::SingleQuoted => self.fetch_single_quoted(),
-            TokenKind::DoubleQuoted => self.fetch_double_quoted(),
+            TokenKind::Literal => self.fetch_block_scalar(true),
+            TokenKind::Folded => self.fetch_block_scalar(false),
+            TokenKind::SingleQuoted => self.fetch_quoted(Quotes::Single),
+            TokenKind::DoubleQuoted => self.fetch_quoted(Quotes::Double),
             TokenKind::Plain => self.fetch_plain_scalar(),
             TokenKind::Refused(info) => Err(ScanError::Syntax(self.cursor.mark(), info)),
         }

@@ -9,7 +9,7 @@ ghost use Rattle.snap_scan.specs.Owed.{GivesOwed, OwesStill, NextOwed};
 ghost use Rattle.snap_scan.specs.State.{has_ended};
 
 use crate::fetcher::{Fetcher, ScanResult};
-use snap_scan_tokens::{Marker, ScanError, Token};
+use snap_scan_tokens::{Marker, ScanError, Token, keep};
 use std::alloc::Global;
 use std::marker::Model;
 
@@ -164,13 +164,4 @@ impl<'a> Scanner<'a> {
     {
         self.fetcher.has_ended()
     }
-}
-
-/// Keeps an error for good.
-fn keep(kept: &mut Option<ScanError>, error: &ScanError) -> ScanError
-    ensures result { result ≡ error.now }
-    ensures kept { kept.new ≡ Some error.now }
-{
-    *kept = Some(*error);
-    *error
 }
