@@ -1,5 +1,5 @@
 -- The order of StreamStart and StreamEnd among the tokens that are given.
-use Rattle.snap_scan.proofs.Prelude.{◌≡◌, ◌∷◌, [], ℕ, Bool, true, false, List, Option, Some, None, Ok, length, subst, sym, ap, arith, refl, ◌∙◌, ◌==◌, ◌&&◌, MatchOption, not, ◌||◌, All-head, Token, ScanError, State, has_ended, given, Outcome, Leaves, step, IsShown, IsNoEnd, IsFounded, IsSound, IsSoundFrom, untouched, open_still, over, EndsStream, begins_stream, is_start, is_end, is_start_ahead, GivesSound, IsWholeWhile, GivesNext}
+use Rattle.snap_scan.proofs.Prelude.{◌≡◌, ◌∷◌, [], ℕ, Bool, true, false, List, Option, Some, None, Ok, length, subst, sym, ap, arith, refl, ◌∙◌, ◌==◌, ◌&&◌, MatchOption, not, ◌||◌, All-head, Token, ScanError, State, has_ended, given, Outcome, Leaves, step, IsShown, IsNoEnd, IsFounded, IsSound, IsSoundFrom, untouched, open_still, over, EndsStream, begins_stream, is_start, is_end, is_start_ahead, GivesSound, IsWholeWhile, GivesNext, Scan, Fails, IsKept, GivesAtEnd, is_some, Err}
 use Rattle.snap_scan.proofs.Ending.{holding, not-both}
 use Rattle.snap_scan.proofs.Growing.{step-holds}
 use Rattle.snap_scan.proofs.Soundness.{sound-given}
@@ -83,3 +83,19 @@ gives-next source (Some token) old new gives = (gives.0, (gives.1, ahead-is sour
 pub sound-after : (ahead : Bool) (source : List ℕ) (o : Option Token) (new : State) → GivesSound ahead source (Ok o) new → IsSound (is_start_ahead new) source new
 sound-after ahead source None new gives = sound-ahead source new gives
 sound-after ahead source (Some token) new gives = sound-ahead source new gives.3
+
+-- a call at the end, of a scanner that may have failed
+pub none-after : (o : Option Token) (old new : Scan) → ((e : ScanError) → old.error ≡ Some e → Fails (Ok o) e) → GivesAtEnd old (Ok o) None new → has_ended old.state ≡ true
+    → (o ≡ None) × (new ≡ old)
+none-after o old new sticky last ended = by-error old.error refl
+  where
+    by-error : (e : Option ScanError) → old.error ≡ e → (o ≡ None) × (new ≡ old)
+    by-error None is = let p = last ended is in let none = p.0 in (cc, p.1)
+    by-error (Some e) is = absurd (sticky e is)
+
+pub same-after : (e : ScanError) (old new : Scan) → IsKept old new → GivesAtEnd {T = Option Token} old (Err e) None new → has_ended old.state ≡ true → new ≡ old
+same-after e old new same last ended = by-error old.error refl
+  where
+    by-error : (f : Option ScanError) → old.error ≡ f → new ≡ old
+    by-error None is = let p = last ended is in let fails = p.0 in absurd (cc)
+    by-error (Some f) is = let P : Option ScanError → Type 0 = λ v. is_some v ≡ true in same (subst P (sym is) refl)

@@ -1,5 +1,5 @@
 -- What the reading of a token makes of a state.
-use Rattle.snap_scan.proofs.Prelude.{◌≡◌, ◌≤◌, ◌+◌, ℕ, Bool, true, false, List, [], ◌∷◌, Option, Some, None, Result, Ok, Err, length, sym, ap, arith, refl, ◌∙◌, if◌then◌else◌, MatchOption, Place, Later, here, next, skip_from, mark_of, Mark, Plain, plain_from, ReadsPlain, Quoted, ReadsQuoted, TokenType, TScalarStyle, ScanError, Syntax, OutOfMemory, S2, TokenKind, is_required, State, Gives, at, pushed, allowing, keyless, saved, unrolled, is_key_owed, in_flow, refused, read, IsTokenOf, Does, closed, directive, read_key, plain, plain_read, quoted_read, block_read, Block, block_from, ReadsBlock, BlockScalar, innermost}
+use Rattle.snap_scan.proofs.Prelude.{◌≡◌, ◌≤◌, ◌+◌, ℕ, Bool, true, false, List, [], ◌∷◌, Option, Some, None, Result, Ok, Err, length, sym, ap, arith, refl, ◌∙◌, if◌then◌else◌, MatchOption, Place, Later, here, next, skip_from, mark_of, Mark, Plain, plain_from, ReadsPlain, Quoted, ReadsQuoted, TokenType, TScalarStyle, ScanError, Syntax, OutOfMemory, S2, TokenKind, is_required, State, Gives, at, pushed, allowing, keyless, saved, unrolled, is_key_owed, in_flow, refused, read, IsTokenOf, Does, MayFail, IsExplained, closed, directive, read_key, plain, plain_read, quoted_read, block_read, Block, block_from, ReadsBlock, BlockScalar, innermost}
 use Rattle.snap_scan.proofs.Soundness.{either}
 use Rattle.snap_scan_tokens.specs.declared.plain.PlainScalar.{PlainScalar}
 use Rattle.snap_scan_tokens.specs.declared.token.TokenType.TheVariants as k
@@ -147,6 +147,21 @@ does-block written literal s t u indent scalar p r new free saved_is allowed_is 
     let here_is : block_from indent literal u.place ≡ block_from (innermost s.columns) literal s.place = rw (indent_is, same) refl in
     let o = block_from (innermost s.columns) literal s.place in
     rw free (told-block written s u o scalar p r new same (rw here_is at reads) later further from until gives)
+
+-- a block scalar that isn't read
+failed-block : (written : TScalarStyle) (o : Option Block) (s : State) (e : ScanError) (p : Place) → ReadsBlock o (Err e) p → IsExplained s.place e → MayFail e (block_read written o s)
+failed-block written o s OutOfMemory p reads cause = tt
+failed-block written None s (Syntax m i) p reads cause = cause
+failed-block written (Some b) s (Syntax m i) p reads cause = absurd (cc)
+
+pub fails-block : (written : TScalarStyle) (literal : Bool) (s t u : State) (indent : Option ℕ) (e : ScanError) (p : Place)
+    → is_key_owed s ≡ false → t ≡ saved s → u ≡ allowing true t → indent ≡ innermost u.columns → ReadsBlock (block_from indent literal u.place) (Err e) p → IsExplained u.place e
+    → MayFail e (if is_key_owed s then refused (mark_of s.place) S2 else block_read written (block_from (innermost s.columns) literal s.place) s)
+fails-block written literal s t u indent e p free saved_is allowed_is indent_is reads cause =
+    let same : u ≡ allowing true (saved s) = allowed_is ∙ ap (λ (v : State). allowing true v) saved_is in
+    let here_is : block_from indent literal u.place ≡ block_from (innermost s.columns) literal s.place = rw (indent_is, same) refl in
+    let at_place : u.place ≡ s.place = ap (λ (v : State). v.place) same in
+    rw free (failed-block written (block_from (innermost s.columns) literal s.place) s e p (rw here_is at reads) (rw at_place at cause))
 
 pub innermost-is : (o : Option ℕ) (columns : List ℕ) → MatchOption o (columns ≡ []) (λ column. (outer : List ℕ) × (columns ≡ column ∷ outer)) → o ≡ innermost columns
 innermost-is None columns is = ap (λ (v : List ℕ). innermost v) (sym is)

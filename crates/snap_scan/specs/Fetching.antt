@@ -3,7 +3,9 @@ use Rattle.std.specs.Prelude.{ℕ, ◌+◌, ◌≡◌, ◌≤◌, ◌&&◌, nat_
 use Rattle.snap_scan_tokens.specs.Place.{Place, Later, mark_of, forced}
 use Rattle.snap_scan_tokens.specs.Causes.{IsExplained}
 use Rattle.snap_scan_tokens.specs.Plain.{Plain, plain_from}
-use Rattle.snap_scan_tokens.specs.Quoted.{Quoted, single_from, double_from}
+use Rattle.snap_scan_tokens.specs.Quoted.{Quoted, style_of, quoted_from}
+use Rattle.snap_scan_tokens.specs.declared.quoted.Quotes.{Quotes}
+use Rattle.snap_scan_tokens.specs.declared.quoted.Quotes.TheVariants.{Single, Double}
 use Rattle.snap_scan_blocks.specs.Block.{Block, block_from}
 use Rattle.snap_scan_tokens.specs.Mark.{Mark}
 use Rattle.snap_scan_tokens.specs.declared.token.TokenType.{TokenType}
@@ -177,11 +179,8 @@ quoted_read written None s = unreadable s
 quoted_read written (Some r) s =
     told s.place (pushed (at (mark_of s.place) (t.Scalar written r.text)) (record (saved s) { allowed = false; place = r.place; adjacent = r.place.index }))
 
-abbrev pub single_quoted : State → Outcome
-single_quoted s = if is_key_owed s then refused (mark_of s.place) i.S2 else quoted_read style.SingleQuoted (single_from s.place) s
-
-abbrev pub double_quoted : State → Outcome
-double_quoted s = if is_key_owed s then refused (mark_of s.place) i.S2 else quoted_read style.DoubleQuoted (double_from s.place) s
+abbrev pub quoted : Quotes → State → Outcome
+quoted quotes s = if is_key_owed s then refused (mark_of s.place) i.S2 else quoted_read (style_of quotes) (quoted_from quotes s.place) s
 
 -- behind a block scalar, whose mark is where its content begins, a simple key may begin
 abbrev pub block_read : TScalarStyle → Option Block → State → Outcome
@@ -189,11 +188,13 @@ block_read written None s = unreadable s
 block_read written (Some r) s =
     told_behind s.place r.mark (pushed (at r.mark (t.Scalar written r.text)) (record (saved s) { allowed = true; place = r.place }))
 
-abbrev pub literal : State → Outcome
-literal s = if is_key_owed s then refused (mark_of s.place) i.S2 else block_read style.Literal (block_from (innermost s.columns) true s.place) s
+abbrev pub block_style : Bool → TScalarStyle
+block_style true = style.Literal
+block_style false = style.Foled
 
-abbrev pub folded : State → Outcome
-folded s = if is_key_owed s then refused (mark_of s.place) i.S2 else block_read style.Foled (block_from (innermost s.columns) false s.place) s
+abbrev pub block_scalar : Bool → State → Outcome
+block_scalar literal s =
+    if is_key_owed s then refused (mark_of s.place) i.S2 else block_read (block_style literal) (block_from (innermost s.columns) literal s.place) s
 
 abbrev pub kind_step : TokenKind → State → Outcome
 kind_step k.StreamEnd s = stream_end s
@@ -212,10 +213,10 @@ kind_step (k.Refused info) s = refused (mark_of s.place) info
 kind_step k.Alias s = read_key k.Alias s
 kind_step k.Anchor s = read_key k.Anchor s
 kind_step k.Tag s = read_key k.Tag s
-kind_step k.Literal s = literal s
-kind_step k.Folded s = folded s
-kind_step k.SingleQuoted s = single_quoted s
-kind_step k.DoubleQuoted s = double_quoted s
+kind_step k.Literal s = block_scalar true s
+kind_step k.Folded s = block_scalar false s
+kind_step k.SingleQuoted s = quoted Single s
+kind_step k.DoubleQuoted s = quoted Double s
 kind_step k.Plain s = plain s
 
 -- the state at the next token, its blocks closed

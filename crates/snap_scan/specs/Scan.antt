@@ -27,6 +27,14 @@ abbrev pub Fails : {T : Type 0} → Result T ScanError → ScanError → Type 0
 Fails (Ok _) e = ⊥
 Fails (Err found) e = found ≡ e
 
+-- a scanner that has failed stays as it is
+abbrev pub IsKept : Scan → Scan → Type 0
+IsKept old new = is_some old.error ≡ true → new ≡ old
+
+-- once StreamEnd was given a call gives this and changes nothing, if nothing has failed
+abbrev pub GivesAtEnd : {T : Type 0} → Scan → Result T ScanError → T → Scan → Type 0
+GivesAtEnd old r last new = has_ended old.state ≡ true → old.error ≡ None → (r ≡ Ok last) × (new ≡ old)
+
 -- the error that the call answers is kept
 abbrev pub Keeps : {T : Type 0} → Result T ScanError → Scan → Type 0
 Keeps (Ok _) new = new.error ≡ None

@@ -64,6 +64,10 @@ abbrev pub spent : State → ℕ
 spent s =
     4 * length s.place.left + length s.held + length s.columns + (if s.ended then 0 else 1) + (if s.started then 0 else 1)
 
+-- how many characters stand before the place and behind it
+abbrev pub extent : State → ℕ
+extent s = s.place.index + length s.place.left
+
 -- how much is still to be fetched
 abbrev pub work : State → ℕ
 work s = length s.place.left + (if s.ended then 0 else 1) + (if s.started then 0 else 1)

@@ -1,6 +1,6 @@
 //! Fetching until the first held token can be given, and giving it.
-ghost use Rattle.std.specs.Prelude.{◌≡◌, ◌≤◌, OnOk, IfOk, MatchOption, [], ◌∷◌, true, false};
-ghost use Rattle.snap_scan.specs.State.{state_of, work, left_of, has_ended, given, IsReady};
+ghost use Rattle.std.specs.Prelude.{◌≡◌, ◌≤◌, OnOk, IfOk, MatchOption, Ok, None, [], ◌∷◌, true, false};
+ghost use Rattle.snap_scan.specs.State.{state_of, extent, work, left_of, has_ended, given, IsReady};
 ghost use Rattle.snap_scan.specs.Sound.{KeepsSound, GivesOfSound};
 ghost use Rattle.snap_scan.specs.Owed.{IsFirstSure, KeepsOwed, GivesOfOwed};
 ghost use Rattle.snap_scan.specs.Scan.{Pays, IsNoneAtEnd};
@@ -27,6 +27,7 @@ impl<'a> Fetcher<'a> {
         ensures sound { KeepsSound result (state_of self.old) (state_of self.new) }
         ensures first { IfOk result (λ ready. ready ≡ true → IsFirstSure (state_of self.new)) }
         ensures owed { KeepsOwed result (state_of self.old) (state_of self.new) }
+        ensures extent { extent (state_of self.new) ≡ extent (state_of self.old) }
     {
         if self.tokens.is_empty() {
             return Ok(self.ended);
@@ -40,12 +41,14 @@ impl<'a> Fetcher<'a> {
         ensures ready { OnOk result (IsReady (state_of self.new)) }
         ensures done { has_ended (state_of self.old) ≡ true
             → state_of self.new ≡ state_of self.old }
+        ensures over { has_ended (state_of self.old) ≡ true → result ≡ Ok tt }
         ensures fresh { has_ended (state_of self.old) ≡ false
             → OnOk result (has_ended (state_of self.new) ≡ false) }
         ensures law { OnOk result (left_of (state_of self.new) ≤ left_of (state_of self.old)) }
         ensures sound { KeepsSound result (state_of self.old) (state_of self.new) }
         ensures first { OnOk result (IsFirstSure (state_of self.new)) }
         ensures owed { KeepsOwed result (state_of self.old) (state_of self.new) }
+        ensures extent { extent (state_of self.new) ≡ extent (state_of self.old) }
     {
         if self.has_ended() {
             return Ok(());
@@ -60,10 +63,11 @@ impl<'a> Fetcher<'a> {
 
     /// Takes the first held token out.
     fn take_first(&mut self) -> Option<Token<'a>>
-        ensures { MatchOption result (((state_of self.old).held ≡ [])
+        ensures taken { MatchOption result (((state_of self.old).held ≡ [])
             × (state_of self.new ≡ state_of self.old))
             (λ token. ((state_of self.old).held ≡ token ∷ (state_of self.new).held)
             × (state_of self.new ≡ given (state_of self.old))) }
+        ensures extent { extent (state_of self.new) ≡ extent (state_of self.old) }
     {
         match self.tokens.pop_front() {
             None => None,
@@ -77,9 +81,12 @@ impl<'a> Fetcher<'a> {
     /// The next token; none once StreamEnd was given.
     pub(crate) fn next_token(&mut self) -> Result<Option<Token<'a>>, ScanError>
         ensures none { IsNoneAtEnd result (state_of self.old) (state_of self.new) }
+        ensures over { has_ended (state_of self.old) ≡ true
+            → (result ≡ Ok None) × (state_of self.new ≡ state_of self.old) }
         ensures law { Pays result (left_of (state_of self.old)) (left_of (state_of self.new)) }
         ensures sound { GivesOfSound result (state_of self.old) (state_of self.new) }
         ensures owed { GivesOfOwed result (state_of self.old) (state_of self.new) }
+        ensures extent { extent (state_of self.new) ≡ extent (state_of self.old) }
     {
         self.fetch_more_tokens()?;
         Ok(self.take_first())

@@ -1,7 +1,7 @@
 //! What lies between tokens: blanks, breaks and comments.
 ghost use Rattle.std.specs.Prelude.{◌≡◌, ◌≤◌, true, slice_index};
 ghost use Rattle.snap_scan_tokens.specs.Characters.{is_break_or_end};
-ghost use Rattle.snap_scan.specs.State.{state_of, spent, work, to_next, past_comment};
+ghost use Rattle.snap_scan.specs.State.{state_of, extent, spent, work, to_next, past_comment};
 
 use crate::fetcher::Fetcher;
 use snap_scan_tokens::characters::{is_break, is_break_or_end};
@@ -14,6 +14,7 @@ impl<'a> Fetcher<'a> {
         ensures still { self.new.ended ≡ self.old.ended }
         ensures cost { spent (state_of self.new) ≤ spent (state_of self.old) }
         ensures work { work (state_of self.new) ≤ work (state_of self.old) }
+        ensures extent { extent (state_of self.new) ≡ extent (state_of self.old) }
     {
         'characters: loop {
             let c = self.cursor.peek(0);
@@ -40,6 +41,7 @@ impl<'a> Fetcher<'a> {
         ensures still { self.new.ended ≡ self.old.ended }
         ensures cost { spent (state_of self.new) ≤ spent (state_of self.old) }
         ensures work { work (state_of self.new) ≤ work (state_of self.old) }
+        ensures extent { extent (state_of self.new) ≡ extent (state_of self.old) }
     {
         'characters: while !is_break_or_end(self.cursor.peek(0)) {
             self.skip();

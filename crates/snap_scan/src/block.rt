@@ -1,6 +1,6 @@
 //! Entries, keys and values.
 ghost use Rattle.std.specs.Prelude.{◌≡◌, ◌≢◌, ◌<◌, ◌≤◌, OnOk, slice_index};
-ghost use Rattle.snap_scan.specs.State.{state_of, spent, work, Gives};
+ghost use Rattle.snap_scan.specs.State.{state_of, extent, spent, work, Gives};
 ghost use Rattle.snap_scan.specs.Fetching.{Does, block_entry, block_key, value_of_key, value_alone, value_behind};
 
 use crate::fetcher::{Fetcher, ScanResult};
@@ -14,6 +14,7 @@ impl<'a> Fetcher<'a> {
         ensures value { Does (block_entry (state_of self.old)) result (state_of self.new) }
         ensures cost { OnOk result (spent (state_of self.new) ≤ spent (state_of self.old)) }
         ensures work { OnOk result (work (state_of self.new) < work (state_of self.old)) }
+        ensures extent { extent (state_of self.new) ≡ extent (state_of self.old) }
     {
         let mark = self.cursor.mark();
         if self.in_flow() {
@@ -35,6 +36,7 @@ impl<'a> Fetcher<'a> {
         ensures value { Does (block_key (state_of self.old)) result (state_of self.new) }
         ensures cost { OnOk result (spent (state_of self.new) ≤ spent (state_of self.old)) }
         ensures work { OnOk result (work (state_of self.new) < work (state_of self.old)) }
+        ensures extent { extent (state_of self.new) ≡ extent (state_of self.old) }
     {
         let mark = self.cursor.mark();
         let in_flow = self.in_flow();
@@ -55,6 +57,7 @@ impl<'a> Fetcher<'a> {
             (state_of self.new) }
         ensures cost { OnOk result (spent (state_of self.new) ≤ spent (state_of self.old)) }
         ensures work { OnOk result (work (state_of self.new) < work (state_of self.old)) }
+        ensures extent { extent (state_of self.new) ≡ extent (state_of self.old) }
     {
         match self.keys.innermost() {
             Some(key) => self.fetch_value_of_key(key),
@@ -68,6 +71,7 @@ impl<'a> Fetcher<'a> {
         ensures value { Gives result (state_of self.new) (value_of_key key (state_of self.old)) }
         ensures cost { OnOk result (spent (state_of self.new) ≤ spent (state_of self.old)) }
         ensures work { OnOk result (work (state_of self.new) < work (state_of self.old)) }
+        ensures extent { extent (state_of self.new) ≡ extent (state_of self.old) }
     {
         let mark = self.cursor.mark();
         self.insert_token(key.place, key.mark, TokenType::Key)?;
@@ -89,6 +93,7 @@ impl<'a> Fetcher<'a> {
         ensures value { Does (value_alone (state_of self.old)) result (state_of self.new) }
         ensures cost { OnOk result (spent (state_of self.new) ≤ spent (state_of self.old)) }
         ensures work { OnOk result (work (state_of self.new) < work (state_of self.old)) }
+        ensures extent { extent (state_of self.new) ≡ extent (state_of self.old) }
     {
         let mark = self.cursor.mark();
         let in_flow = self.in_flow();

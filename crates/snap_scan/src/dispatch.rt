@@ -1,16 +1,16 @@
 //! One fetch: what stands next is put into the queue.
-ghost use Rattle.std.specs.Prelude.{◌≡◌, ◌<◌, ◌≤◌, OnOk, MatchResult, true, false, length, slice_index};
+ghost use Rattle.std.specs.Prelude.{◌≡◌, ◌<◌, ◌≤◌, OnOk, MatchResult, Ok, true, false, length, slice_index};
 ghost use Rattle.snap_scan_tokens.specs.declared.info.ScanError.TheVariants.{Syntax};
 ghost use Rattle.snap_scan_tokens.specs.declared.info.ScanInfo.TheVariants.{S1};
 ghost use Rattle.snap_scan_tokens.specs.Place.{mark_of};
 ghost use Rattle.snap_scan.specs.Keys.{any_overdue};
 ghost use Rattle.snap_scan.specs.Kinds.{Begins};
-ghost use Rattle.snap_scan.specs.State.{state_of, spent, left_of, work, stale};
+ghost use Rattle.snap_scan.specs.State.{state_of, extent, spent, left_of, work, stale};
 ghost use Rattle.snap_scan.specs.Fetching.{Does, token_step, kind_step, step};
 
 use crate::fetcher::{Fetcher, ScanResult};
 use crate::kind::{TokenKind, kind_here};
-use snap_scan_tokens::{ScanError, ScanInfo, TokenType};
+use snap_scan_tokens::{Quotes, ScanError, ScanInfo, TokenType};
 
 impl<'a> Fetcher<'a> {
     /// Gives up the keys that can be none here; one that must become a key is a fault.
@@ -23,6 +23,7 @@ impl<'a> Fetcher<'a> {
         ensures still { OnOk result (self.new.ended ≡ self.old.ended) }
         ensures cost { OnOk result (spent (state_of self.new) ≡ spent (state_of self.old)) }
         ensures work { OnOk result (work (state_of self.new) ≡ work (state_of self.old)) }
+        ensures extent { extent (state_of self.new) ≡ extent (state_of self.old) }
     {
         let mark = self.cursor.mark();
         if self.keys.any_overdue(mark) {
@@ -39,6 +40,7 @@ impl<'a> Fetcher<'a> {
         ensures value { Does (kind_step kind (state_of self.old)) result (state_of self.new) }
         ensures cost { OnOk result (spent (state_of self.new) ≤ spent (state_of self.old)) }
         ensures work { OnOk result (work (state_of self.new) < work (state_of self.old)) }
+        ensures extent { extent (state_of self.new) ≡ extent (state_of self.old) }
     {
         match kind {
             TokenKind::StreamEnd => self.fetch_stream_end(),
@@ -62,10 +64,10 @@ impl<'a> Fetcher<'a> {
             TokenKind::Alias => self.fetch_alias(),
             TokenKind::Anchor => self.fetch_anchor(),
             TokenKind::Tag => self.fetch_tag(),
-            TokenKind::Literal => self.fetch_literal(),
-            TokenKind::Folded => self.fetch_folded(),
-            TokenKind::SingleQuoted => self.fetch_single_quoted(),
-            TokenKind::DoubleQuoted => self.fetch_double_quoted(),
+            TokenKind::Literal => self.fetch_block_scalar(true),
+            TokenKind::Folded => self.fetch_block_scalar(false),
+            TokenKind::SingleQuoted => self.fetch_quoted(Quotes::Single),
+            TokenKind::DoubleQuoted => self.fetch_quoted(Quotes::Double),
             TokenKind::Plain => self.fetch_plain_scalar(),
             TokenKind::Refused(info) => Err(ScanError::Syntax(self.cursor.mark(), info)),
         }
@@ -77,6 +79,7 @@ impl<'a> Fetcher<'a> {
         ensures value { Does (token_step (state_of self.old)) result (state_of self.new) }
         ensures cost { OnOk result (spent (state_of self.new) ≤ spent (state_of self.old)) }
         ensures work { OnOk result (work (state_of self.new) < work (state_of self.old)) }
+        ensures extent { extent (state_of self.new) ≡ extent (state_of self.old) }
     {
         self.stale_simple_keys()?;
         let mark = self.cursor.mark();
@@ -88,10 +91,13 @@ impl<'a> Fetcher<'a> {
     /// Fetches what stands next. Once StreamEnd was made it does nothing.
     pub(crate) fn fetch_next_token(&mut self) -> ScanResult
         ensures value { Does (step (state_of self.old)) result (state_of self.new) }
+        ensures over { self.old.ended ≡ true
+            → (result ≡ Ok tt) × (state_of self.new ≡ state_of self.old) }
         ensures law { OnOk result (left_of (state_of self.new) ≤ left_of (state_of self.old)) }
         ensures work { self.old.ended ≡ false
             → OnOk result (work (state_of self.new) < work (state_of self.old)) }
         ensures more { self.old.ended ≡ false → OnOk result (1 ≤ length (state_of self.new).held) }
+        ensures extent { extent (state_of self.new) ≡ extent (state_of self.old) }
     {
         if self.ended {
             return Ok(());

@@ -4,7 +4,7 @@ ghost use Rattle.std.specs.Str.{chars};
 ghost use Rattle.snap_scan_tokens.specs.declared.info.ScanError.TheVariants.{Syntax};
 ghost use Rattle.snap_scan_tokens.specs.declared.info.ScanInfo.TheVariants.{S2};
 ghost use Rattle.snap_scan_tokens.specs.Place.{before_nul, mark_of};
-ghost use Rattle.snap_scan.specs.State.{state_of, start_state, spent, work, Gives, at, in_flow, pushed, inserted, advanced, allowing, unrolled, rolled, keyless, saved, is_key_owed, is_innermost, is_right_of};
+ghost use Rattle.snap_scan.specs.State.{state_of, extent, start_state, spent, work, Gives, at, in_flow, pushed, inserted, advanced, allowing, unrolled, rolled, keyless, saved, is_key_owed, is_innermost, is_right_of};
 ghost use Rattle.snap_scan.specs.Keys.{is_required};
 
 use crate::columns::Columns;
@@ -61,6 +61,7 @@ impl<'a> Fetcher<'a> {
         ensures still { self.new.ended ≡ self.old.ended }
         ensures cost { OnOk result (spent (state_of self.new) ≡ spent (state_of self.old) + 1) }
         ensures work { OnOk result (work (state_of self.new) ≡ work (state_of self.old)) }
+        ensures extent { extent (state_of self.new) ≡ extent (state_of self.old) }
     {
         self.tokens.push_back(Token(mark, kind))?;
         Ok(())
@@ -76,6 +77,7 @@ impl<'a> Fetcher<'a> {
             (inserted place (at mark kind.entry) (state_of self.old)) }
         ensures cost { OnOk result (spent (state_of self.new) ≡ spent (state_of self.old) + 1) }
         ensures work { OnOk result (work (state_of self.new) ≡ work (state_of self.old)) }
+        ensures extent { extent (state_of self.new) ≡ extent (state_of self.old) }
     {
         let place = place.min(self.tokens.len());
         self.tokens.insert(place, Token(mark, kind))?;
@@ -92,6 +94,7 @@ impl<'a> Fetcher<'a> {
             → spent (state_of self.new) + 4 ≤ spent (state_of self.old) }
         ensures work { slice_index (state_of self.old).place.left 0 ≢ 0
             → work (state_of self.new) + 1 ≤ work (state_of self.old) }
+        ensures extent { extent (state_of self.new) ≡ extent (state_of self.old) }
     {
         self.cursor.skip();
     }
@@ -100,6 +103,7 @@ impl<'a> Fetcher<'a> {
         ensures value { state_of self.new ≡ allowing allowed (state_of self.old) }
         ensures cost { spent (state_of self.new) ≡ spent (state_of self.old) }
         ensures work { work (state_of self.new) ≡ work (state_of self.old) }
+        ensures extent { extent (state_of self.new) ≡ extent (state_of self.old) }
     {
         self.simple_key_allowed = allowed;
     }
@@ -110,6 +114,7 @@ impl<'a> Fetcher<'a> {
         ensures still { OnOk result (self.new.ended ≡ self.old.ended) }
         ensures cost { OnOk result (spent (state_of self.new) ≡ spent (state_of self.old)) }
         ensures work { OnOk result (work (state_of self.new) ≡ work (state_of self.old)) }
+        ensures extent { extent (state_of self.new) ≡ extent (state_of self.old) }
     {
         if self.in_flow() {
             return Ok(());
@@ -137,6 +142,7 @@ impl<'a> Fetcher<'a> {
             (rolled col place (at mark kind.entry) (state_of self.old)) }
         ensures cost { OnOk result (spent (state_of self.new) ≤ spent (state_of self.old) + 2) }
         ensures work { OnOk result (work (state_of self.new) ≡ work (state_of self.old)) }
+        ensures extent { extent (state_of self.new) ≡ extent (state_of self.old) }
     {
         if self.in_flow() {
             return Ok(());
@@ -162,6 +168,7 @@ impl<'a> Fetcher<'a> {
             × (e ≡ Syntax (mark_of (state_of self.old).place) S2)) }
         ensures cost { OnOk result (spent (state_of self.new) ≡ spent (state_of self.old)) }
         ensures work { OnOk result (work (state_of self.new) ≡ work (state_of self.old)) }
+        ensures extent { extent (state_of self.new) ≡ extent (state_of self.old) }
     {
         if self.keys.is_required() {
             return Err(ScanError::Syntax(self.cursor.mark(), ScanInfo::S2));
@@ -179,6 +186,7 @@ impl<'a> Fetcher<'a> {
             × (e ≡ Syntax (mark_of (state_of self.old).place) S2)) }
         ensures cost { OnOk result (spent (state_of self.new) ≡ spent (state_of self.old)) }
         ensures work { OnOk result (work (state_of self.new) ≡ work (state_of self.old)) }
+        ensures extent { extent (state_of self.new) ≡ extent (state_of self.old) }
     {
         if self.simple_key_allowed {
             let mark = self.cursor.mark();

@@ -1,6 +1,6 @@
 //! Flow collections.
 ghost use Rattle.std.specs.Prelude.{◌≡◌, ◌≢◌, ◌<◌, ◌≤◌, OnOk, slice_index};
-ghost use Rattle.snap_scan.specs.State.{state_of, spent, work};
+ghost use Rattle.snap_scan.specs.State.{state_of, extent, spent, work};
 ghost use Rattle.snap_scan.specs.Fetching.{Does, flow_start, flow_end, flow_entry};
 
 use crate::fetcher::{Fetcher, ScanResult};
@@ -17,6 +17,7 @@ impl<'a> Fetcher<'a> {
             (state_of self.new) }
         ensures cost { OnOk result (spent (state_of self.new) ≤ spent (state_of self.old)) }
         ensures work { OnOk result (work (state_of self.new) < work (state_of self.old)) }
+        ensures extent { extent (state_of self.new) ≡ extent (state_of self.old) }
     {
         let mark = self.cursor.mark();
         self.save_simple_key()?;
@@ -35,6 +36,7 @@ impl<'a> Fetcher<'a> {
         ensures value { Does (flow_end kind.entry (state_of self.old)) result (state_of self.new) }
         ensures cost { OnOk result (spent (state_of self.new) ≤ spent (state_of self.old)) }
         ensures work { OnOk result (work (state_of self.new) < work (state_of self.old)) }
+        ensures extent { extent (state_of self.new) ≡ extent (state_of self.old) }
     {
         let mark = self.cursor.mark();
         self.remove_simple_key()?;
@@ -49,6 +51,7 @@ impl<'a> Fetcher<'a> {
         ensures value { Does (flow_entry (state_of self.old)) result (state_of self.new) }
         ensures cost { OnOk result (spent (state_of self.new) ≤ spent (state_of self.old)) }
         ensures work { OnOk result (work (state_of self.new) < work (state_of self.old)) }
+        ensures extent { extent (state_of self.new) ≡ extent (state_of self.old) }
     {
         let mark = self.cursor.mark();
         self.remove_simple_key()?;

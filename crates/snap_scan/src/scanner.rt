@@ -4,12 +4,12 @@ ghost use Rattle.std.specs.Str.{chars};
 ghost use Rattle.snap_scan_tokens.specs.Place.{before_nul, mark_of};
 ghost use Rattle.snap_scan_tokens.specs.declared.info.ScanError.{ScanError};
 ghost use Rattle.snap_scan.specs.Sound.{IsShown, IsFounded};
-ghost use Rattle.snap_scan.specs.Scan.{start_scan, left, Fails, Keeps, Pays, IsNoneAtEnd, HasStopped, IsGiven, IsNext, GivesNext, KeepsOrder};
-ghost use Rattle.snap_scan.specs.Owed.{GivesOwed, NextOwed};
+ghost use Rattle.snap_scan.specs.Scan.{start_scan, left, Fails, IsKept, Keeps, GivesAtEnd, Pays, IsNoneAtEnd, HasStopped, IsGiven, IsNext, GivesNext, KeepsOrder};
+ghost use Rattle.snap_scan.specs.Owed.{GivesOwed, OwesStill, NextOwed};
 ghost use Rattle.snap_scan.specs.State.{has_ended};
 
 use crate::fetcher::{Fetcher, ScanResult};
-use snap_scan_tokens::{Marker, ScanError, Token};
+use snap_scan_tokens::{Marker, ScanError, Token, keep};
 use std::alloc::Global;
 use std::marker::Model;
 
@@ -29,12 +29,13 @@ impl<'a> Model for Scanner<'a> {
 
     ghost Value = { Scan };
 
-    ghost use Rattle.snap_scan.specs.State.{state_of};
+    ghost use Rattle.std.specs.Prelude.{◌≡◌, length};
+    ghost use Rattle.snap_scan.specs.State.{state_of, extent};
     ghost use Rattle.snap_scan.specs.Scan.{IsWholeWhile};
 
     ghost view = { λ s. record { source = before_nul (chars s.source.now); state = state_of s.fetcher; error = s.error } };
 
-    ghost invariant = { λ s. IsWholeWhile s.error (before_nul (chars s.source.now)) (state_of s.fetcher) };
+    ghost invariant = { λ s. IsWholeWhile s.error (before_nul (chars s.source.now)) (state_of s.fetcher) × (extent (state_of s.fetcher) ≡ length (before_nul (chars s.source.now))) };
 }
 
 impl<'a> Scanner<'a> {
@@ -53,9 +54,11 @@ impl<'a> Scanner<'a> {
     /// The next token; none once StreamEnd was given.
     pub fn next_token(&mut self) -> Result<Option<Token<'a>>, ScanError>
         ensures sticky { (e : ScanError) → self.old.error ≡ Some e → Fails result e }
+        ensures same { IsKept self.old self.new }
         ensures kept { Keeps result self.new }
         ensures none { IsNoneAtEnd result self.old.state self.new.state }
         ensures next { GivesNext self.old.source result self.old.state self.new.state }
+        ensures ended { GivesAtEnd self.old result None self.new }
         ensures owed { GivesOwed self.old result self.new }
         ensures cause { IfErr result (λ e. IsFounded self.old.source e) }
         ensures law { Pays result (left self.old) (left self.new) }
@@ -74,8 +77,11 @@ impl<'a> Scanner<'a> {
     /// Puts the token that stands next into the queue. Once StreamEnd was made it does nothing.
     pub fn fetch_next_token(&mut self) -> ScanResult
         ensures sticky { (e : ScanError) → self.old.error ≡ Some e → Fails result e }
+        ensures same { IsKept self.old self.new }
         ensures kept { Keeps result self.new }
         ensures order { KeepsOrder result self.old.state self.new.state }
+        ensures ended { GivesAtEnd self.old result tt self.new }
+        ensures owed { OwesStill self.old result self.new }
         ensures cause { IfErr result (λ e. IsFounded self.old.source e) }
         ensures law { left self.new ≤ left self.old }
         ensures source { self.new.source ≡ self.old.source }
@@ -92,8 +98,11 @@ impl<'a> Scanner<'a> {
     /// Puts tokens into the queue until the first can be given.
     pub fn fetch_more_tokens(&mut self) -> ScanResult
         ensures sticky { (e : ScanError) → self.old.error ≡ Some e → Fails result e }
+        ensures same { IsKept self.old self.new }
         ensures kept { Keeps result self.new }
         ensures order { KeepsOrder result self.old.state self.new.state }
+        ensures ended { GivesAtEnd self.old result tt self.new }
+        ensures owed { OwesStill self.old result self.new }
         ensures cause { IfErr result (λ e. IsFounded self.old.source e) }
         ensures law { left self.new ≤ left self.old }
         ensures source { self.new.source ≡ self.old.source }
@@ -109,8 +118,10 @@ impl<'a> Scanner<'a> {
 
     /// The next token; none once StreamEnd was given, and from the first failure on.
     pub fn next(&mut self) -> Option<Token<'a>>
+        ensures same { IsKept self.old self.new }
         ensures none { MatchOption result (HasStopped self.old self.new)
             (λ _. IsGiven self.old self.new) }
+        ensures ended { has_ended self.old.state ≡ true → (result ≡ None) × (self.new ≡ self.old) }
         ensures next { MatchOption result ⊤ (λ token. IsNext token self.old.state self.new.state) }
         ensures owed { NextOwed self.old result self.new }
         ensures shown { MatchOption result ⊤ (λ token. IsShown self.old.source token) }
@@ -127,7 +138,7 @@ impl<'a> Scanner<'a> {
     /// The place that the scanner has come to; after the end that of the end.
     pub fn mark(&self) -> Marker
         ensures place { result ≡ mark_of self.now.state.place }
-        ensures inside { self.now.error ≡ None → result.index ≤ length self.now.source }
+        ensures inside { result.index ≤ length self.now.source }
     {
         self.fetcher.cursor.mark()
     }
@@ -153,13 +164,4 @@ impl<'a> Scanner<'a> {
     {
         self.fetcher.has_ended()
     }
-}
-
-/// Keeps an error for good.
-fn keep(kept: &mut Option<ScanError>, error: &ScanError) -> ScanError
-    ensures result { result ≡ error.now }
-    ensures kept { kept.new ≡ Some error.now }
-{
-    *kept = Some(*error);
-    *error
 }

@@ -1,6 +1,6 @@
 //! The stream, its documents and its directives.
 ghost use Rattle.std.specs.Prelude.{◌≡◌, ◌≢◌, ◌<◌, ◌≤◌, OnOk, false, slice_index};
-ghost use Rattle.snap_scan.specs.State.{state_of, spent, work, Gives};
+ghost use Rattle.snap_scan.specs.State.{state_of, extent, spent, work, Gives};
 ghost use Rattle.snap_scan.specs.Fetching.{Does, stream_started, stream_end, document, directive};
 
 use crate::fetcher::{Fetcher, ScanResult};
@@ -13,6 +13,7 @@ impl<'a> Fetcher<'a> {
         ensures value { Gives result (state_of self.new) (stream_started (state_of self.old)) }
         ensures cost { OnOk result (spent (state_of self.new) ≤ spent (state_of self.old)) }
         ensures work { OnOk result (work (state_of self.new) < work (state_of self.old)) }
+        ensures extent { extent (state_of self.new) ≡ extent (state_of self.old) }
     {
         let mark = self.cursor.mark();
         self.push_token(mark, TokenType::StreamStart(TEncoding::Utf8))?;
@@ -25,6 +26,7 @@ impl<'a> Fetcher<'a> {
         ensures value { Does (stream_end (state_of self.old)) result (state_of self.new) }
         ensures cost { OnOk result (spent (state_of self.new) ≤ spent (state_of self.old)) }
         ensures work { OnOk result (work (state_of self.new) < work (state_of self.old)) }
+        ensures extent { extent (state_of self.new) ≡ extent (state_of self.old) }
     {
         self.cursor.force_line();
         self.unroll_indent(None)?;
@@ -42,6 +44,7 @@ impl<'a> Fetcher<'a> {
         ensures value { Does (document kind.entry (state_of self.old)) result (state_of self.new) }
         ensures cost { OnOk result (spent (state_of self.new) ≤ spent (state_of self.old)) }
         ensures work { OnOk result (work (state_of self.new) < work (state_of self.old)) }
+        ensures extent { extent (state_of self.new) ≡ extent (state_of self.old) }
     {
         self.unroll_indent(None)?;
         self.remove_simple_key()?;
@@ -58,6 +61,7 @@ impl<'a> Fetcher<'a> {
         ensures value { Does (directive (state_of self.old)) result (state_of self.new) }
         ensures cost { OnOk result (spent (state_of self.new) ≤ spent (state_of self.old)) }
         ensures work { OnOk result (work (state_of self.new) < work (state_of self.old)) }
+        ensures extent { extent (state_of self.new) ≡ extent (state_of self.old) }
     {
         self.unroll_indent(None)?;
         self.remove_simple_key()?;

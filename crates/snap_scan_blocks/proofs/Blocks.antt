@@ -1,6 +1,8 @@
 -- A block scalar from what its parts read.
-use Rattle.snap_scan_blocks.proofs.Prelude.{◌≡◌, ℕ, List, [], Bool, true, false, refl, sym, ap, ◌∙◌, subst, Option, Some, None, Ok, Err, BlockScalar, Lines, Block, Read, between, opened, lines_from, indentation_of, is_bad_tab, content_of, block_of, block_behind, ReadsBlock, Headed, ReadsHeader, no_lines, with_breaks, chomped, Passes, is_open, IsRefusedOpening, ReadsLines, ScanError, OutOfMemory, Syntax, Mark, Place, mark_of}
+use Rattle.snap_scan_blocks.proofs.Prelude.{◌≡◌, ℕ, List, [], Bool, true, false, refl, sym, ap, ◌∙◌, subst, Option, Some, None, is_some, if◌then◌else◌, Ok, Err, BlockScalar, Lines, Block, Read, between, opened, lines_from, indentation_of, is_bad_tab, content_of, block_of, block_behind, ReadsBlock, Headed, ReadsHeader, no_lines, with_breaks, chomped, Passes, is_open, IsRefusedOpening, ReadsLines, ScanError, OutOfMemory, Syntax, Mark, Place, mark_of}
 use Rattle.snap_scan_blocks.specs.declared.header.Header.{Header}
+use Rattle.snap_scan_tokens.specs.declared.info.ScanInfo.{ScanInfo}
+use Rattle.snap_scan_tokens.specs.declared.info.ScanInfo.TheVariants.{S28}
 use Rattle.snap_scan_blocks.proofs.Between.{opened-stop}
 
 -- want of memory is an answer to any text
@@ -68,3 +70,12 @@ block-read t indent literal o header p n breaks q r lines scalar reads b read te
     subst P (sym (header-is o header p reads))
     (read-so t header (content_of header.indentation indent p) (lines_from header.indentation indent literal no_lines p) r lines scalar
     (subst Q (lines-are indent literal header p n breaks q b) read) text (place ∙ mark-is indent header p n breaks q b))
+
+-- what is at fault once a header was read, and where none was
+pub late-fault : (o : Option Headed) (header : Header) (p : Place) (info : ScanInfo) → ReadsHeader o (Ok header) p → (if is_some o then S28 else info) ≡ S28
+late-fault None header p info reads = absurd reads
+late-fault (Some h) header p info reads = refl
+
+pub early-fault : (o : Option Headed) (e : ScanError) (p : Place) (info : ScanInfo) → ReadsHeader o (Err e) p → (if is_some o then S28 else info) ≡ info
+early-fault None e p info reads = refl
+early-fault (Some h) e p info reads = absurd reads

@@ -1,12 +1,14 @@
 -- Block scalars, character by character.
-use Rattle.std.specs.Prelude.{ℕ, ◌+◌, ◌==◌, ◌&&◌, ◌||◌, nat_lt, max, not, List, [], ◌∷◌, Bool, false, if◌then◌else◌, slice_index, Option, Some, None, Result, Ok, Err, ◌≡◌}
+use Rattle.std.specs.Prelude.{ℕ, ◌+◌, ◌==◌, ◌&&◌, ◌||◌, nat_lt, max, not, List, [], ◌∷◌, Bool, false, if◌then◌else◌, slice_index, Option, Some, None, is_some, Result, Ok, Err, ◌≡◌}
 use Rattle.snap_scan_blocks.specs.declared.header.Header.{Header}
 use Rattle.snap_scan_blocks.specs.declared.lines.Lines.{Lines}
 use Rattle.snap_scan_blocks.specs.declared.block_scalar.BlockScalar.{BlockScalar}
-use Rattle.snap_scan_blocks.specs.Header.{Headed, header_from}
+use Rattle.snap_scan_blocks.specs.Header.{Headed, header_from, header_fault}
 use Rattle.snap_scan_blocks.specs.Lines.{no_lines, with_empty, with_line, with_character, ended, chomped}
 use Rattle.snap_scan_tokens.specs.declared.info.ScanError.{ScanError}
 use Rattle.snap_scan_tokens.specs.declared.info.ScanError.TheVariants.{OutOfMemory}
+use Rattle.snap_scan_tokens.specs.declared.info.ScanInfo.{ScanInfo}
+use Rattle.snap_scan_tokens.specs.declared.info.ScanInfo.TheVariants.{S28}
 use Rattle.snap_scan_tokens.specs.Characters.{is_blank, is_break, is_pair}
 use Rattle.snap_scan_tokens.specs.Mark.{Mark}
 use Rattle.snap_scan_tokens.specs.Place.{Place, skipped, mark_of}
@@ -95,6 +97,10 @@ block_behind indent literal (Some h) =
 
 abbrev pub block_from : Option ℕ → Bool → Place → Option Block
 block_from indent literal p = block_behind indent literal (header_from p)
+
+-- what is wrong with a block scalar that is refused: its header, or a tab where the indentation is looked for
+abbrev pub block_fault : Place → ScanInfo
+block_fault p = if is_some (header_from p) then S28 else header_fault p
 
 -- the scalar was read, and is refused exactly where it is refused here, want of memory aside
 abbrev pub ReadsBlock : Option Block → Result BlockScalar ScanError → Place → Type 0

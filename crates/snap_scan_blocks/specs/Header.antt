@@ -4,6 +4,8 @@ use Rattle.snap_scan_blocks.specs.declared.header.Chomping.{Chomping}
 use Rattle.snap_scan_blocks.specs.declared.header.Chomping.TheVariants.{Strip, Clip, Keep}
 use Rattle.snap_scan_blocks.specs.declared.header.Header.{Header}
 use Rattle.snap_scan_tokens.specs.declared.info.ScanError.{ScanError}
+use Rattle.snap_scan_tokens.specs.declared.info.ScanInfo.{ScanInfo}
+use Rattle.snap_scan_tokens.specs.declared.info.ScanInfo.TheVariants as i
 use Rattle.snap_scan_tokens.specs.Characters.{is_digit, is_break_or_end, past_break, past_comment}
 use Rattle.snap_scan_tokens.specs.Place.{Place, skipped}
 
@@ -62,6 +64,10 @@ line_end (Some h) =
 
 abbrev pub header_from : Place → Option Headed
 header_from p = line_end (signs (skipped p))
+
+-- what is wrong with a header that is refused: the digit 0, or something else than a comment behind the signs
+abbrev pub header_fault : Place → ScanInfo
+header_fault p = if is_some (signs (skipped p)) then i.S27 else i.S26
 
 -- the header was read, and is refused exactly where it is refused here
 abbrev pub ReadsHeader : Option Headed → Result Header ScanError → Place → Type 0

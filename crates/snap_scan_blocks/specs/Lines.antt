@@ -3,7 +3,7 @@ use Rattle.std.specs.Prelude.{ℕ, ◌||◌, List, [], ◌∷◌, ◌++◌, Bool
 use Rattle.snap_scan_blocks.specs.declared.header.Chomping.{Chomping}
 use Rattle.snap_scan_blocks.specs.declared.header.Chomping.TheVariants.{Strip, Clip, Keep}
 use Rattle.snap_scan_blocks.specs.declared.lines.Lines.{Lines}
-use Rattle.snap_scan_tokens.specs.Folding.{is_nil}
+use Rattle.snap_content.specs.Numbers.{is_nothing}
 
 abbrev pub no_lines : Lines
 no_lines = record { text = []; is_ended = false; is_deeper = false; breaks = [] }
@@ -20,7 +20,7 @@ with_empty l = record l { breaks = l.breaks ++ 10 ∷ [] }
 abbrev pub with_end : Bool → Bool → Lines → List ℕ
 with_end literal deeper l =
     if literal || l.is_deeper || deeper then l.text ++ 10 ∷ [] else (
-    if is_nil l.breaks then l.text ++ 32 ∷ [] else l.text)
+    if is_nothing l.breaks then l.text ++ 32 ∷ [] else l.text)
 
 -- the text before a further line
 abbrev pub joined : Bool → Bool → Lines → List ℕ

@@ -1,8 +1,8 @@
 //! Block scalars: lines behind `|` or `>`.
-ghost use Rattle.std.specs.Prelude.{ℕ, ◌≡◌, ◌+◌, ◌≤◌, true, codes, OnOk, IfOk, IfErr, length, slice_index};
-ghost use Rattle.snap_scan_tokens.specs.Causes.{IsExplained, is_among};
-ghost use Rattle.snap_scan_tokens.specs.Place.{Place, Later};
-ghost use Rattle.snap_scan_blocks.specs.Block.{block_from, ReadsBlock};
+ghost use Rattle.std.specs.Prelude.{◌≡◌, ◌+◌, ◌≤◌, true, codes, OnOk, IfOk, IfErr, length, slice_index};
+ghost use Rattle.snap_scan_tokens.specs.Causes.{IsExplained, IsFault, is_among};
+ghost use Rattle.snap_scan_tokens.specs.Place.{Travels};
+ghost use Rattle.snap_scan_blocks.specs.Block.{block_from, block_fault, ReadsBlock};
 
 use crate::header::scan_header;
 use crate::indentation::scan_opening;
@@ -29,14 +29,12 @@ pub fn scan_block_scalar<'a>(
 ) -> Result<BlockScalar<'a>, ScanError>
     requires { is_among (codes "|>") (slice_index cursor.old.left 0) ≡ true }
     ensures value { ReadsBlock (block_from indent literal cursor.old) result cursor.new }
-    ensures onward { (p : Place) → Later p cursor.old → Later p cursor.new }
-    ensures sum { cursor.new.index + length cursor.new.left
-        ≡ cursor.old.index + length cursor.old.left }
-    ensures lighter { length cursor.new.left ≤ length cursor.old.left }
+    ensures travels { Travels cursor.old cursor.new }
     ensures falls { OnOk result (length cursor.new.left + 1 ≤ length cursor.old.left) }
     ensures mark { IfOk result (λ s. (cursor.old.index ≤ s.mark.index)
         × (s.mark.index ≤ cursor.new.index)) }
     ensures cause { IfErr result (λ e. IsExplained cursor.old e) }
+    ensures info { IfErr result (IsFault (block_fault cursor.old)) }
 {
     let start = cursor.mark();
     let header = scan_header(cursor, start)?;

@@ -1,9 +1,11 @@
 //! The header of a block scalar: the line of `|` or `>`.
-ghost use Rattle.std.specs.Prelude.{ℕ, ◌≡◌, ◌≢◌, ◌+◌, ◌≤◌, codes, IfOk, OnOk, IfErr, true, false, length, slice_index};
+ghost use Rattle.std.specs.Prelude.{◌≡◌, ◌≢◌, ◌+◌, ◌≤◌, codes, IfOk, OnOk, IfErr, true, false, length, slice_index};
 ghost use Rattle.snap_scan_tokens.specs.Causes.{IsRefusedBy};
 ghost use Rattle.snap_scan_tokens.specs.Characters.{is_break_or_end, past_break, past_comment};
-ghost use Rattle.snap_scan_tokens.specs.Place.{Place, Later, skipped};
-ghost use Rattle.snap_scan_blocks.specs.Header.{chomping_of, or_clip, digit_of, past_sign, past_digit, digit_first, signs, header_from, ReadsHeader};
+ghost use Rattle.snap_scan_tokens.specs.Place.{Travels};
+ghost use Rattle.snap_scan_blocks.specs.Header.{chomping_of, or_clip, digit_of, past_sign, past_digit, digit_first, signs, header_from, header_fault, ReadsHeader};
+ghost use Rattle.snap_scan_tokens.specs.declared.info.ScanError.TheVariants.{Syntax};
+ghost use Rattle.snap_scan_tokens.specs.declared.info.ScanInfo.TheVariants.{S26, S27};
 
 use snap_scan_tokens::characters::{is_break_or_end, is_digit};
 use snap_scan_tokens::cursor::Cursor;
@@ -30,10 +32,7 @@ pub struct Header {
 fn scan_chomping(cursor: &mut Cursor) -> Option<Chomping>
     ensures value { result ≡ chomping_of (slice_index cursor.old.left 0) }
     ensures place { cursor.new ≡ past_sign cursor.old }
-    ensures onward { (p : Place) → Later p cursor.old → Later p cursor.new }
-    ensures sum { cursor.new.index + length cursor.new.left
-        ≡ cursor.old.index + length cursor.old.left }
-    ensures lighter { length cursor.new.left ≤ length cursor.old.left }
+    ensures travels { Travels cursor.old cursor.new }
 {
     match cursor.ch() {
         '+' => {
@@ -53,11 +52,8 @@ fn scan_digit(cursor: &mut Cursor, mark: Marker) -> Result<Option<usize>, ScanEr
     ensures value { IfOk result (λ digit. digit ≡ digit_of (slice_index cursor.old.left 0)) }
     ensures place { OnOk result (cursor.new ≡ past_digit cursor.old) }
     ensures some { OnOk result (slice_index cursor.old.left 0 ≢ 48) }
-    ensures zero { IfErr result (λ _. slice_index cursor.old.left 0 ≡ 48) }
-    ensures onward { (p : Place) → Later p cursor.old → Later p cursor.new }
-    ensures sum { cursor.new.index + length cursor.new.left
-        ≡ cursor.old.index + length cursor.old.left }
-    ensures lighter { length cursor.new.left ≤ length cursor.old.left }
+    ensures zero { IfErr result (λ e. (e ≡ Syntax mark S26) × (slice_index cursor.old.left 0 ≡ 48)) }
+    ensures travels { Travels cursor.old cursor.new }
     ensures cause { IfErr result (λ e. IsRefusedBy (codes "|>") mark e) }
 {
     let c = cursor.ch();
@@ -75,10 +71,7 @@ fn scan_digit(cursor: &mut Cursor, mark: Marker) -> Result<Option<usize>, ScanEr
 fn scan_late_chomping(cursor: &mut Cursor) -> Chomping
     ensures value { result ≡ or_clip (chomping_of (slice_index cursor.old.left 0)) }
     ensures place { cursor.new ≡ past_sign cursor.old }
-    ensures onward { (p : Place) → Later p cursor.old → Later p cursor.new }
-    ensures sum { cursor.new.index + length cursor.new.left
-        ≡ cursor.old.index + length cursor.old.left }
-    ensures lighter { length cursor.new.left ≤ length cursor.old.left }
+    ensures travels { Travels cursor.old cursor.new }
 {
     match scan_chomping(cursor) {
         Some(chomping) => chomping,
@@ -89,10 +82,8 @@ fn scan_late_chomping(cursor: &mut Cursor) -> Chomping
 /// Reads the signs behind `|` or `>` that begin with no `+` and no `-`.
 fn scan_digit_first(cursor: &mut Cursor, mark: Marker) -> Result<Header, ScanError>
     ensures value { ReadsHeader (digit_first cursor.old) result cursor.new }
-    ensures onward { (p : Place) → Later p cursor.old → Later p cursor.new }
-    ensures sum { cursor.new.index + length cursor.new.left
-        ≡ cursor.old.index + length cursor.old.left }
-    ensures lighter { length cursor.new.left ≤ length cursor.old.left }
+    ensures zero { IfErr result (λ e. e ≡ Syntax mark S26) }
+    ensures travels { Travels cursor.old cursor.new }
     ensures cause { IfErr result (λ e. IsRefusedBy (codes "|>") mark e) }
 {
     match scan_digit(cursor, mark)? {
@@ -113,10 +104,8 @@ fn scan_digit_first(cursor: &mut Cursor, mark: Marker) -> Result<Header, ScanErr
 /// Reads the signs behind `|` or `>`, which may stand in either order.
 fn scan_signs(cursor: &mut Cursor, mark: Marker) -> Result<Header, ScanError>
     ensures value { ReadsHeader (signs cursor.old) result cursor.new }
-    ensures onward { (p : Place) → Later p cursor.old → Later p cursor.new }
-    ensures sum { cursor.new.index + length cursor.new.left
-        ≡ cursor.old.index + length cursor.old.left }
-    ensures lighter { length cursor.new.left ≤ length cursor.old.left }
+    ensures zero { IfErr result (λ e. e ≡ Syntax mark S26) }
+    ensures travels { Travels cursor.old cursor.new }
     ensures cause { IfErr result (λ e. IsRefusedBy (codes "|>") mark e) }
 {
     match scan_chomping(cursor) {
@@ -136,12 +125,9 @@ fn scan_rest_of_header(cursor: &mut Cursor, mark: Marker) -> Result<(), ScanErro
     ensures place { OnOk result (cursor.new ≡ past_break (past_comment cursor.old)) }
     ensures end { OnOk result (is_break_or_end (slice_index (past_comment cursor.old).left 0)
         ≡ true) }
-    ensures rest { IfErr result (λ _. is_break_or_end (slice_index (past_comment cursor.old).left 0)
-        ≡ false) }
-    ensures onward { (p : Place) → Later p cursor.old → Later p cursor.new }
-    ensures sum { cursor.new.index + length cursor.new.left
-        ≡ cursor.old.index + length cursor.old.left }
-    ensures lighter { length cursor.new.left ≤ length cursor.old.left }
+    ensures rest { IfErr result (λ e. (e ≡ Syntax mark S27)
+        × (is_break_or_end (slice_index (past_comment cursor.old).left 0) ≡ false)) }
+    ensures travels { Travels cursor.old cursor.new }
     ensures cause { IfErr result (λ e. IsRefusedBy (codes "|>") mark e) }
 {
     cursor.skip_comment();
@@ -156,10 +142,8 @@ fn scan_rest_of_header(cursor: &mut Cursor, mark: Marker) -> Result<(), ScanErro
 pub(crate) fn scan_header(cursor: &mut Cursor, mark: Marker) -> Result<Header, ScanError>
     requires { slice_index cursor.old.left 0 ≢ 0 }
     ensures value { ReadsHeader (header_from cursor.old) result cursor.new }
-    ensures onward { (p : Place) → Later p cursor.old → Later p cursor.new }
-    ensures sum { cursor.new.index + length cursor.new.left
-        ≡ cursor.old.index + length cursor.old.left }
-    ensures lighter { length cursor.new.left ≤ length cursor.old.left }
+    ensures info { IfErr result (λ e. e ≡ Syntax mark (header_fault cursor.old)) }
+    ensures travels { Travels cursor.old cursor.new }
     ensures falls { OnOk result (length cursor.new.left + 1 ≤ length cursor.old.left) }
     ensures cause { IfErr result (λ e. IsRefusedBy (codes "|>") mark e) }
 {

@@ -1,7 +1,8 @@
 //! Empty lines before the lines of a block scalar, and the indentation of these.
-ghost use Rattle.std.specs.Prelude.{ℕ, ◌≡◌, ◌≢◌, ◌+◌, ◌≤◌, ◌==◌, ◌&&◌, nat_lt, max, true, false, codes, Option, Some, None, List, IfOk, OnOk, IfErr, length, slice_index};
-ghost use Rattle.snap_scan_tokens.specs.Causes.{IsRefusedBy};
-ghost use Rattle.snap_scan_tokens.specs.Place.{Place, Later, mark_of};
+ghost use Rattle.std.specs.Prelude.{ℕ, ◌≡◌, ◌≤◌, ◌==◌, ◌&&◌, nat_lt, max, true, false, codes, List, IfOk, OnOk, IfErr, slice_index};
+ghost use Rattle.snap_scan_tokens.specs.Causes.{IsRefusedBy, IsFault};
+ghost use Rattle.snap_scan_tokens.specs.declared.info.ScanInfo.TheVariants.{S28};
+ghost use Rattle.snap_scan_tokens.specs.Place.{Travels, mark_of};
 ghost use Rattle.snap_scan_blocks.specs.Block.{widest, first_sign, right_of, indentation_of, is_bad_tab};
 ghost use Rattle.snap_scan_blocks.specs.Steps.{Passes, is_open, IsRefusedLine, IsTabFirst, IsRefusedOpening};
 
@@ -24,10 +25,7 @@ fn skip_indentation(cursor: &mut Cursor, indentation: u128)
     ensures value { (breaks : List ℕ) → Passes indentation breaks cursor.old breaks cursor.new }
     ensures end { (slice_index cursor.new.left 0 == 32 && nat_lt cursor.new.col indentation)
         ≡ false }
-    ensures onward { (p : Place) → Later p cursor.old → Later p cursor.new }
-    ensures sum { cursor.new.index + length cursor.new.left
-        ≡ cursor.old.index + length cursor.old.left }
-    ensures lighter { length cursor.new.left ≤ length cursor.old.left }
+    ensures travels { Travels cursor.old cursor.new }
 {
     'spaces: while cursor.ch() == ' ' && is_indented(indentation, cursor.mark().col()) {
         cursor.skip();
@@ -44,11 +42,9 @@ pub(crate) fn scan_empty_lines(
     ensures value { OnOk result (Passes indentation breaks.old cursor.old breaks.new cursor.new) }
     ensures stands { OnOk result (is_open indentation cursor.new ≡ true) }
     ensures refused { IfErr result (λ e. IsRefusedLine indentation breaks.old cursor.old e) }
-    ensures onward { (p : Place) → Later p cursor.old → Later p cursor.new }
-    ensures sum { cursor.new.index + length cursor.new.left
-        ≡ cursor.old.index + length cursor.old.left }
-    ensures lighter { length cursor.new.left ≤ length cursor.old.left }
+    ensures travels { Travels cursor.old cursor.new }
     ensures cause { IfErr result (λ e. IsRefusedBy (codes "|>") (mark_of cursor.new) e) }
+    ensures info { IfErr result (IsFault S28) }
 {
     'lines: loop {
         skip_indentation(cursor, indentation);
@@ -82,11 +78,9 @@ fn scan_leading_lines(
     ensures stands { OnOk result ((n : ℕ) → is_open n cursor.new ≡ true) }
     ensures sign { OnOk result ((first_sign cursor.old.left == 9) ≡ false) }
     ensures refused { IfErr result (λ e. IsTabFirst cursor.old.left e) }
-    ensures onward { (p : Place) → Later p cursor.old → Later p cursor.new }
-    ensures sum { cursor.new.index + length cursor.new.left
-        ≡ cursor.old.index + length cursor.old.left }
-    ensures lighter { length cursor.new.left ≤ length cursor.old.left }
+    ensures travels { Travels cursor.old cursor.new }
     ensures cause { IfErr result (λ e. IsRefusedBy (codes "|>") (mark_of cursor.new) e) }
+    ensures info { IfErr result (IsFault S28) }
 {
     let mut reached = 0;
     'lines: loop {
@@ -138,11 +132,9 @@ pub(crate) fn scan_opening(
     ensures tab { OnOk result (is_bad_tab header.indentation cursor.old ≡ false) }
     ensures refused { IfErr result (λ e.
         IsRefusedOpening header.indentation indent breaks.old cursor.old e) }
-    ensures onward { (p : Place) → Later p cursor.old → Later p cursor.new }
-    ensures sum { cursor.new.index + length cursor.new.left
-        ≡ cursor.old.index + length cursor.old.left }
-    ensures lighter { length cursor.new.left ≤ length cursor.old.left }
+    ensures travels { Travels cursor.old cursor.new }
     ensures cause { IfErr result (λ e. IsRefusedBy (codes "|>") (mark_of cursor.new) e) }
+    ensures info { IfErr result (IsFault S28) }
 {
     match header.indentation {
         Some(digit) => {

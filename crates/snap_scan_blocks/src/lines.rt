@@ -1,9 +1,10 @@
 //! The lines of a block scalar.
-ghost use Rattle.std.specs.Prelude.{ℕ, ◌≡◌, ◌+◌, ◌≤◌, true, false, codes, List, [], IfOk, OnOk, IfErr, length, slice_index};
-ghost use Rattle.snap_scan_tokens.specs.Causes.{IsRefusedBy};
+ghost use Rattle.std.specs.Prelude.{◌≡◌, true, false, codes, [], IfOk, OnOk, IfErr, slice_index};
+ghost use Rattle.snap_scan_tokens.specs.Causes.{IsRefusedBy, IsFault};
+ghost use Rattle.snap_scan_tokens.specs.declared.info.ScanInfo.TheVariants.{S28};
 ghost use Rattle.snap_scan_tokens.specs.Characters.{is_blank, is_of};
 ghost use Rattle.snap_scan_tokens.specs.Pieces.{before};
-ghost use Rattle.snap_scan_tokens.specs.Place.{Place, Later, mark_of, skipped_while};
+ghost use Rattle.snap_scan_tokens.specs.Place.{Travels, mark_of, skipped_while};
 ghost use Rattle.snap_scan_blocks.specs.Block.{between};
 ghost use Rattle.snap_scan_blocks.specs.Lines.{no_lines, joined, with_line, chomped};
 ghost use Rattle.snap_scan_blocks.specs.Steps.{is_open, ReadsLines};
@@ -14,7 +15,7 @@ use snap_content::characters::before_rest;
 use snap_content::{OutOfMemory, Text};
 use snap_scan_tokens::characters::{Kind, is_blank};
 use snap_scan_tokens::cursor::Cursor;
-use snap_scan_tokens::folding::is_nil;
+use snap_scan_tokens::folding::is_nothing;
 use snap_scan_tokens::info::ScanError;
 use std::alloc::Global;
 
@@ -56,7 +57,7 @@ impl Lines {
         if self.is_ended {
             if literal || self.is_deeper || is_deeper {
                 self.text.push(alloc, '\n')?;
-            } else if is_nil(&self.breaks) {
+            } else if is_nothing(&self.breaks) {
                 self.text.push(alloc, ' ')?;
             }
         }
@@ -79,10 +80,7 @@ impl Lines {
             (before cursor.old.left cursor.new.left) self.old) }
         ensures place { OnOk result (cursor.new ≡ skipped_while (is_of Kind.InLine) cursor.old) }
         ensures end { OnOk result (is_of Kind.InLine (slice_index cursor.new.left 0) ≡ false) }
-        ensures onward { (p : Place) → Later p cursor.old → Later p cursor.new }
-        ensures sum { cursor.new.index + length cursor.new.left
-            ≡ cursor.old.index + length cursor.old.left }
-        ensures lighter { length cursor.new.left ≤ length cursor.old.left }
+        ensures travels { Travels cursor.old cursor.new }
     {
         self.join(alloc, literal, is_blank(cursor.ch()))?;
         let start = cursor.rest();
@@ -104,11 +102,9 @@ impl Lines {
         ensures value { ReadsLines
             (between indentation literal self.old cursor.old.left cursor.old) result self.new
             cursor.new }
-        ensures onward { (p : Place) → Later p cursor.old → Later p cursor.new }
-        ensures sum { cursor.new.index + length cursor.new.left
-            ≡ cursor.old.index + length cursor.old.left }
-        ensures lighter { length cursor.new.left ≤ length cursor.old.left }
+        ensures travels { Travels cursor.old cursor.new }
         ensures cause { IfErr result (λ e. IsRefusedBy (codes "|>") (mark_of cursor.new) e) }
+        ensures info { IfErr result (IsFault S28) }
     {
         'lines: while cursor.ch() != '\0' && cursor.mark().col() as u128 == indentation {
             self.scan_line(alloc, cursor, literal)?;

@@ -1,5 +1,5 @@
 -- Names of anchors, and handles of tags.
-use Rattle.snap_scan_properties.proofs.Prelude.{◌≡◌, ◌≢◌, ℕ, ◌==◌, ◌||◌, List, true, false, not, Result, Ok, Err, refl, sym, ap, ◌∙◌, subst, codes, take_while, IfErr, ne_eqb, ScanError, ScanInfo, S22, is_among, IsExplained, IsRefusedBy, is_alpha, is_nil, Mark, Place, skipped, skipped_while, mark_of, explained, ends_name, named, anchor_from, Found, found, ahead, run_of, local, shorthand}
+use Rattle.snap_scan_properties.proofs.Prelude.{◌≡◌, ◌≢◌, ℕ, ◌==◌, ◌||◌, List, true, false, not, Result, Ok, Err, refl, sym, ap, ◌∙◌, subst, codes, take_while, IfErr, ne_eqb, ScanError, ScanInfo, S22, is_among, IsExplained, IsRefusedBy, is_alpha, is_nothing, Mark, Place, skipped, skipped_while, mark_of, explained, ends_name, named, anchor_from, Found, found, ahead, run_of, local, shorthand}
 
 named-of : (p q r : Place) (text : List ℕ) → q ≡ skipped p → text ≡ take_while is_alpha q.left → r ≡ skipped_while is_alpha q
     → anchor_from p ≡ named (record { value = text; place = r })
@@ -10,11 +10,11 @@ named-of p q r text one name place =
     ap f (sym one) ∙ ap g (sym name) ∙ ap h (sym place)
 
 pub anchor-refused : (p q r : Place) (text : List ℕ) → q ≡ skipped p → text ≡ take_while is_alpha q.left → r ≡ skipped_while is_alpha q
-    → (is_nil text || not (ends_name (ahead r))) ≡ true → anchor_from p ≡ Err S22
+    → (is_nothing text || not (ends_name (ahead r))) ≡ true → anchor_from p ≡ Err S22
 anchor-refused p q r text one name place wrong = named-of p q r text one name place ∙ rw wrong refl
 
 pub anchor-read : (p q r : Place) (text : List ℕ) → q ≡ skipped p → text ≡ take_while is_alpha q.left → r ≡ skipped_while is_alpha q
-    → (is_nil text || not (ends_name (ahead r))) ≡ false → anchor_from p ≡ found text r
+    → (is_nothing text || not (ends_name (ahead r))) ≡ false → anchor_from p ≡ found text r
 anchor-read p q r text one name place right = named-of p q r text one name place ∙ rw right refl
 
 -- a name without a `!` behind it is no handle

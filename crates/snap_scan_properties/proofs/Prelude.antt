@@ -15,9 +15,9 @@ pub use Rattle.snap_scan_tokens.proofs.Explained.{explained}
 pub use Rattle.snap_scan_tokens.proofs.Places.{passed-first, passed-none}
 pub use Rattle.snap_scan_tokens.specs.Causes.{is_among, IsExplained, IsRefusedBy}
 pub use Rattle.snap_scan_tokens.specs.Characters.{is_digit, is_alpha, is_uri, is_of}
-pub use Rattle.snap_scan_tokens.specs.Folding.{is_nil}
+pub use Rattle.snap_content.specs.Numbers.{is_nothing}
 pub use Rattle.snap_scan_tokens.specs.Mark.{Mark}
-pub use Rattle.snap_scan_tokens.specs.Place.{Place, skipped, skipped_while, mark_of, skip_from, passed, behind, Later}
+pub use Rattle.snap_scan_tokens.specs.Place.{Place, skipped, skipped_while, mark_of, skip_from, passed, behind, Travels}
 pub use Rattle.snap_scan_tokens.specs.Quoted.{hexadecimal, value_of}
 pub use Rattle.snap_scan_tokens.specs.declared.info.ScanError.{ScanError}
 pub use Rattle.snap_scan_tokens.specs.declared.info.ScanInfo.{ScanInfo}

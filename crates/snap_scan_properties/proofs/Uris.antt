@@ -1,5 +1,5 @@
 -- The text of a tag, one character further.
-use Rattle.snap_scan_properties.proofs.Prelude.{◌≡◌, ◌≢◌, ℕ, ◌<◌, ◌==◌, ◌&&◌, List, [], ◌∷◌, ◌++◌, Bool, true, false, Option, Some, None, Result, Ok, Err, slice_index, refl, sym, ap, ◌∙◌, arith, subst, append-nil, append_assoc, if◌then◌else◌, IsScalar, encode_utf8, is_some, take_while, chars, IsUtf8, is_utf8, ne_eqb, both_ways, or_parts, or_left, or_right, and_parts, false_from_ne_true, IsUtf8-from_is_utf8, is_utf8-from_IsUtf8, IsUtf8-past_char, IsUtf8-append, IsUtf8-encode, chars_past_char, chars-nil, IsUtf8-nil, encode_ascii, ScanInfo, S17, S21, is_uri, is_alpha, Place, skipped, skip_from, skipped_while, passed, behind, passed-none, passed-first, hexadecimal, octets, escaped, spelled, before_octets, is_in_tag, text_of, placed, uri_from, some_uri_from, headed, Spells, SpellsNoCharacter, Found, found, ahead, ◌>>=◌, Refuses, is_nil, ScanError, encode, encodes, scalar, scalars, low_scalar}
+use Rattle.snap_scan_properties.proofs.Prelude.{◌≡◌, ◌≢◌, ℕ, ◌<◌, ◌==◌, ◌&&◌, List, [], ◌∷◌, ◌++◌, Bool, true, false, Option, Some, None, Result, Ok, Err, slice_index, refl, sym, ap, ◌∙◌, arith, subst, append-nil, append_assoc, if◌then◌else◌, IsScalar, encode_utf8, is_some, take_while, chars, IsUtf8, is_utf8, ne_eqb, both_ways, or_parts, or_left, or_right, and_parts, false_from_ne_true, IsUtf8-from_is_utf8, is_utf8-from_IsUtf8, IsUtf8-past_char, IsUtf8-append, IsUtf8-encode, chars_past_char, chars-nil, IsUtf8-nil, encode_ascii, ScanInfo, S17, S21, is_uri, is_alpha, Place, skipped, skip_from, skipped_while, passed, behind, passed-none, passed-first, hexadecimal, octets, escaped, spelled, before_octets, is_in_tag, text_of, placed, uri_from, some_uri_from, headed, Spells, SpellsNoCharacter, Found, found, ahead, ◌>>=◌, Refuses, is_nothing, ScanError, encode, encodes, scalar, scalars, low_scalar}
 use Rattle.snap_scan_properties.proofs.Answered.{refuses-then, refuses-same}
 use Rattle.snap_scan_properties.proofs.Taken.{run-true, run-false, passed-true, passed-false}
 use Rattle.snap_scan_properties.proofs.Spelled.{uri-small, spells-same}
@@ -157,7 +157,7 @@ headed-none : (head : List ℕ) (r : Result (Found (List ℕ)) ScanInfo) → hea
 headed-none head r none = let f : List ℕ → Result (Found (List ℕ)) ScanInfo = λ l. headed l r in ap f none ∙ headed-nil r
 
 abbrev some : Found (List ℕ) → Result (Found (List ℕ)) ScanInfo
-some text = if is_nil text.value then Err S17 else Ok text
+some text = if is_nothing text.value then Err S17 else Ok text
 
 pub some-refused : (p : Place) (head : List ℕ) (e : ScanError) → head ≡ [] → Refuses (headed head (uri_from p)) e → Refuses (some_uri_from p) e
 some-refused p head e none h = refuses-then (uri_from p) some e (refuses-same (headed head (uri_from p)) (uri_from p) e (headed-none head (uri_from p) none) h)
@@ -167,8 +167,8 @@ some-of p q head text none is =
     let f : Result (Found (List ℕ)) ScanInfo → Result (Found (List ℕ)) ScanInfo = λ r. r >>= some in
     ap f (sym (headed-none head (uri_from p) none) ∙ is)
 
-pub some-empty : (p q : Place) (head text : List ℕ) → head ≡ [] → headed head (uri_from p) ≡ found text q → is_nil text ≡ true → some_uri_from p ≡ Err S17
+pub some-empty : (p q : Place) (head text : List ℕ) → head ≡ [] → headed head (uri_from p) ≡ found text q → is_nothing text ≡ true → some_uri_from p ≡ Err S17
 some-empty p q head text none is nil = some-of p q head text none is ∙ rw nil refl
 
-pub some-read : (p q : Place) (head text : List ℕ) → head ≡ [] → headed head (uri_from p) ≡ found text q → is_nil text ≡ false → some_uri_from p ≡ found text q
+pub some-read : (p q : Place) (head text : List ℕ) → head ≡ [] → headed head (uri_from p) ≡ found text q → is_nothing text ≡ false → some_uri_from p ≡ found text q
 some-read p q head text none is nil = some-of p q head text none is ∙ rw nil refl

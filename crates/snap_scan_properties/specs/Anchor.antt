@@ -4,7 +4,7 @@ use Rattle.snap_scan_tokens.specs.declared.info.ScanInfo.{ScanInfo}
 use Rattle.snap_scan_tokens.specs.declared.info.ScanInfo.TheVariants.{S22}
 use Rattle.snap_scan_tokens.specs.Causes.{is_among}
 use Rattle.snap_scan_tokens.specs.Characters.{is_alpha, is_blank_or_end}
-use Rattle.snap_scan_tokens.specs.Folding.{is_nil}
+use Rattle.snap_content.specs.Numbers.{is_nothing}
 use Rattle.snap_scan_tokens.specs.Place.{Place, skipped}
 use Rattle.snap_scan_properties.specs.Reading.{Found, ahead, run_of}
 
@@ -14,7 +14,7 @@ ends_name c = is_blank_or_end c || is_among (codes "?:,]}%@`") c
 
 -- a name has a character at least, and what may stand behind a name follows it
 abbrev pub named : Found (List ℕ) → Result (Found (List ℕ)) ScanInfo
-named name = if is_nil name.value || not (ends_name (ahead name.place)) then Err S22 else Ok name
+named name = if is_nothing name.value || not (ends_name (ahead name.place)) then Err S22 else Ok name
 
 -- the name behind `*` or `&`
 abbrev pub anchor_from : Place → Result (Found (List ℕ)) ScanInfo

@@ -5,7 +5,7 @@ use Rattle.std.specs.Str.Parse.{digits_value}
 use Rattle.snap_scan_tokens.specs.declared.info.ScanInfo.{ScanInfo}
 use Rattle.snap_scan_tokens.specs.declared.info.ScanInfo.TheVariants.{S6, S7, S8, S9, S10, S11, S12, S15, S16}
 use Rattle.snap_scan_tokens.specs.Characters.{is_alpha, is_digit, is_break_or_end, is_blank_or_end, past_break, past_blanks, past_comment}
-use Rattle.snap_scan_tokens.specs.Folding.{is_nil}
+use Rattle.snap_content.specs.Numbers.{is_nothing}
 use Rattle.snap_scan_tokens.specs.Place.{Place, skipped, skipped_while}
 use Rattle.snap_scan_properties.specs.declared.directive.Directive.{Directive}
 use Rattle.snap_scan_properties.specs.declared.directive.Directive.TheVariants.{Version, Tag}
@@ -16,7 +16,7 @@ use Rattle.snap_scan_properties.specs.Tag.{handle_of}
 -- the number that the digits write, of which there are at least one and at most nine
 abbrev pub number_of : Found (List ℕ) → Result (Found ℕ) ScanInfo
 number_of digits =
-    if is_nil digits.value then Err S11 else (
+    if is_nothing digits.value then Err S11 else (
     if nat_lt 9 (length digits.value) then Err S10 else found (digits_value 10 digits.value) digits.place)
 
 abbrev pub number_from : Place → Result (Found ℕ) ScanInfo
@@ -33,7 +33,7 @@ version_from p = do
 abbrev pub handle_with : Found (List ℕ) → Result (Found (List ℕ)) ScanInfo
 handle_with name =
     if ahead name.place == 33 then found (handle_of name.value) (skipped name.place) else (
-    if is_nil name.value then found (codes "!") name.place else Err S16)
+    if is_nothing name.value then found (codes "!") name.place else Err S16)
 
 abbrev pub handle_from : Place → Result (Found (List ℕ)) ScanInfo
 handle_from p = if ahead p == 33 then handle_with (run_of is_alpha (skipped p)) else Err S15
@@ -58,7 +58,7 @@ said_by name =
 -- the name of a directive: letters, with white space or the end behind them
 abbrev pub entitled : Found (List ℕ) → Result (Found (List ℕ)) ScanInfo
 entitled name =
-    if is_nil name.value then Err S8 else (
+    if is_nothing name.value then Err S8 else (
     if is_blank_or_end (ahead name.place) then Ok name else Err S9)
 
 -- a directive fills its line, but for a comment

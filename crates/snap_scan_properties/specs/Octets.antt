@@ -4,7 +4,7 @@ use Rattle.std.specs.Str.{chars, is_utf8}
 use Rattle.snap_scan_tokens.specs.declared.info.ScanInfo.{ScanInfo}
 use Rattle.snap_scan_tokens.specs.declared.info.ScanInfo.TheVariants.{S17, S21}
 use Rattle.snap_scan_tokens.specs.Characters.{is_uri}
-use Rattle.snap_scan_tokens.specs.Folding.{is_nil}
+use Rattle.snap_content.specs.Numbers.{is_nothing}
 use Rattle.snap_scan_tokens.specs.Place.{Place, skipped_while}
 use Rattle.snap_scan_tokens.specs.Quoted.{hexadecimal, value_of}
 use Rattle.snap_scan_properties.specs.Reading.{Found, found, ◌>>=◌}
@@ -53,7 +53,7 @@ uri_from p = placed (text_of (octets p.left)) (skipped_while is_in_tag p)
 abbrev pub some_uri_from : Place → Result (Found (List ℕ)) ScanInfo
 some_uri_from p = do
   text ← uri_from p
-  if is_nil text.value then Err S17 else Ok text
+  if is_nothing text.value then Err S17 else Ok text
 
 -- a text, and then one that is read
 abbrev pub headed : List ℕ → Result (Found (List ℕ)) ScanInfo → Result (Found (List ℕ)) ScanInfo

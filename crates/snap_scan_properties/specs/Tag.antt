@@ -3,7 +3,7 @@ use Rattle.std.specs.Prelude.{ℕ, ◌==◌, List, [], ◌++◌, Result, Ok, Err
 use Rattle.snap_scan_tokens.specs.declared.info.ScanInfo.{ScanInfo}
 use Rattle.snap_scan_tokens.specs.declared.info.ScanInfo.TheVariants.{S13, S14}
 use Rattle.snap_scan_tokens.specs.Characters.{is_alpha, is_blank_or_end}
-use Rattle.snap_scan_tokens.specs.Folding.{is_nil}
+use Rattle.snap_content.specs.Numbers.{is_nothing}
 use Rattle.snap_scan_tokens.specs.Place.{Place, skipped}
 use Rattle.snap_scan_properties.specs.declared.tag.Tag.{Tag}
 use Rattle.snap_scan_properties.specs.Octets.{uri_from, some_uri_from}
@@ -30,7 +30,7 @@ with_handle name = do
 
 -- `!suffix` has the handle `!`; of `!` alone that is the suffix
 abbrev pub local_tag : List ℕ → Tag
-local_tag suffix = if is_nil suffix then tag [] (codes "!") else tag (codes "!") suffix
+local_tag suffix = if is_nothing suffix then tag [] (codes "!") else tag (codes "!") suffix
 
 abbrev pub local : Place → Result (Found Tag) ScanInfo
 local p = do

@@ -1,13 +1,13 @@
 //! Directives: lines that begin with `%`.
-ghost use Rattle.std.specs.Prelude.{ℕ, ◌≡◌, ◌≢◌, ◌+◌, ◌≤◌, List, take_while, codes, OnOk, IfOk, IfErr, length, slice_index};
+ghost use Rattle.std.specs.Prelude.{ℕ, ◌≡◌, ◌+◌, ◌≤◌, List, take_while, codes, OnOk, IfOk, IfErr, length, slice_index};
 ghost use Rattle.std.specs.Str.{chars};
 ghost use Rattle.snap_scan_tokens.specs.Causes.{IsExplained, IsRefusedBy};
 ghost use Rattle.snap_scan_tokens.specs.Characters.{is_alpha, is_digit};
-ghost use Rattle.snap_scan_tokens.specs.Place.{Place, Later, mark_of};
-ghost use Rattle.snap_scan_properties.specs.Directive.{number_of, number_from, version_from, handle_with, handle_from, shorthand_from, said_by, entitled, closed, directive_from};
+ghost use Rattle.snap_scan_tokens.specs.Place.{Place, Travels, mark_of};
+ghost use Rattle.snap_scan_properties.specs.Directive.{number_of, number_from, version_from, handle_from, shorthand_from, said_by, entitled, closed, directive_from};
 ghost use Rattle.snap_scan_properties.specs.Reading.{Reads, Refuses, found, run_of};
 
-use crate::runs::{is_nil, take_run};
+use crate::runs::{is_nothing, take_run};
 use crate::tag::{handle_of, scan_some_uri};
 use snap_content::Text;
 use snap_content::characters::is_same;
@@ -34,15 +34,12 @@ fn scan_directive_name<'a>(cursor: &mut Cursor<'a>) -> Result<&'a str, ScanError
     ensures ok { IfOk result (λ name. entitled (run_of is_alpha cursor.old)
         ≡ found (chars name.now) cursor.new) }
     ensures err { IfErr result (λ e. Refuses (entitled (run_of is_alpha cursor.old)) e) }
-    ensures onward { (p : Place) → Later p cursor.old → Later p cursor.new }
-    ensures sum { cursor.new.index + length cursor.new.left
-        ≡ cursor.old.index + length cursor.old.left }
-    ensures lighter { length cursor.new.left ≤ length cursor.old.left }
+    ensures travels { Travels cursor.old cursor.new }
     ensures cause { IfErr result (λ e. IsRefusedBy (codes "%") (mark_of cursor.old) e) }
 {
     let mark = cursor.mark();
     let name = take_run(cursor, Kind::Alpha);
-    if is_nil(name) {
+    if is_nothing(name) {
         return Err(ScanError::Syntax(mark, ScanInfo::S8));
     }
     if !is_blank_or_end(cursor.ch()) {
@@ -58,7 +55,7 @@ fn number_of(digits: &str, mark: Marker) -> Result<u32, ScanError>
         (record { value = chars digits.now; place = p })) result p }
     ensures cause { IfErr result (λ e. IsRefusedBy (codes "%") mark e) }
 {
-    if is_nil(digits) {
+    if is_nothing(digits) {
         return Err(ScanError::Syntax(mark, ScanInfo::S11));
     }
     if digits.len() > MAX_DIGITS {
@@ -73,10 +70,7 @@ fn number_of(digits: &str, mark: Marker) -> Result<u32, ScanError>
 /// Reads a number of a version.
 fn scan_version_directive_number(cursor: &mut Cursor, mark: Marker) -> Result<u32, ScanError>
     ensures value { Reads (number_from cursor.old) result cursor.new }
-    ensures onward { (p : Place) → Later p cursor.old → Later p cursor.new }
-    ensures sum { cursor.new.index + length cursor.new.left
-        ≡ cursor.old.index + length cursor.old.left }
-    ensures lighter { length cursor.new.left ≤ length cursor.old.left }
+    ensures travels { Travels cursor.old cursor.new }
     ensures cause { IfErr result (λ e. IsRefusedBy (codes "%") mark e) }
 {
     let digits = take_run(cursor, Kind::Digit);
@@ -86,10 +80,7 @@ fn scan_version_directive_number(cursor: &mut Cursor, mark: Marker) -> Result<u3
 /// Reads what stands behind `%YAML`.
 fn scan_version_directive_value(cursor: &mut Cursor, mark: Marker) -> Result<Directive, ScanError>
     ensures value { Reads (version_from cursor.old) result cursor.new }
-    ensures onward { (p : Place) → Later p cursor.old → Later p cursor.new }
-    ensures sum { cursor.new.index + length cursor.new.left
-        ≡ cursor.old.index + length cursor.old.left }
-    ensures lighter { length cursor.new.left ≤ length cursor.old.left }
+    ensures travels { Travels cursor.old cursor.new }
     ensures cause { IfErr result (λ e. IsRefusedBy (codes "%") mark e) }
 {
     cursor.skip_while(Kind::Blank);
@@ -105,10 +96,7 @@ fn scan_version_directive_value(cursor: &mut Cursor, mark: Marker) -> Result<Dir
 /// Reads the handle of `%TAG`.
 fn scan_handle(alloc: Global, cursor: &mut Cursor, mark: Marker) -> Result<Text, ScanError>
     ensures value { Reads (handle_from cursor.old) result cursor.new }
-    ensures onward { (p : Place) → Later p cursor.old → Later p cursor.new }
-    ensures sum { cursor.new.index + length cursor.new.left
-        ≡ cursor.old.index + length cursor.old.left }
-    ensures lighter { length cursor.new.left ≤ length cursor.old.left }
+    ensures travels { Travels cursor.old cursor.new }
     ensures cause { IfErr result (λ e. IsRefusedBy (codes "%") mark e) }
 {
     if cursor.ch() != '!' {
@@ -121,7 +109,7 @@ fn scan_handle(alloc: Global, cursor: &mut Cursor, mark: Marker) -> Result<Text,
         let handle = handle_of(alloc, name)?;
         return Ok(handle);
     }
-    if !is_nil(name) {
+    if !is_nothing(name) {
         return Err(ScanError::Syntax(mark, ScanInfo::S16));
     }
     let handle = Text::from_ascii(alloc, "!")?;
@@ -135,10 +123,7 @@ fn scan_tag_directive_value(
     mark: Marker,
 ) -> Result<Directive, ScanError>
     ensures value { Reads (shorthand_from cursor.old) result cursor.new }
-    ensures onward { (p : Place) → Later p cursor.old → Later p cursor.new }
-    ensures sum { cursor.new.index + length cursor.new.left
-        ≡ cursor.old.index + length cursor.old.left }
-    ensures lighter { length cursor.new.left ≤ length cursor.old.left }
+    ensures travels { Travels cursor.old cursor.new }
     ensures cause { IfErr result (λ e. IsRefusedBy (codes "%") mark e) }
 {
     cursor.skip_while(Kind::Blank);
@@ -160,10 +145,7 @@ fn scan_directive_value(
 ) -> Result<Directive, ScanError>
     ensures value { Reads
         (said_by (record { value = chars name.now; place = cursor.old })) result cursor.new }
-    ensures onward { (p : Place) → Later p cursor.old → Later p cursor.new }
-    ensures sum { cursor.new.index + length cursor.new.left
-        ≡ cursor.old.index + length cursor.old.left }
-    ensures lighter { length cursor.new.left ≤ length cursor.old.left }
+    ensures travels { Travels cursor.old cursor.new }
     ensures cause { IfErr result (λ e. IsRefusedBy (codes "%") mark e) }
 {
     if is_same(name, "YAML") {
@@ -180,10 +162,7 @@ fn scan_directive_value(
 fn close(cursor: &mut Cursor, mark: Marker, directive: Directive) -> Result<Directive, ScanError>
     ensures value { Reads
         (closed (record { value = directive; place = cursor.old })) result cursor.new }
-    ensures onward { (p : Place) → Later p cursor.old → Later p cursor.new }
-    ensures sum { cursor.new.index + length cursor.new.left
-        ≡ cursor.old.index + length cursor.old.left }
-    ensures lighter { length cursor.new.left ≤ length cursor.old.left }
+    ensures travels { Travels cursor.old cursor.new }
     ensures cause { IfErr result (λ e. IsRefusedBy (codes "%") mark e) }
 {
     cursor.skip_comment();
@@ -198,10 +177,7 @@ fn close(cursor: &mut Cursor, mark: Marker, directive: Directive) -> Result<Dire
 pub fn scan_directive(alloc: Global, cursor: &mut Cursor) -> Result<Directive, ScanError>
     requires { slice_index cursor.old.left 0 ≡ 37 }
     ensures value { Reads (directive_from cursor.old) result cursor.new }
-    ensures onward { (p : Place) → Later p cursor.old → Later p cursor.new }
-    ensures sum { cursor.new.index + length cursor.new.left
-        ≡ cursor.old.index + length cursor.old.left }
-    ensures lighter { length cursor.new.left ≤ length cursor.old.left }
+    ensures travels { Travels cursor.old cursor.new }
     ensures falls { OnOk result (length cursor.new.left + 1 ≤ length cursor.old.left) }
     ensures cause { IfErr result (λ e. IsExplained cursor.old e) }
 {

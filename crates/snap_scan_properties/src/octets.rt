@@ -1,8 +1,8 @@
 //! Characters that a tag spells by the octets of their UTF-8, as `%c3%a9`.
-ghost use Rattle.std.specs.Prelude.{ℕ, ◌≡◌, ◌+◌, ◌*◌, ◌≤◌, ◌<◌, true, false, [], ◌∷◌, OnOk, IfOk, MatchOption, MatchResult, ⊤, length, slice_index};
+ghost use Rattle.std.specs.Prelude.{◌≡◌, ◌+◌, ◌*◌, ◌≤◌, ◌<◌, true, false, [], ◌∷◌, OnOk, IfOk, MatchOption, MatchResult, ⊤, length, slice_index};
 ghost use Rattle.std.specs.Char.{IsScalar, encode_utf8};
 ghost use Rattle.std.specs.Str.{continuation_len, lead_bits};
-ghost use Rattle.snap_scan_tokens.specs.Place.{Place, Later};
+ghost use Rattle.snap_scan_tokens.specs.Place.{Travels};
 ghost use Rattle.snap_scan_properties.specs.Characters.{Spells, SpellsNone, Continues, BreaksOff, SpellsNoCharacter, IsBadOctet, is_first, least_code};
 
 use snap_scan_tokens::cursor::Cursor;
@@ -14,10 +14,7 @@ fn octet(cursor: &mut Cursor) -> Option<u32>
     ensures value { MatchOption result (SpellsNone cursor.old)
         (λ octet. Spells cursor.old (octet ∷ []) cursor.new) }
     ensures small { MatchOption result ⊤ (λ octet. octet < 256) }
-    ensures onward { (p : Place) → Later p cursor.old → Later p cursor.new }
-    ensures sum { cursor.new.index + length cursor.new.left
-        ≡ cursor.old.index + length cursor.old.left }
-    ensures lighter { length cursor.new.left ≤ length cursor.old.left }
+    ensures travels { Travels cursor.old cursor.new }
     ensures falls { MatchOption result ⊤
         (λ _. length cursor.new.left + 1 ≤ length cursor.old.left) }
 {
@@ -65,10 +62,7 @@ fn one_further(cursor: &mut Cursor, bits: u32) -> Result<u32, ScanInfo>
     ensures value { MatchResult result (λ code. Continues cursor.old 1 bits code cursor.new)
         (λ info. IsBadOctet info × BreaksOff cursor.old 1) }
     ensures small { IfOk result (λ code. code ≤ bits * 64 + 63) }
-    ensures onward { (p : Place) → Later p cursor.old → Later p cursor.new }
-    ensures sum { cursor.new.index + length cursor.new.left
-        ≡ cursor.old.index + length cursor.old.left }
-    ensures lighter { length cursor.new.left ≤ length cursor.old.left }
+    ensures travels { Travels cursor.old cursor.new }
 {
     match octet(cursor) {
         None => Err(ScanInfo::S18),
@@ -82,10 +76,7 @@ fn two_further(cursor: &mut Cursor, bits: u32) -> Result<u32, ScanInfo>
     requires { bits < 1048576 }
     ensures value { MatchResult result (λ code. Continues cursor.old 2 bits code cursor.new)
         (λ info. IsBadOctet info × BreaksOff cursor.old 2) }
-    ensures onward { (p : Place) → Later p cursor.old → Later p cursor.new }
-    ensures sum { cursor.new.index + length cursor.new.left
-        ≡ cursor.old.index + length cursor.old.left }
-    ensures lighter { length cursor.new.left ≤ length cursor.old.left }
+    ensures travels { Travels cursor.old cursor.new }
 {
     match one_further(cursor, bits) {
         Err(info) => Err(info),
@@ -98,10 +89,7 @@ fn three_further(cursor: &mut Cursor, bits: u32) -> Result<u32, ScanInfo>
     requires { bits < 16384 }
     ensures value { MatchResult result (λ code. Continues cursor.old 3 bits code cursor.new)
         (λ info. IsBadOctet info × BreaksOff cursor.old 3) }
-    ensures onward { (p : Place) → Later p cursor.old → Later p cursor.new }
-    ensures sum { cursor.new.index + length cursor.new.left
-        ≡ cursor.old.index + length cursor.old.left }
-    ensures lighter { length cursor.new.left ≤ length cursor.old.left }
+    ensures travels { Travels cursor.old cursor.new }
 {
     match one_further(cursor, bits) {
         Err(info) => Err(info),
@@ -115,10 +103,7 @@ fn further_octets(cursor: &mut Cursor, count: usize, bits: u32) -> Result<u32, S
     requires bits { bits < 128 }
     ensures value { MatchResult result (λ code. Continues cursor.old count bits code cursor.new)
         (λ info. IsBadOctet info × BreaksOff cursor.old count) }
-    ensures onward { (p : Place) → Later p cursor.old → Later p cursor.new }
-    ensures sum { cursor.new.index + length cursor.new.left
-        ≡ cursor.old.index + length cursor.old.left }
-    ensures lighter { length cursor.new.left ≤ length cursor.old.left }
+    ensures travels { Travels cursor.old cursor.new }
 {
     if count == 0 {
         return Ok(bits);
@@ -161,10 +146,7 @@ pub fn scan_uri_escapes(cursor: &mut Cursor) -> Result<char, ScanInfo>
     ensures value { MatchResult result (λ c. IsScalar c
         × Spells cursor.old (encode_utf8 c) cursor.new)
         (λ info. IsBadOctet info × SpellsNoCharacter cursor.old) }
-    ensures onward { (p : Place) → Later p cursor.old → Later p cursor.new }
-    ensures sum { cursor.new.index + length cursor.new.left
-        ≡ cursor.old.index + length cursor.old.left }
-    ensures lighter { length cursor.new.left ≤ length cursor.old.left }
+    ensures travels { Travels cursor.old cursor.new }
     ensures falls { OnOk result (length cursor.new.left + 1 ≤ length cursor.old.left) }
 {
     let Some(first) = octet(cursor) else {

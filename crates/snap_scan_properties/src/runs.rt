@@ -1,18 +1,17 @@
 //! Runs of characters of one kind.
-ghost use Rattle.std.specs.Prelude.{ℕ, ◌≡◌, ◌+◌, ◌≤◌, List, take_while, length};
+ghost use Rattle.std.specs.Prelude.{◌≡◌, take_while};
 ghost use Rattle.std.specs.Str.{chars};
 ghost use Rattle.snap_scan_tokens.specs.Characters.{is_of};
-ghost use Rattle.snap_scan_tokens.specs.Folding.{is_nil};
-ghost use Rattle.snap_scan_tokens.specs.Pieces.{EndsIn};
-ghost use Rattle.snap_scan_tokens.specs.Place.{Place, Later, skipped_while};
+ghost use Rattle.snap_content.specs.Numbers.{is_nothing};
+ghost use Rattle.snap_scan_tokens.specs.Place.{Travels, skipped_while};
 
 use snap_content::characters::before_rest;
 use snap_scan_tokens::characters::Kind;
 use snap_scan_tokens::cursor::Cursor;
 
 /// Whether a text has no character.
-pub(crate) fn is_nil(text: &str) -> bool
-    ensures { result ≡ is_nil (chars text.now) }
+pub(crate) fn is_nothing(text: &str) -> bool
+    ensures { result ≡ is_nothing (chars text.now) }
 {
     text.is_empty()
 }
@@ -21,10 +20,7 @@ pub(crate) fn is_nil(text: &str) -> bool
 pub(crate) fn take_run<'a>(cursor: &mut Cursor<'a>, kind: Kind) -> &'a str
     ensures text { chars result.now ≡ take_while (is_of kind) cursor.old.left }
     ensures place { cursor.new ≡ skipped_while (is_of kind) cursor.old }
-    ensures onward { (p : Place) → Later p cursor.old → Later p cursor.new }
-    ensures sum { cursor.new.index + length cursor.new.left
-        ≡ cursor.old.index + length cursor.old.left }
-    ensures lighter { length cursor.new.left ≤ length cursor.old.left }
+    ensures travels { Travels cursor.old cursor.new }
 {
     let start = cursor.rest();
     cursor.skip_while(kind);

@@ -1,15 +1,14 @@
 //! Tags, and the handles and prefixes of tag directives.
-ghost use Rattle.std.specs.Prelude.{ℕ, ◌≡◌, ◌≢◌, ◌+◌, ◌≤◌, true, codes, OnOk, IfOk, IfErr, length, slice_index};
+ghost use Rattle.std.specs.Prelude.{◌≡◌, ◌≢◌, ◌+◌, ◌≤◌, codes, OnOk, IfOk, IfErr, length, slice_index};
 ghost use Rattle.std.specs.Str.{chars};
 ghost use Rattle.snap_scan_tokens.specs.Causes.{IsExplained, IsRefusedBy};
-ghost use Rattle.snap_scan_tokens.specs.Characters.{is_alpha};
-ghost use Rattle.snap_scan_tokens.specs.Place.{Place, Later, skipped};
+ghost use Rattle.snap_scan_tokens.specs.Place.{Place, Travels};
 ghost use Rattle.snap_scan_properties.specs.Octets.{headed, uri_from, some_uri_from};
-ghost use Rattle.snap_scan_properties.specs.Reading.{Reads, run_of};
+ghost use Rattle.snap_scan_properties.specs.Reading.{Reads};
 ghost use Rattle.snap_scan_properties.specs.Tag.{handle_of, local_tag, verbatim, with_handle, local, shorthand, any_tag, tag_from};
 
 use crate::octets::scan_uri_escapes;
-use crate::runs::{is_nil, take_run};
+use crate::runs::{is_nothing, take_run};
 use snap_content::{OutOfMemory, Text};
 use snap_scan_tokens::characters::{Kind, is_blank_or_end};
 use snap_scan_tokens::cursor::Cursor;
@@ -43,10 +42,7 @@ pub(crate) fn scan_tag_uri(
     head: &str,
 ) -> Result<Text, ScanError>
     ensures value { Reads (headed (chars head.now) (uri_from cursor.old)) result cursor.new }
-    ensures onward { (p : Place) → Later p cursor.old → Later p cursor.new }
-    ensures sum { cursor.new.index + length cursor.new.left
-        ≡ cursor.old.index + length cursor.old.left }
-    ensures lighter { length cursor.new.left ≤ length cursor.old.left }
+    ensures travels { Travels cursor.old cursor.new }
     ensures cause { IfErr result (λ e. IsRefusedBy (codes "!%") mark e) }
 {
     let mut text = Text::empty();
@@ -73,14 +69,11 @@ pub(crate) fn scan_some_uri(
     mark: Marker,
 ) -> Result<Text, ScanError>
     ensures value { Reads (some_uri_from cursor.old) result cursor.new }
-    ensures onward { (p : Place) → Later p cursor.old → Later p cursor.new }
-    ensures sum { cursor.new.index + length cursor.new.left
-        ≡ cursor.old.index + length cursor.old.left }
-    ensures lighter { length cursor.new.left ≤ length cursor.old.left }
+    ensures travels { Travels cursor.old cursor.new }
     ensures cause { IfErr result (λ e. IsRefusedBy (codes "!%") mark e) }
 {
     let text = scan_tag_uri(alloc, cursor, mark, "")?;
-    if is_nil(text.as_str()) {
+    if is_nothing(text.as_str()) {
         return Err(ScanError::Syntax(mark, ScanInfo::S17));
     }
     Ok(text)
@@ -90,10 +83,7 @@ pub(crate) fn scan_some_uri(
 fn scan_verbatim(alloc: Global, cursor: &mut Cursor, mark: Marker) -> Result<Tag, ScanError>
     requires { slice_index cursor.old.left 0 ≢ 0 }
     ensures value { Reads (verbatim cursor.old) result cursor.new }
-    ensures onward { (p : Place) → Later p cursor.old → Later p cursor.new }
-    ensures sum { cursor.new.index + length cursor.new.left
-        ≡ cursor.old.index + length cursor.old.left }
-    ensures lighter { length cursor.new.left ≤ length cursor.old.left }
+    ensures travels { Travels cursor.old cursor.new }
     ensures falls { OnOk result (length cursor.new.left + 1 ≤ length cursor.old.left) }
     ensures cause { IfErr result (λ e. IsRefusedBy (codes "!") mark e) }
 {
@@ -119,10 +109,7 @@ fn scan_with_handle(
 ) -> Result<Tag, ScanError>
     ensures value { Reads
         (with_handle (record { value = chars name.now; place = cursor.old })) result cursor.new }
-    ensures onward { (p : Place) → Later p cursor.old → Later p cursor.new }
-    ensures sum { cursor.new.index + length cursor.new.left
-        ≡ cursor.old.index + length cursor.old.left }
-    ensures lighter { length cursor.new.left ≤ length cursor.old.left }
+    ensures travels { Travels cursor.old cursor.new }
     ensures cause { IfErr result (λ e. IsRefusedBy (codes "!") mark e) }
 {
     cursor.skip();
@@ -136,7 +123,7 @@ fn local_tag(suffix: Text, sign: Text) -> Tag
     requires { sign ≡ codes "!" }
     ensures { result ≡ local_tag suffix }
 {
-    if is_nil(suffix.as_str()) {
+    if is_nothing(suffix.as_str()) {
         return Tag {
             handle: suffix,
             suffix: sign,
@@ -157,10 +144,7 @@ fn scan_local(
 ) -> Result<Tag, ScanError>
     ensures value { (p : Place) → headed (chars head.now) (uri_from cursor.old) ≡ uri_from p
         → Reads (local p) result cursor.new }
-    ensures onward { (p : Place) → Later p cursor.old → Later p cursor.new }
-    ensures sum { cursor.new.index + length cursor.new.left
-        ≡ cursor.old.index + length cursor.old.left }
-    ensures lighter { length cursor.new.left ≤ length cursor.old.left }
+    ensures travels { Travels cursor.old cursor.new }
     ensures cause { IfErr result (λ e. IsRefusedBy (codes "!") mark e) }
 {
     let sign = Text::from_ascii(alloc, "!")?;
@@ -171,10 +155,7 @@ fn scan_local(
 /// Reads `suffix` or `handle!suffix`, behind a `!`.
 fn scan_shorthand(alloc: Global, cursor: &mut Cursor, mark: Marker) -> Result<Tag, ScanError>
     ensures value { Reads (shorthand cursor.old) result cursor.new }
-    ensures onward { (p : Place) → Later p cursor.old → Later p cursor.new }
-    ensures sum { cursor.new.index + length cursor.new.left
-        ≡ cursor.old.index + length cursor.old.left }
-    ensures lighter { length cursor.new.left ≤ length cursor.old.left }
+    ensures travels { Travels cursor.old cursor.new }
     ensures cause { IfErr result (λ e. IsRefusedBy (codes "!") mark e) }
 {
     let name = take_run(cursor, Kind::Alpha);
@@ -188,10 +169,7 @@ fn scan_shorthand(alloc: Global, cursor: &mut Cursor, mark: Marker) -> Result<Ta
 fn scan_any_tag(alloc: Global, cursor: &mut Cursor, mark: Marker) -> Result<Tag, ScanError>
     requires { slice_index cursor.old.left 0 ≢ 0 }
     ensures value { Reads (any_tag cursor.old) result cursor.new }
-    ensures onward { (p : Place) → Later p cursor.old → Later p cursor.new }
-    ensures sum { cursor.new.index + length cursor.new.left
-        ≡ cursor.old.index + length cursor.old.left }
-    ensures lighter { length cursor.new.left ≤ length cursor.old.left }
+    ensures travels { Travels cursor.old cursor.new }
     ensures falls { OnOk result (length cursor.new.left + 1 ≤ length cursor.old.left) }
     ensures cause { IfErr result (λ e. IsRefusedBy (codes "!") mark e) }
 {
@@ -206,10 +184,7 @@ fn scan_any_tag(alloc: Global, cursor: &mut Cursor, mark: Marker) -> Result<Tag,
 pub fn scan_tag(alloc: Global, cursor: &mut Cursor) -> Result<Tag, ScanError>
     requires { slice_index cursor.old.left 0 ≡ 33 }
     ensures value { Reads (tag_from cursor.old) result cursor.new }
-    ensures onward { (p : Place) → Later p cursor.old → Later p cursor.new }
-    ensures sum { cursor.new.index + length cursor.new.left
-        ≡ cursor.old.index + length cursor.old.left }
-    ensures lighter { length cursor.new.left ≤ length cursor.old.left }
+    ensures travels { Travels cursor.old cursor.new }
     ensures falls { OnOk result (length cursor.new.left + 1 ≤ length cursor.old.left) }
     ensures cause { IfErr result (λ e. IsExplained cursor.old e) }
 {

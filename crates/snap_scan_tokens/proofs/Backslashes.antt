@@ -1,5 +1,5 @@
 -- Escapes in double quotes: what their steps say of the scalar.
-use Rattle.snap_scan_tokens.proofs.Prelude.{◌≡◌, ◌≤◌, ◌<◌, ◌+◌, ◌*◌, ◌^◌, ◌==◌, ℕ, suc, List, [], ◌∷◌, Bool, true, false, slice_index, Option, Some, None, Err, refl, sym, subst, arith, lit<, pow-suc, ScanError, Syntax, OutOfMemory, escaped_gap, is_break, is_pair, past_break, Place, skipped, Quoted, double, escape, digits, hexadecimal, escaped, further_digits, ReadsQuoted, Continues, both_second}
+use Rattle.snap_scan_tokens.proofs.Prelude.{◌≡◌, ◌≤◌, ◌<◌, ◌+◌, ◌*◌, ◌^◌, ◌==◌, ℕ, zero, suc, List, [], ◌∷◌, Bool, true, false, slice_index, Option, Some, None, Err, refl, sym, subst, arith, lit<, pow-suc, ScanError, Syntax, OutOfMemory, escaped_gap, is_break, is_pair, past_break, Place, skipped, Quoted, double, escape, digits, are_digits, hexadecimal, escaped, further_digits, ReadsQuoted, Continues, both_second}
 use Rattle.std.proofs.Math.Nat.{pow-le-pow_right}
 
 -- a step that is refused so is a scalar that is refused
@@ -23,6 +23,28 @@ digit-more m n value d text p q more is place =
     let P : Place → Type 0 = λ x. digits n (value * 16 + d) text x.left x ≡ digits m value text p.left p in
     let Q : ℕ → Type 0 = λ k. digits n (value * 16 + d) text (skipped p).left (skipped p) ≡ digits k value text p.left p in
     subst P (sym place) (subst Q (sym more) (sym (digit-at n value d text p.left p.index p.line p.col is)))
+
+-- whether the digits stand, one further
+same-at : (n d : ℕ) (cs : List ℕ) (i l j : ℕ) → hexadecimal (slice_index cs 0) ≡ Some d → are_digits n (skipped (at cs i l j)).left ≡ are_digits (suc n) cs
+same-at n d [] i l j is = absurd (cc)
+same-at n d (c ∷ cs) i l j is = rw is refl
+
+pub digits-same : (m n d : ℕ) (p q : Place) → m ≡ suc n → hexadecimal (slice_index p.left 0) ≡ Some d → q ≡ skipped p → are_digits n q.left ≡ are_digits m p.left
+digits-same m n d p q more is place =
+    let P : Place → Type 0 = λ x. are_digits n x.left ≡ are_digits m p.left in
+    let Q : ℕ → Type 0 = λ k. are_digits n (skipped p).left ≡ are_digits k p.left in
+    subst P (sym place) (subst Q (sym more) (same-at n d p.left p.index p.line p.col is))
+
+-- one is missing
+pub digits-missing : (n : ℕ) (cs : List ℕ) → hexadecimal (slice_index cs 0) ≡ None → are_digits n cs ≡ false
+digits-missing n [] none = refl
+digits-missing zero (c ∷ cs) none = rw none refl
+digits-missing (suc n) (c ∷ cs) none = rw none refl
+
+-- the last one stands
+pub digits-stand : (n : ℕ) (cs : List ℕ) (d : ℕ) → n ≡ 0 → hexadecimal (slice_index cs 0) ≡ Some d → are_digits n cs ≡ true
+digits-stand n [] d last is = absurd (cc)
+digits-stand n (c ∷ cs) d last is = rw last (rw is refl)
 
 pub digits-small : (value d n : ℕ) → value < 16 ^ n → d < 16 → value * 16 + d < 16 ^ suc n
 digits-small value d n small digit = rw (pow-suc 16 n) (omega (arith, small, digit))

@@ -149,6 +149,11 @@ closed-at g text (c ∷ cs) i l j sign quote =
     let stop : (is_document_indicator (at (c ∷ cs) i l j) || c == 0) ≡ false = or_from (is_document_indicator (at (c ∷ cs) i l j)) (c == 0) sign nul in
     rw (blank, broken, stop, is) refl
 
+-- one quote, which ends the scalar
+pub double-closed : (t : Piece) (g : Gap) (p : Place) → is_document_indicator p ≡ false → slice_index p.left 0 ≡ 34
+    → double_at t g p ≡ quoted_end (gap_of g (before t.behind p.left)) t.text p
+double-closed t g p sign quote = closed-at (gap_of g (before t.behind p.left)) t.text p.left p.index p.line p.col sign quote
+
 escape-at : (g : Gap) (text cs : List ℕ) (i l j : ℕ) → is_document_indicator (at cs i l j) ≡ false → slice_index cs 0 ≡ 92
     → double g text cs (at cs i l j) ≡ escape (text ++ joined g) (skipped (at cs i l j)).left (skipped (at cs i l j))
 escape-at g text [] i l j sign slash = absurd (cc)

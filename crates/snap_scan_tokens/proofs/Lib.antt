@@ -7,6 +7,7 @@ pub mod Folds
 pub mod Plains
 pub mod Singles
 pub mod Doubles
+pub mod EitherQuotes
 pub mod Explained
 pub mod Backslashes
 mod Nuls

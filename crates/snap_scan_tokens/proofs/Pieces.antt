@@ -22,12 +22,13 @@ ends-of all xs ys is = let f : List ℕ → List ℕ = λ l. l ++ ys in is ∙ a
 one-more : (all : List ℕ) (c : ℕ) (cs : List ℕ) → EndsIn all (c ∷ cs) → all ≡ (before all (c ∷ cs) ++ c ∷ []) ++ cs
 one-more all c cs ends = ends ∙ sym (append_assoc (before all (c ∷ cs)) (c ∷ []) cs)
 
+-- a list that ends in another ends in its rest
+pub ends-next : (all : List ℕ) (c : ℕ) (cs : List ℕ) → EndsIn all (c ∷ cs) → EndsIn all cs
+ends-next all c cs ends = ends-of all (before all (c ∷ cs) ++ c ∷ []) cs (one-more all c cs ends)
+
 -- one character further
 pub before-next : (all : List ℕ) (c : ℕ) (cs : List ℕ) → EndsIn all (c ∷ cs) → before all cs ≡ before all (c ∷ cs) ++ c ∷ []
 before-next all c cs ends = before-is all (before all (c ∷ cs) ++ c ∷ []) cs (one-more all c cs ends)
-
-pub ends-next : (all : List ℕ) (c : ℕ) (cs : List ℕ) → EndsIn all (c ∷ cs) → EndsIn all cs
-ends-next all c cs ends = ends-of all (before all (c ∷ cs) ++ c ∷ []) cs (one-more all c cs ends)
 
 -- one character more at the front
 pub before-cons : (c : ℕ) (cs ys : List ℕ) → EndsIn cs ys → before (c ∷ cs) ys ≡ c ∷ before cs ys

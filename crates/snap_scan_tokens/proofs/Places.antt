@@ -1,5 +1,5 @@
 -- Places that are reached by passing characters.
-use Rattle.snap_scan_tokens.proofs.Prelude.{◌≡◌, ℕ, List, [], ◌∷◌, Bool, true, false, slice_index, refl, subst, sym, ap, Place, Later, next, skipped, skip_from, passed, behind}
+use Rattle.snap_scan_tokens.proofs.Prelude.{◌≡◌, ℕ, List, [], ◌∷◌, Bool, true, false, slice_index, refl, subst, sym, ap, Place, Later, next, skipped, skip_from, passed, behind, Travels, ◌∙◌, arith}
 
 -- where the place behind a character is known, it is the next place
 pub later-next : (p q r : Place) → r ≡ skipped q → Later p q → Later p r
@@ -17,3 +17,12 @@ passed-first f (c ∷ cs) p none is same =
 pub passed-none : (f : ℕ → Bool) (cs : List ℕ) (p : Place) → f (slice_index cs 0) ≡ false → passed f cs p ≡ p
 passed-none f [] p is = refl
 passed-none f (c ∷ cs) p is = rw is refl
+
+-- forward and forward again
+pub travels-on : {p q r : Place} → Travels p q → Travels q r → Travels p r
+travels-on first second = record {
+  onward = λ from h. second.onward from (first.onward from h);
+  within = λ all h. second.within all (first.within all h);
+  sum = second.sum ∙ first.sum;
+  lighter = let near = first.lighter in let far = second.lighter in omega arith;
+}

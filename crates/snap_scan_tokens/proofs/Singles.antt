@@ -146,6 +146,11 @@ closed-at g text (c ∷ cs) i l j sign quote alone =
     let other : (slice_index cs 0 == 39) ≡ false = grind arith in
     rw (blank, broken, stop, is, other) refl
 
+-- one quote, which ends the scalar
+pub single-closed : (t : Piece) (g : Gap) (p : Place) → is_document_indicator p ≡ false → slice_index p.left 0 ≡ 39 → slice_index p.left 1 ≢ 39
+    → single_at t g p ≡ quoted_end (gap_of g (before t.behind p.left)) t.text p
+single-closed t g p sign quote alone = closed-at (gap_of g (before t.behind p.left)) t.text p.left p.index p.line p.col sign quote alone
+
 doubled-at : (g : Gap) (text cs : List ℕ) (i l j : ℕ) → is_document_indicator (at cs i l j) ≡ false → slice_index cs 0 ≡ 39 → slice_index cs 1 ≡ 39
     → single no_gap ((text ++ joined g) ++ 39 ∷ []) (skipped (skipped (at cs i l j))).left (skipped (skipped (at cs i l j))) ≡ single g text cs (at cs i l j)
 doubled-at g text [] i l j sign quote twice = absurd (cc)

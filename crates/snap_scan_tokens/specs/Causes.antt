@@ -88,3 +88,8 @@ IsExplained p (Syntax mark info) = HasCause p.left info × (p.index ≤ mark.ind
 abbrev pub IsRefusedBy : List ℕ → Mark → ScanError → Type 0
 IsRefusedBy signs at OutOfMemory = Unit {0}
 IsRefusedBy signs at (Syntax mark info) = (mark ≡ at) × ((c : ℕ) → is_among signs c ≡ true → explains c info ≡ true)
+
+-- the error is this refusal, or want of memory
+abbrev pub IsFault : ScanInfo → ScanError → Type 0
+IsFault info OutOfMemory = Unit {0}
+IsFault info (Syntax mark found) = found ≡ info

@@ -1,12 +1,9 @@
 -- White space inside a scalar, and what it stands for once a character follows.
 use Rattle.std.specs.Prelude.{ℕ, List, [], ◌∷◌, ◌++◌, Bool, true, false, if◌then◌else◌}
+use Rattle.snap_content.specs.Numbers.{is_nothing}
 use Rattle.snap_scan_tokens.specs.declared.folding.Fold.{Fold}
 use Rattle.snap_scan_tokens.specs.declared.folding.Fold.TheVariants.{Inline, Broken, Escaped}
 use Rattle.snap_scan_tokens.specs.declared.folding.Gap.{Gap}
-
-abbrev pub is_nil : List ℕ → Bool
-is_nil [] = true
-is_nil (c ∷ cs) = false
 
 abbrev pub no_gap : Gap
 no_gap = record { fold = Inline; text = [] }
@@ -30,7 +27,7 @@ with_break g = record { fold = if is_folded g.fold then g.fold else Broken; text
 
 -- one line end that isn't escaped stands for a blank
 abbrev pub joined_as : Fold → List ℕ → List ℕ
-joined_as Broken text = if is_nil text then 32 ∷ [] else text
+joined_as Broken text = if is_nothing text then 32 ∷ [] else text
 joined_as _ text = text
 
 abbrev pub joined : Gap → List ℕ

@@ -1,6 +1,7 @@
 -- A place in a text, with the characters that are left there.
-use Rattle.std.specs.Prelude.{ℕ, ◌+◌, ◌==◌, List, [], ◌∷◌, Bool, if◌then◌else◌}
+use Rattle.std.specs.Prelude.{ℕ, ◌+◌, ◌≡◌, ◌≤◌, ◌==◌, List, [], ◌∷◌, length, Bool, if◌then◌else◌}
 use Rattle.snap_scan_tokens.specs.Mark.{Mark}
+use Rattle.snap_scan_tokens.specs.Pieces.{EndsIn}
 
 pub record Place : Type 0 where
   pub left : List ℕ
@@ -55,3 +56,11 @@ forced p = record p { line = if p.col == 0 then p.line else p.line + 1; col = 0 
 pub data Later : Place → Place → Type 0 where
   here : (p : Place) → Later p p
   next : (p q : Place) → Later p q → Later p (skipped q)
+
+-- a cursor went forward in its text: a place reached from an earlier one is still reached, what ended a text still ends it,
+-- no character is lost, and no more is left
+pub record Travels (old new : Place) : Type 0 where
+  pub onward : (from : Place) → Later from old → Later from new
+  pub within : (all : List ℕ) → EndsIn all old.left → EndsIn all new.left
+  pub sum : new.index + length new.left ≡ old.index + length old.left
+  pub lighter : length new.left ≤ length old.left

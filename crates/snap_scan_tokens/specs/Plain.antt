@@ -5,7 +5,8 @@ use Rattle.snap_scan_tokens.specs.declared.info.ScanError.{ScanError}
 use Rattle.snap_scan_tokens.specs.declared.info.ScanError.TheVariants.{OutOfMemory}
 use Rattle.snap_scan_tokens.specs.declared.plain.PlainScalar.{PlainScalar}
 use Rattle.snap_scan_tokens.specs.Characters.{is_blank, is_break, is_pair, is_blank_or_end, is_flow_sign, is_document_indicator}
-use Rattle.snap_scan_tokens.specs.Folding.{no_gap, is_nil, is_folded, with_blank, with_break, joined}
+use Rattle.snap_content.specs.Numbers.{is_nothing}
+use Rattle.snap_scan_tokens.specs.Folding.{no_gap, is_folded, with_blank, with_break, joined}
 use Rattle.snap_scan_tokens.specs.Place.{Place, skipped}
 
 -- whether a column isn't right of the innermost block
@@ -15,7 +16,7 @@ is_outside (Some column) col = nat_le col column
 
 -- whether something stands between the last character of the scalar and the place
 abbrev pub is_apart : Gap → Bool
-is_apart g = is_folded g.fold || not (is_nil g.text)
+is_apart g = is_folded g.fold || not (is_nothing g.text)
 
 -- whether a plain scalar ends before the characters here, the first of which is no white space
 abbrev pub ends_plain : Option ℕ → Bool → Gap → Place → Bool

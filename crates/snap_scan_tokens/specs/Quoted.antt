@@ -1,9 +1,14 @@
 -- Scalars in quotes, character by character.
-use Rattle.std.specs.Prelude.{ℕ, zero, suc, ◌+◌, ◌-◌, ◌*◌, ◌==◌, ◌&&◌, ◌||◌, nat_le, nat_lt, List, [], ◌∷◌, ◌++◌, Bool, true, if◌then◌else◌, slice_index, Option, Some, None, is_some, Result, Ok, Err, ◌≡◌}
+use Rattle.std.specs.Prelude.{ℕ, zero, suc, ◌+◌, ◌-◌, ◌*◌, ◌==◌, ◌&&◌, ◌||◌, nat_le, nat_lt, List, [], ◌∷◌, ◌++◌, Bool, true, false, not, if◌then◌else◌, slice_index, Option, Some, None, is_some, Result, Ok, Err, ◌≡◌, ◌≢◌}
 use Rattle.snap_scan_tokens.specs.declared.folding.Gap.{Gap}
 use Rattle.snap_scan_tokens.specs.declared.info.ScanError.{ScanError}
 use Rattle.snap_scan_tokens.specs.declared.info.ScanError.TheVariants.{OutOfMemory, Syntax}
 use Rattle.snap_scan_tokens.specs.declared.info.ScanInfo.{ScanInfo}
+use Rattle.snap_scan_tokens.specs.declared.info.ScanInfo.TheVariants as i
+use Rattle.snap_scan_tokens.specs.declared.quoted.Quotes.{Quotes}
+use Rattle.snap_scan_tokens.specs.declared.quoted.Quotes.TheVariants as q
+use Rattle.snap_scan_tokens.specs.declared.token.TScalarStyle.{TScalarStyle}
+use Rattle.snap_scan_tokens.specs.declared.token.TScalarStyle.TheVariants as style
 use Rattle.snap_scan_tokens.specs.Causes.{explains}
 use Rattle.snap_scan_tokens.specs.Characters.{is_blank, is_break, is_pair, is_document_indicator}
 use Rattle.snap_scan_tokens.specs.Folding.{no_gap, escaped_gap, with_blank, with_break, joined, gap_of}
@@ -116,12 +121,60 @@ abbrev mutual
   digits (suc n) value text (c ∷ cs) p =
       if is_some (hexadecimal c) then digits n (with_digit value c) text cs (skipped p) else None
 
+-- so many hexadecimal digits stand here, and one more
+abbrev pub are_digits : ℕ → List ℕ → Bool
+are_digits n [] = false
+are_digits zero (c ∷ cs) = is_some (hexadecimal c)
+are_digits (suc n) (c ∷ cs) = is_some (hexadecimal c) && are_digits n cs
+
+-- what is wrong with a code that is none: a digit is missing, or no character has it
+abbrev pub code_fault : ℕ → List ℕ → ScanInfo
+code_fault further cs = if are_digits further cs then i.S33 else i.S32
+
+-- what is wrong with what stands behind a backslash: no such letter, or its code
+abbrev pub letter_fault : Option ℕ → List ℕ → ScanInfo
+letter_fault None cs = i.S31
+letter_fault (Some further) cs = code_fault further cs
+
+abbrev pub escape_fault : Place → ScanInfo
+escape_fault p = letter_fault (further_digits (slice_index p.left 0)) (skipped p).left
+
 -- a reader of double quotes that gathered a text, and stands behind a gap
 abbrev pub double_at : Piece → Gap → Place → Option Quoted
 double_at text g p = double (gap_of g (before text.behind p.left)) text.text p.left p
 
 abbrev pub double_from : Place → Option Quoted
 double_from p = double no_gap [] (skipped p).left (skipped p)
+
+-- the sign of the quotes
+abbrev pub sign_of : Quotes → ℕ
+sign_of q.Single = 39
+sign_of q.Double = 34
+
+abbrev pub style_of : Quotes → TScalarStyle
+style_of q.Single = style.SingleQuoted
+style_of q.Double = style.DoubleQuoted
+
+-- the quotes end before these characters: single ones where another doesn't follow
+abbrev pub ends_quoted : Quotes → List ℕ → Bool
+ends_quoted q.Single cs = slice_index cs 0 == 39 && not (slice_index cs 1 == 39)
+ends_quoted q.Double cs = slice_index cs 0 == 34
+
+abbrev pub quoted_from : Quotes → Place → Option Quoted
+quoted_from q.Single p = single_from p
+quoted_from q.Double p = double_from p
+
+abbrev pub quoted_at : Quotes → Piece → Gap → Place → Option Quoted
+quoted_at q.Single text g p = single_at text g p
+quoted_at q.Double text g p = double_at text g p
+
+-- a place in quotes where these don't end, and where neither white space nor a document indicator stands nor the text ends
+pub record IsInside (quotes : Quotes) (p : Place) : Type 0 where
+  pub blank : is_blank (slice_index p.left 0) ≡ false
+  pub broken : is_break (slice_index p.left 0) ≡ false
+  pub sign : is_document_indicator p ≡ false
+  pub some : slice_index p.left 0 ≢ 0
+  pub going : ends_quoted quotes p.left ≡ false
 
 -- the text was read, and is refused exactly where it is refused here, want of memory aside
 abbrev pub ReadsQuoted : Option Quoted → Result (List ℕ) ScanError → Place → Type 0

@@ -1,9 +1,8 @@
 //! A text from its first character to its end, as its readers see it: the characters that are left.
-ghost use Rattle.std.specs.Prelude.{◌≡◌, ◌≢◌, ℕ, ◌+◌, ◌≤◌, List, ◌∷◌, false, length, slice_index};
+ghost use Rattle.std.specs.Prelude.{◌≡◌, ◌≢◌, ◌+◌, ◌≤◌, ◌∷◌, false, length, slice_index};
 ghost use Rattle.std.specs.Str.{chars};
-ghost use Rattle.snap_scan_tokens.specs.Place.{Place, Later, before_nul, start_of, mark_of, skipped, skipped_while, forced};
+ghost use Rattle.snap_scan_tokens.specs.Place.{Travels, before_nul, start_of, mark_of, skipped, skipped_while, forced};
 ghost use Rattle.snap_scan_tokens.specs.Characters.{is_of, past_break, past_comment, is_document_start, is_document_end, is_document_indicator};
-ghost use Rattle.snap_scan_tokens.specs.Pieces.{EndsIn};
 
 use crate::characters::{Kind, before_nul, character_at, is_blank_or_end};
 use crate::marker::Marker;
@@ -111,11 +110,7 @@ impl<'a> Cursor<'a> {
     /// Passes one character; at the end it does nothing.
     pub fn skip(&mut self)
         ensures value { self.new ≡ skipped self.old }
-        ensures onward { (p : Place) → Later p self.old → Later p self.new }
-        ensures within { (all : List ℕ) → EndsIn all self.old.left → EndsIn all self.new.left }
-        ensures sum { self.new.index + length self.new.left
-            ≡ self.old.index + length self.old.left }
-        ensures lighter { length self.new.left ≤ length self.old.left }
+        ensures travels { Travels self.old self.new }
         ensures falls { slice_index self.old.left 0 ≢ 0
             → length self.new.left + 1 ≤ length self.old.left }
     {
@@ -136,11 +131,7 @@ impl<'a> Cursor<'a> {
         requires here { self.old.left ≡ first ∷ chars rest.now }
         requires in_line { first ≢ 10 }
         ensures value { self.new ≡ skipped self.old }
-        ensures onward { (p : Place) → Later p self.old → Later p self.new }
-        ensures within { (all : List ℕ) → EndsIn all self.old.left → EndsIn all self.new.left }
-        ensures sum { self.new.index + length self.new.left
-            ≡ self.old.index + length self.old.left }
-        ensures lighter { length self.new.left ≤ length self.old.left }
+        ensures travels { Travels self.old self.new }
         ensures falls { length self.new.left + 1 ≤ length self.old.left }
     {
         self.rest = rest;
@@ -151,11 +142,7 @@ impl<'a> Cursor<'a> {
     /// Passes the characters of a kind that stand here.
     pub fn skip_while(&mut self, kind: Kind)
         ensures value { self.new ≡ skipped_while (is_of kind) self.old }
-        ensures onward { (p : Place) → Later p self.old → Later p self.new }
-        ensures within { (all : List ℕ) → EndsIn all self.old.left → EndsIn all self.new.left }
-        ensures sum { self.new.index + length self.new.left
-            ≡ self.old.index + length self.old.left }
-        ensures lighter { length self.new.left ≤ length self.old.left }
+        ensures travels { Travels self.old self.new }
         ensures end { is_of kind (slice_index self.new.left 0) ≡ false }
     {
         'characters: while let Some((first, rest)) = split_first(self.rest) {
@@ -169,11 +156,7 @@ impl<'a> Cursor<'a> {
     /// Passes the line end that begins here; CR and LF are one.
     pub fn skip_break(&mut self)
         ensures value { self.new ≡ past_break self.old }
-        ensures onward { (p : Place) → Later p self.old → Later p self.new }
-        ensures within { (all : List ℕ) → EndsIn all self.old.left → EndsIn all self.new.left }
-        ensures sum { self.new.index + length self.new.left
-            ≡ self.old.index + length self.old.left }
-        ensures lighter { length self.new.left ≤ length self.old.left }
+        ensures travels { Travels self.old self.new }
         ensures falls { slice_index self.old.left 0 ≢ 0
             → length self.new.left + 1 ≤ length self.old.left }
     {
@@ -186,11 +169,7 @@ impl<'a> Cursor<'a> {
     /// Passes blanks, and a comment behind them.
     pub fn skip_comment(&mut self)
         ensures value { self.new ≡ past_comment self.old }
-        ensures onward { (p : Place) → Later p self.old → Later p self.new }
-        ensures within { (all : List ℕ) → EndsIn all self.old.left → EndsIn all self.new.left }
-        ensures sum { self.new.index + length self.new.left
-            ≡ self.old.index + length self.old.left }
-        ensures lighter { length self.new.left ≤ length self.old.left }
+        ensures travels { Travels self.old self.new }
     {
         self.skip_while(Kind::Blank);
         if self.ch() != '#' {

@@ -1,9 +1,8 @@
 //! What a backslash and the characters behind it stand for.
-ghost use Rattle.std.specs.Prelude.{ℕ, ◌≡◌, ◌≢◌, ◌+◌, ◌<◌, ◌≤◌, ⊤, true, false, [], ◌∷◌, ◌++◌, List, None, OnOk, IfErr, MatchResult, MatchOption, length, slice_index};
-ghost use Rattle.snap_scan_tokens.specs.Pieces.{EndsIn};
+ghost use Rattle.std.specs.Prelude.{ℕ, ◌≡◌, ◌<◌, ◌≤◌, ⊤, true, false, [], ◌∷◌, ◌++◌, List, None, IfErr, MatchResult, MatchOption};
 ghost use Rattle.snap_scan_tokens.specs.Folding.{no_gap, escaped_gap};
-ghost use Rattle.snap_scan_tokens.specs.Place.{Place, Later, skipped};
-ghost use Rattle.snap_scan_tokens.specs.Quoted.{hexadecimal, escaped, further_digits, is_code, double, escape, digits, IsBadEscape};
+ghost use Rattle.snap_scan_tokens.specs.Place.{Travels};
+ghost use Rattle.snap_scan_tokens.specs.Quoted.{hexadecimal, escaped, further_digits, is_code, double, escape, digits, code_fault, escape_fault, IsBadEscape};
 
 use crate::characters::is_break;
 use crate::cursor::Cursor;
@@ -76,12 +75,9 @@ fn scan_code(cursor: &mut Cursor, further: usize) -> Result<char, ScanInfo>
         → digits further 0 text cursor.old.left cursor.old
         ≡ double no_gap (text ++ c ∷ []) cursor.new.left cursor.new)
         (λ _. (text : List ℕ) → digits further 0 text cursor.old.left cursor.old ≡ None) }
-    ensures onward { (p : Place) → Later p cursor.old → Later p cursor.new }
-    ensures within { (all : List ℕ) → EndsIn all cursor.old.left → EndsIn all cursor.new.left }
-    ensures sum { cursor.new.index + length cursor.new.left
-        ≡ cursor.old.index + length cursor.old.left }
-    ensures lighter { length cursor.new.left ≤ length cursor.old.left }
+    ensures travels { Travels cursor.old cursor.new }
     ensures cause { IfErr result IsBadEscape }
+    ensures info { IfErr result (λ info. info ≡ code_fault further cursor.old.left) }
 {
     let mut value = 0;
     let mut left = further;
@@ -110,12 +106,9 @@ pub fn scan_escape(cursor: &mut Cursor) -> Result<Option<char>, ScanInfo>
         (λ c. (text : List ℕ) → escape text cursor.old.left cursor.old
         ≡ double no_gap (text ++ c ∷ []) cursor.new.left cursor.new))
         (λ _. (text : List ℕ) → escape text cursor.old.left cursor.old ≡ None) }
-    ensures onward { (p : Place) → Later p cursor.old → Later p cursor.new }
-    ensures within { (all : List ℕ) → EndsIn all cursor.old.left → EndsIn all cursor.new.left }
-    ensures sum { cursor.new.index + length cursor.new.left
-        ≡ cursor.old.index + length cursor.old.left }
-    ensures lighter { length cursor.new.left ≤ length cursor.old.left }
+    ensures travels { Travels cursor.old cursor.new }
     ensures cause { IfErr result IsBadEscape }
+    ensures info { IfErr result (λ info. info ≡ escape_fault cursor.old) }
 {
     let c = cursor.ch();
     if is_break(c) {

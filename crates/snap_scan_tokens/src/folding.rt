@@ -2,7 +2,8 @@
 ghost use Rattle.std.specs.Prelude.{◌≡◌, ℕ, List, [], ◌∷◌, ◌++◌, IfOk, OnOk, not, slice_index, if◌then◌else◌};
 ghost use Rattle.std.specs.Str.{chars};
 ghost use Rattle.snap_scan_tokens.specs.Characters.{is_pair};
-ghost use Rattle.snap_scan_tokens.specs.Folding.{no_gap, escaped_gap, is_folded, is_nil, with_break, joined, gap_of};
+ghost use Rattle.snap_content.specs.Numbers.{is_nothing};
+ghost use Rattle.snap_scan_tokens.specs.Folding.{no_gap, escaped_gap, is_folded, with_break, joined, gap_of};
 ghost use Rattle.snap_scan_tokens.specs.Pieces.{before, EndsIn};
 
 use snap_content::characters::before_rest;
@@ -72,8 +73,8 @@ impl Gap {
 }
 
 /// Whether a text has no character.
-pub fn is_nil(text: &Text) -> bool
-    ensures { result ≡ is_nil text.now }
+pub fn is_nothing(text: &Text) -> bool
+    ensures { result ≡ is_nothing text.now }
 {
     text.as_str().is_empty()
 }
@@ -81,7 +82,7 @@ pub fn is_nil(text: &Text) -> bool
 /// Whether something stands before the rest of a text.
 fn is_apart(text: &str, rest: &str) -> bool
     requires { EndsIn (chars text.now) (chars rest.now) }
-    ensures { result ≡ not (is_nil (before (chars text.now) (chars rest.now))) }
+    ensures { result ≡ not (is_nothing (before (chars text.now) (chars rest.now))) }
 {
     text.len() != rest.len()
 }
@@ -123,7 +124,7 @@ impl<'a> Gathered<'a> {
     /// Whether something stands between the text and what is left of the source.
     pub fn is_apart(&self, rest: &str) -> bool
         requires { EndsIn self.now.behind (chars rest.now) }
-        ensures { result ≡ not (is_nil (before self.now.behind (chars rest.now))) }
+        ensures { result ≡ not (is_nothing (before self.now.behind (chars rest.now))) }
     {
         is_apart(self.rest, rest)
     }
@@ -200,7 +201,7 @@ impl<'a> Gathered<'a> {
                 Ok(())
             }
             Fold::Broken => {
-                if is_nil(&gap.text) {
+                if is_nothing(&gap.text) {
                     return self.push(alloc, ' ', rest);
                 }
                 self.add(alloc, &gap.text, rest)
@@ -215,7 +216,7 @@ impl<'a> Gathered<'a> {
     {
         let part = before_rest(self.from, self.rest);
         let mut copied = self.copied;
-        if is_nil(&copied) {
+        if is_nothing(&copied) {
             return Ok(Lent::borrowed(part));
         }
         copied.push_str(alloc, part)?;

@@ -1,5 +1,5 @@
 //! What is wrong with a text, and how it is said.
-ghost use Rattle.std.specs.Prelude.{◌≡◌};
+ghost use Rattle.std.specs.Prelude.{◌≡◌, Some};
 ghost use Rattle.snap_scan_tokens.specs.Info.{info_text};
 
 use crate::marker::Marker;
@@ -189,4 +189,13 @@ impl<T: Drop> From<AllocFailed<T>> for ScanError {
     fn from(_error: AllocFailed<T>) -> ScanError {
         ScanError::OutOfMemory
     }
+}
+
+/// Keeps an error for good, and returns it.
+pub fn keep(kept: &mut Option<ScanError>, error: &ScanError) -> ScanError
+    ensures result { result ≡ error.now }
+    ensures kept { kept.new ≡ Some error.now }
+{
+    *kept = Some(*error);
+    *error
 }

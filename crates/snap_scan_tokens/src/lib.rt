@@ -16,8 +16,8 @@ pub mod quoted;
 pub mod token;
 
 pub use cursor::Cursor;
-pub use info::{ScanError, ScanInfo};
+pub use info::{ScanError, ScanInfo, keep};
 pub use marker::Marker;
 pub use plain::{PlainScalar, scan_plain_scalar};
-pub use quoted::{scan_double_quoted, scan_single_quoted};
+pub use quoted::{Quotes, scan_quoted};
 pub use token::{TEncoding, TScalarStyle, Token, TokenType};

@@ -1,10 +1,9 @@
 //! Plain scalars: words without quotes, over one line or several.
-ghost use Rattle.std.specs.Prelude.{ℕ, ◌≡◌, ◌≢◌, ◌+◌, ◌≤◌, Bool, List, Option, OnOk, IfErr, length, slice_index};
-ghost use Rattle.std.specs.Str.{chars};
+ghost use Rattle.std.specs.Prelude.{ℕ, ◌≡◌, ◌≢◌, ◌+◌, ◌≤◌, Bool, Option, OnOk, IfErr, length, slice_index};
 ghost use Rattle.snap_scan_tokens.specs.Causes.{IsExplained};
 ghost use Rattle.snap_scan_tokens.specs.Folding.{no_gap, gap_of};
 ghost use Rattle.snap_scan_tokens.specs.Pieces.{before, EndsIn};
-ghost use Rattle.snap_scan_tokens.specs.Place.{Place, Later};
+ghost use Rattle.snap_scan_tokens.specs.Place.{Travels};
 ghost use Rattle.snap_scan_tokens.specs.Plain.{is_outside, ends_plain, is_bad_tab, plain, plain_from, ReadsPlain};
 
 use crate::characters::{Kind, is_blank, is_blank_or_end, is_break, is_flow_sign};
@@ -76,10 +75,7 @@ fn begin<'a>(cursor: &mut Cursor<'a>) -> Gathered<'a>
         (before result.behind cursor.new.left)) result.text cursor.new.left cursor.new
         ≡ plain_from indent flow cursor.old }
     ensures behind { EndsIn result.behind cursor.new.left }
-    ensures onward { (p : Place) → Later p cursor.old → Later p cursor.new }
-    ensures within { (all : List ℕ) → EndsIn all cursor.old.left → EndsIn all cursor.new.left }
-    ensures sum { cursor.new.index + length cursor.new.left
-        ≡ cursor.old.index + length cursor.old.left }
+    ensures travels { Travels cursor.old cursor.new }
     ensures falls { length cursor.new.left + 1 ≤ length cursor.old.left }
 {
     let mut text = Gathered::new(cursor.rest());
@@ -101,10 +97,7 @@ pub fn scan_plain_scalar<'a>(
 ) -> Result<PlainScalar<'a>, ScanError>
     requires { slice_index cursor.old.left 0 ≢ 0 }
     ensures value { ReadsPlain (plain_from indent in_flow cursor.old) result cursor.new }
-    ensures onward { (p : Place) → Later p cursor.old → Later p cursor.new }
-    ensures sum { cursor.new.index + length cursor.new.left
-        ≡ cursor.old.index + length cursor.old.left }
-    ensures lighter { length cursor.new.left ≤ length cursor.old.left }
+    ensures travels { Travels cursor.old cursor.new }
     ensures falls { OnOk result (length cursor.new.left + 1 ≤ length cursor.old.left) }
     ensures cause { IfErr result (λ e. IsExplained cursor.old e) }
 {

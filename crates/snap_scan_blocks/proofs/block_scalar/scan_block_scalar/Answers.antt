@@ -1,7 +1,10 @@
-use Rattle.snap_scan_blocks.proofs.Prelude.{◌≤◌, ◌∙◌, ℕ, List, length, codes, refl, subst, arith, Ok, Mark, Place, BlockScalar, Lines, between, header_from, with_breaks, Passes, IsRefusedOpening, ReadsLines}
-use Rattle.snap_scan_tokens.specs.Causes.{IsRefusedBy}
+use Rattle.snap_scan_blocks.proofs.Prelude.{◌≡◌, ◌≤◌, ◌∙◌, ℕ, List, length, codes, refl, sym, subst, arith, Ok, ScanError, block_fault, header_fault, Mark, Place, BlockScalar, Lines, between, header_from, with_breaks, Passes, IsRefusedOpening, ReadsLines}
+use Rattle.snap_scan_tokens.specs.Causes.{IsRefusedBy, IsFault}
+use Rattle.snap_scan_tokens.specs.declared.info.ScanInfo.{ScanInfo}
+use Rattle.snap_scan_tokens.specs.declared.info.ScanInfo.TheVariants.{S28}
+use Rattle.snap_scan_tokens.proofs.Places.{travels-on}
 use Rattle.snap_scan_tokens.proofs.Explained.{explained, explained-at}
-use Rattle.snap_scan_blocks.proofs.Blocks.{Begun, refused-opening, block-read}
+use Rattle.snap_scan_blocks.proofs.Blocks.{Begun, refused-opening, block-read, late-fault, early-fault}
 use Rattle.std.proofs.lemmas.Result.{err_from_is_err_and}
 use Rattle.snap_scan_blocks.proofs.block_scalar.scan_block_scalar.Goals as goal
 
@@ -20,12 +23,17 @@ returns-in_err-indentation-clause-value c =
     rw (told.1, told.2) (refused-opening c.args.indent c.args.literal (header_from c.args.cursor.now) c.in_ok-header.header c.scan_header.new.cursor c.scan_opening.new.cursor error
     c.in_ok-header.ensures.value (subst P c.new-lines.ensures c.in_err-indentation.ensures.refused))
 
+pub returns-in_err-indentation-clause-cause : goal.returns-in_err-indentation-clause-cause
+returns-in_err-indentation-clause-cause c =
+    let told = err_from_is_err_and c.from_residual-in_err-indentation.result c.from_residual-in_err-indentation.ensures.1 in
+    let moved = travels-on c.scan_header.ensures.travels c.scan_opening.ensures.travels in
+    rw (told.1, told.2) (explained-at c.args.cursor.now c.scan_opening.new.cursor (codes "|>") c.in_err-indentation.field-0.0 c.requires refl moved.sum moved.lighter c.in_err-indentation.ensures.cause)
+
 pub returns-in_err-scan-clause-cause : goal.returns-in_err-scan-clause-cause
 returns-in_err-scan-clause-cause c =
     let told = err_from_is_err_and c.from_residual-in_err-scan.result c.from_residual-in_err-scan.ensures.1 in
-    let sum = c.scan.ensures.sum ∙ c.scan_opening.ensures.sum ∙ c.scan_header.ensures.sum in
-    let lighter : length c.scan.new.cursor.left ≤ length c.args.cursor.now.left = omega (arith, c.scan.ensures.lighter, c.scan_opening.ensures.lighter, c.scan_header.ensures.lighter) in
-    rw (told.1, told.2) (explained-at c.args.cursor.now c.scan.new.cursor (codes "|>") c.in_err-scan.field-0.0 c.requires refl sum lighter c.in_err-scan.ensures.cause)
+    let moved = travels-on (travels-on c.scan_header.ensures.travels c.scan_opening.ensures.travels) c.scan.ensures.travels in
+    rw (told.1, told.2) (explained-at c.args.cursor.now c.scan.new.cursor (codes "|>") c.in_err-scan.field-0.0 c.requires refl moved.sum moved.lighter c.in_err-scan.ensures.cause)
 
 pub returns-clause-value : goal.returns-clause-value
 returns-clause-value c =
@@ -45,3 +53,30 @@ returns-clause-value c =
     } in
     block-read c.in_ok-scan.field-0 c.args.indent c.args.literal (header_from c.args.cursor.now) c.in_ok-header.header p n breaks q r c.scan.new.self scalar
     c.in_ok-header.ensures.value begun (subst Q c.new-lines.ensures c.in_ok-scan.ensures.value) (c.owned.ensures ∙ c.in_ok-text.ensures) c.mark-mark.ensures
+
+pub returns-in_err-header-clause-info : goal.returns-in_err-header-clause-info
+returns-in_err-header-clause-info c =
+    let told = err_from_is_err_and c.from_residual.result c.from_residual.ensures.1 in
+    let p : Place = c.args.cursor.now in
+    let error = c.in_err-header.field-0.0 in
+    let same : block_fault p ≡ header_fault p = early-fault (header_from p) error c.scan_header.new.cursor (header_fault p) c.in_err-header.ensures.value in
+    let P : ScanError → Type 0 = λ e. IsFault (block_fault p) e in
+    rw (told.1, told.2) (subst P (sym c.in_err-header.ensures.info) (sym same))
+
+pub returns-in_err-indentation-clause-info : goal.returns-in_err-indentation-clause-info
+returns-in_err-indentation-clause-info c =
+    let told = err_from_is_err_and c.from_residual-in_err-indentation.result c.from_residual-in_err-indentation.ensures.1 in
+    let p : Place = c.args.cursor.now in
+    let error = c.in_err-indentation.field-0.0 in
+    let same : block_fault p ≡ S28 = late-fault (header_from p) c.in_ok-header.header c.scan_header.new.cursor (header_fault p) c.in_ok-header.ensures.value in
+    let P : ScanInfo → Type 0 = λ info. IsFault info error in
+    rw (told.1, told.2) (subst P (sym same) c.in_err-indentation.ensures.info)
+
+pub returns-in_err-scan-clause-info : goal.returns-in_err-scan-clause-info
+returns-in_err-scan-clause-info c =
+    let told = err_from_is_err_and c.from_residual-in_err-scan.result c.from_residual-in_err-scan.ensures.1 in
+    let p : Place = c.args.cursor.now in
+    let error = c.in_err-scan.field-0.0 in
+    let same : block_fault p ≡ S28 = late-fault (header_from p) c.in_ok-header.header c.scan_header.new.cursor (header_fault p) c.in_ok-header.ensures.value in
+    let P : ScanInfo → Type 0 = λ info. IsFault info error in
+    rw (told.1, told.2) (subst P (sym same) c.in_err-scan.ensures.info)

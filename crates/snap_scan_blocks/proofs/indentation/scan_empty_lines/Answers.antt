@@ -1,5 +1,6 @@
 use Rattle.snap_scan_blocks.proofs.Prelude.{◌≡◌, ◌∙◌, ◌++◌, ℕ, List, [], ◌∷◌, Bool, true, nat_lt, slice_index, sym, ap, subst, arith, is_break, Mark, Place, with_breaks}
 use Rattle.snap_scan_blocks.proofs.Between.{between_at, between-tab, between-break, opened-break}
+use Rattle.snap_scan_tokens.proofs.Places.{travels-on}
 use Rattle.snap_scan_blocks.proofs.indentation.scan_empty_lines.Goals as goal
 
 pub returns-then-is_indented-clause-refused : goal.returns-then-is_indented-clause-refused
@@ -35,7 +36,5 @@ lines-preserved c =
             ∙ (c.skip_indentation.ensures.value c.lines.breaks).0 literal l ∙ c.lines.invariant.passed.0 literal l)),
         opened-break n q r broken c.skip_break.ensures.value ∙ (c.skip_indentation.ensures.value c.lines.breaks).1 ∙ c.lines.invariant.passed.1,
       );
-      onward = λ x h. c.skip_break.ensures.onward x (c.skip_indentation.ensures.onward x (c.lines.invariant.onward x h));
-      sum = c.skip_break.ensures.sum ∙ c.skip_indentation.ensures.sum ∙ c.lines.invariant.sum;
-      lighter = omega (arith, c.skip_break.ensures.lighter, c.skip_indentation.ensures.lighter, c.lines.invariant.lighter);
+      travels = travels-on (travels-on c.lines.invariant.travels c.skip_indentation.ensures.travels) c.skip_break.ensures.travels;
     }

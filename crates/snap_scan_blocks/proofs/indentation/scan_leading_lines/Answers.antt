@@ -1,6 +1,7 @@
 use Rattle.snap_scan_blocks.proofs.Prelude.{◌≡◌, ◌≢◌, ◌≤◌, ◌==◌, ◌∙◌, ◌++◌, max, ℕ, List, [], ◌∷◌, true, false, slice_index, refl, sym, ap, subst, arith, is_break, Mark, Place, first_sign, with_breaks}
 use Rattle.snap_scan_blocks.proofs.Between.{between_at, between-break, opened-break}
 use Rattle.snap_scan_blocks.proofs.Leading.{widest_at, widest-run, first-run, between-run, opened-run, widest-break, first-break, widest-end, first-end}
+use Rattle.snap_scan_tokens.proofs.Places.{travels-on}
 use Rattle.snap_scan_blocks.proofs.indentation.scan_leading_lines.Goals as goal
 
 other-sign : (c s : ℕ) → c ≢ s → (c == s) ≡ false
@@ -72,7 +73,5 @@ lines-preserved c =
                 ∙ between-run n literal (with_breaks c.lines.breaks l) p q small c.skip_while.ensures.value ∙ (c.lines.invariant.passed n most).0 literal l)),
             opened-break n q r broken c.skip_break.ensures.value ∙ opened-run n p q small c.skip_while.ensures.value ∙ (c.lines.invariant.passed n most).1,
           );
-      onward = λ x h. c.skip_break.ensures.onward x (c.skip_while.ensures.onward x (c.lines.invariant.onward x h));
-      sum = c.skip_break.ensures.sum ∙ c.skip_while.ensures.sum ∙ c.lines.invariant.sum;
-      lighter = omega (arith, c.skip_break.ensures.lighter, c.skip_while.ensures.lighter, c.lines.invariant.lighter);
+      travels = travels-on (travels-on c.lines.invariant.travels c.skip_while.ensures.travels) c.skip_break.ensures.travels;
     }

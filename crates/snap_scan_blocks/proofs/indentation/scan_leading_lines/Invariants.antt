@@ -1,4 +1,4 @@
-use Rattle.snap_scan_blocks.proofs.Prelude.{◌≡◌, ◌≤◌, ◌+◌, ℕ, max, length, Place, Later, widest, first_sign, Passes}
+use Rattle.snap_scan_blocks.proofs.Prelude.{◌≡◌, ◌≤◌, ◌+◌, ℕ, max, length, Travels, widest, first_sign, Passes}
 use Rattle.snap_scan_blocks.proofs.indentation.scan_leading_lines.Given as goal
 
 abbrev pub invariant-lines : goal.invariant-lines
@@ -6,9 +6,7 @@ invariant-lines l = record {
   column : max l.reached (widest l.cursor.left l.cursor.col) ≡ widest l.fn.cursor.left l.fn.cursor.col;
   sign : first_sign l.cursor.left ≡ first_sign l.fn.cursor.left;
   passed : (n : ℕ) → widest l.fn.cursor.left l.fn.cursor.col ≤ n → Passes n l.fn.breaks l.fn.cursor l.breaks l.cursor;
-  onward : (p : Place) → Later p l.fn.cursor → Later p l.cursor;
-  sum : l.cursor.index + length l.cursor.left ≡ l.fn.cursor.index + length l.fn.cursor.left;
-  lighter : length l.cursor.left ≤ length l.fn.cursor.left;
+  travels : Travels l.fn.cursor l.cursor;
 }
 
 abbrev pub decreases-lines : goal.decreases-lines

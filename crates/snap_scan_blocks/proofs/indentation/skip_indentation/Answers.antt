@@ -1,5 +1,6 @@
 use Rattle.snap_scan_blocks.proofs.Prelude.{◌≡◌, ◌∙◌, ℕ, Bool, true, nat_lt, slice_index, sym, ap, arith, Mark, Place, with_breaks}
 use Rattle.snap_scan_blocks.proofs.Between.{between-space, opened-space}
+use Rattle.snap_scan_tokens.proofs.Places.{travels-on}
 use Rattle.snap_scan_blocks.proofs.indentation.skip_indentation.Goals as goal
 
 pub spaces-preserved : goal.spaces-preserved
@@ -14,7 +15,5 @@ spaces-preserved c =
     let inside : nat_lt p.col n ≡ true = sym (c.is_indented.ensures ∙ ap g column) ∙ c.if-is_indented.true in
     record {
       passed = λ breaks. ((λ literal m. between-space n literal (with_breaks breaks m) p q is inside c.skip.ensures.value ∙ (c.spaces.invariant.passed breaks).0 literal m), opened-space n p q is inside c.skip.ensures.value ∙ (c.spaces.invariant.passed breaks).1);
-      onward = λ r h. c.skip.ensures.onward r (c.spaces.invariant.onward r h);
-      sum = c.skip.ensures.sum ∙ c.spaces.invariant.sum;
-      lighter = omega (arith, c.skip.ensures.lighter, c.spaces.invariant.lighter);
+      travels = travels-on c.spaces.invariant.travels c.skip.ensures.travels;
     }

@@ -1,5 +1,6 @@
 use Rattle.snap_scan_properties.proofs.Prelude.{◌≡◌, ◌==◌, ◌∙◌, ◌++◌, ℕ, List, [], ◌∷◌, Result, Err, true, false, slice_index, sym, ap, subst, arith, chars, headed, uri_from, ne_eqb, or_from, is_uri, Place, ScanInfo, Found}
 use Rattle.snap_scan_properties.proofs.Uris.{headed-refused, headed-end, headed-more, headed-plain}
+use Rattle.snap_scan_tokens.proofs.Places.{travels-on}
 use Rattle.snap_scan_properties.proofs.tag.scan_tag_uri.Goals as goal
 
 pub returns-in-Err-clause-value : goal.returns-in-Err-clause-value
@@ -21,9 +22,7 @@ characters-preserved-in-Continue-branch-2 c =
     let pushed : c.push.new.self ≡ c.characters.text ++ c.in-Ok.character ∷ [] = c.in_ok-push-in-Ok.ensures.ok in
     record {
       same = subst P (sym pushed) (headed-more c.characters.text c.in-Ok.character c.characters.cursor c.scan_uri_escapes.new.cursor c.in-Ok.ensures.value.0 c.in-Ok.ensures.value.1 ∙ c.characters.invariant.same);
-      onward = λ r h. c.scan_uri_escapes.ensures.onward r (c.characters.invariant.onward r h);
-      sum = c.scan_uri_escapes.ensures.sum ∙ c.characters.invariant.sum;
-      lighter = omega (arith, c.scan_uri_escapes.ensures.lighter, c.characters.invariant.lighter);
+      travels = travels-on c.characters.invariant.travels c.scan_uri_escapes.ensures.travels;
     }
 
 pub characters-preserved : goal.characters-preserved
@@ -36,7 +35,5 @@ characters-preserved c =
     let uri : is_uri (slice_index q.left 0) ≡ true = cc in
     record {
       same = subst P (sym pushed) (headed-plain c.characters.text q c.skip.new.self uri (λ e. c.if-ch-eq37.false (c.ch.ensures ∙ e)) c.skip.ensures.value ∙ c.characters.invariant.same);
-      onward = λ r h. c.skip.ensures.onward r (c.characters.invariant.onward r h);
-      sum = c.skip.ensures.sum ∙ c.characters.invariant.sum;
-      lighter = omega (arith, c.skip.ensures.lighter, c.characters.invariant.lighter);
+      travels = travels-on c.characters.invariant.travels c.skip.ensures.travels;
     }

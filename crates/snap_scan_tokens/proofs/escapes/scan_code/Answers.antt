@@ -1,5 +1,6 @@
-use Rattle.snap_scan_tokens.proofs.Prelude.{◌≡◌, ◌≤◌, ◌-◌, ◌∙◌, ℕ, suc, Some, slice_index, arith, Place, hexadecimal}
-use Rattle.snap_scan_tokens.proofs.Backslashes.{digits-small, digits-room, digit-more}
+use Rattle.snap_scan_tokens.proofs.Prelude.{◌≡◌, ◌≤◌, ◌-◌, ◌∙◌, ℕ, suc, Some, None, true, false, sym, refl, slice_index, arith, Place, hexadecimal, are_digits}
+use Rattle.snap_scan_tokens.proofs.Backslashes.{digits-small, digits-room, digit-more, digits-same, digits-missing, digits-stand}
+use Rattle.snap_scan_tokens.proofs.Places.{travels-on}
 use Rattle.snap_scan_tokens.proofs.escapes.scan_code.Goals as goal
 
 pub overflow_mul-value : goal.overflow_mul-value
@@ -25,8 +26,20 @@ digits-preserved c =
       few = omega (arith, c.digits.invariant.few);
       small = rw more (digits-small c.digits.value d k c.digits.invariant.small c.in-Some.ensures.small);
       same = λ text. digit-more c.digits.left (c.digits.left - 1) c.digits.value d text p q one digit c.skip-in-digits.ensures.value ∙ c.digits.invariant.same text;
-      onward = λ r h. c.skip-in-digits.ensures.onward r (c.digits.invariant.onward r h);
-      within = λ all h. c.skip-in-digits.ensures.within all (c.digits.invariant.within all h);
-      sum = c.skip-in-digits.ensures.sum ∙ c.digits.invariant.sum;
-      lighter = omega (arith, c.skip-in-digits.ensures.lighter, c.digits.invariant.lighter);
+      fault = digits-same c.digits.left (c.digits.left - 1) d p q one digit c.skip-in-digits.ensures.value ∙ c.digits.invariant.fault;
+      travels = travels-on c.digits.invariant.travels c.skip-in-digits.ensures.travels;
     }
+
+pub returns-in_default-clause-info : goal.returns-in_default-clause-info
+returns-in_default-clause-info c =
+    let p : Place = c.digits.cursor in
+    let none : hexadecimal (slice_index p.left 0) ≡ None = cc in
+    let missing : are_digits c.args.further c.args.cursor.now.left ≡ false = sym c.digits.invariant.fault ∙ digits-missing c.digits.left p.left none in
+    rw missing refl
+
+pub returns-in_default-character-clause-info : goal.returns-in_default-character-clause-info
+returns-in_default-character-clause-info c =
+    let p : Place = c.digits.cursor in
+    let digit : hexadecimal (slice_index p.left 0) ≡ Some c.in-Some.digit = cc in
+    let stand : are_digits c.args.further c.args.cursor.now.left ≡ true = sym c.digits.invariant.fault ∙ digits-stand c.digits.left p.left c.in-Some.digit c.if-left-eq0.true digit in
+    rw stand refl

@@ -1,15 +1,15 @@
 use Rattle.snap_scan_tokens.proofs.Prelude.{◌≡◌, ◌∙◌, ◌++◌, ℕ, List, Option, true, false, slice_index, arith, rules, subst, sym, ap, refl, Ok, Err, None, chars, Syntax, S34, is_blank, is_break, is_of, Word, Gap, gap_of, with_break, no_gap, joined, Piece, before, EndsIn, Place, skipped, skipped_while, Plain, plain, plain_end, plain_from, ends_plain, is_bad_tab, ReadsPlain}
 use Rattle.snap_scan_tokens.proofs.Plains.{plain-blank, plain-break, plain-ended, plain-word, plain-tab}
 use Rattle.snap_scan_tokens.proofs.Pieces.{ends-same}
+use Rattle.snap_scan_tokens.proofs.Places.{travels-on}
 use Rattle.snap_scan_tokens.proofs.plain.scan_plain_scalar.Goals as goal
 
 pub characters-init : goal.characters-init
 characters-init c = record {
   behind = c.begin-text.ensures.behind;
-  inside = c.begin-text.ensures.within c.args.cursor.now.left (ends-same c.args.cursor.now.left);
+  inside = c.begin-text.ensures.travels.within c.args.cursor.now.left (ends-same c.args.cursor.now.left);
   same = rw c.none-gap.ensures (c.begin-text.ensures.value c.args.indent c.args.in_flow);
-  onward = c.begin-text.ensures.onward;
-  sum = c.begin-text.ensures.sum;
+  travels = c.begin-text.ensures.travels;
   falls = c.begin-text.ensures.falls;
 }
 
@@ -21,13 +21,12 @@ characters-preserved-then-is_blank c =
     let blank : is_blank (slice_index p.left 0) ≡ true = cc in
     let bad : is_bad_tab c.args.indent g (slice_index p.left 0) p.col ≡ false = cc in
     record {
-      behind = c.skip.ensures.within c.characters.text.behind c.characters.invariant.behind;
-      inside = c.skip.ensures.within c.args.cursor.now.left c.characters.invariant.inside;
+      behind = c.skip.ensures.travels.within c.characters.text.behind c.characters.invariant.behind;
+      inside = c.skip.ensures.travels.within c.args.cursor.now.left c.characters.invariant.inside;
       same = plain-blank c.args.indent c.args.in_flow g c.characters.text.behind c.characters.text.text p q c.characters.invariant.behind blank bad c.skip.ensures.value
           ∙ c.characters.invariant.same;
-      onward = λ r h. c.skip.ensures.onward r (c.characters.invariant.onward r h);
-      sum = c.skip.ensures.sum ∙ c.characters.invariant.sum;
-      falls = omega (arith, c.skip.ensures.lighter, c.characters.invariant.falls);
+      travels = travels-on c.characters.invariant.travels c.skip.ensures.travels;
+      falls = omega (arith, c.skip.ensures.travels.lighter, c.characters.invariant.falls);
     }
 
 pub characters-preserved-then-is_break : goal.characters-preserved-then-is_break
@@ -39,13 +38,12 @@ characters-preserved-then-is_break c =
     let broken : is_break (slice_index p.left 0) ≡ true = cc in
     let added : c.add_break.new.self ≡ with_break g = search rules in
     record {
-      behind = c.skip_break.ensures.within c.characters.text.behind c.characters.invariant.behind;
-      inside = c.skip_break.ensures.within c.args.cursor.now.left c.characters.invariant.inside;
+      behind = c.skip_break.ensures.travels.within c.characters.text.behind c.characters.invariant.behind;
+      inside = c.skip_break.ensures.travels.within c.args.cursor.now.left c.characters.invariant.inside;
       same = rw added (plain-break c.args.indent c.args.in_flow g (before c.characters.text.behind p.left) (before c.characters.text.behind q.left) c.characters.text.text p q blank broken c.skip_break.ensures.value
           ∙ c.characters.invariant.same);
-      onward = λ r h. c.skip_break.ensures.onward r (c.characters.invariant.onward r h);
-      sum = c.skip_break.ensures.sum ∙ c.characters.invariant.sum;
-      falls = omega (arith, c.skip_break.ensures.lighter, c.characters.invariant.falls);
+      travels = travels-on c.characters.invariant.travels c.skip_break.ensures.travels;
+      falls = omega (arith, c.skip_break.ensures.travels.lighter, c.characters.invariant.falls);
     }
 
 pub returns-then-ends_plain-clause-value : goal.returns-then-ends_plain-clause-value
@@ -77,7 +75,7 @@ extend-requires c =
     let put : c.join.new.self ≡ record { text = c.characters.text.text ++ joined (gap_of c.characters.gap (before c.characters.text.behind (chars c.rest.result.now))); behind = chars c.rest.result.now } = search rules in
     let behind : Piece → List ℕ = λ t. t.behind in
     let joined : c.join.new.self.behind ≡ p.left = ap behind put ∙ c.rest.ensures in
-    rw (joined, c.rest-else-ends_plain.ensures) (c.skip_while.ensures.within p.left (c.skip-else-ends_plain.ensures.within p.left (ends-same p.left)))
+    rw (joined, c.rest-else-ends_plain.ensures) (c.skip_while.ensures.travels.within p.left (c.skip-else-ends_plain.ensures.travels.within p.left (ends-same p.left)))
 
 pub characters-preserved : goal.characters-preserved
 characters-preserved c =
@@ -95,9 +93,8 @@ characters-preserved c =
     let same : Piece → Type 0 = λ t. plain c.args.indent c.args.in_flow (gap_of no_gap (before t.behind q.left)) t.text q.left q ≡ plain_from c.args.indent c.args.in_flow c.args.cursor.now in
     record {
       behind = subst within (sym text) (ends-same q.left);
-      inside = c.skip_while.ensures.within c.args.cursor.now.left (c.skip-else-ends_plain.ensures.within c.args.cursor.now.left c.characters.invariant.inside);
+      inside = c.skip_while.ensures.travels.within c.args.cursor.now.left (c.skip-else-ends_plain.ensures.travels.within c.args.cursor.now.left c.characters.invariant.inside);
       same = rw c.none-gap-else-ends_plain.ensures (subst same (sym text) (plain-word c.args.indent c.args.in_flow g c.characters.text.text p q blank broken on place ∙ c.characters.invariant.same));
-      onward = λ r h. c.skip_while.ensures.onward r (c.skip-else-ends_plain.ensures.onward r (c.characters.invariant.onward r h));
-      sum = c.skip_while.ensures.sum ∙ c.skip-else-ends_plain.ensures.sum ∙ c.characters.invariant.sum;
-      falls = omega (arith, c.skip_while.ensures.lighter, c.skip-else-ends_plain.ensures.lighter, c.characters.invariant.falls);
+      travels = travels-on (travels-on c.characters.invariant.travels c.skip-else-ends_plain.ensures.travels) c.skip_while.ensures.travels;
+      falls = omega (arith, c.skip_while.ensures.travels.lighter, c.skip-else-ends_plain.ensures.travels.lighter, c.characters.invariant.falls);
     }

@@ -1,4 +1,4 @@
-use Rattle.snap_scan_tokens.proofs.Prelude.{◌≡◌, ◌≤◌, ◌+◌, length, gap_of, before, EndsIn, Place, Later, plain, plain_from}
+use Rattle.snap_scan_tokens.proofs.Prelude.{◌≡◌, ◌≤◌, ◌+◌, length, gap_of, before, EndsIn, Travels, plain, plain_from}
 use Rattle.snap_scan_tokens.proofs.plain.scan_plain_scalar.Given as goal
 
 abbrev pub invariant-characters : goal.invariant-characters
@@ -6,8 +6,7 @@ invariant-characters l = record {
   behind : EndsIn l.text.behind l.cursor.left;
   inside : EndsIn l.fn.cursor.left l.cursor.left;
   same : plain l.fn.indent l.fn.in_flow (gap_of l.gap (before l.text.behind l.cursor.left)) l.text.text l.cursor.left l.cursor ≡ plain_from l.fn.indent l.fn.in_flow l.fn.cursor;
-  onward : (p : Place) → Later p l.fn.cursor → Later p l.cursor;
-  sum : l.cursor.index + length l.cursor.left ≡ l.fn.cursor.index + length l.fn.cursor.left;
+  travels : Travels l.fn.cursor l.cursor;
   falls : length l.cursor.left + 1 ≤ length l.fn.cursor.left;
 }
 

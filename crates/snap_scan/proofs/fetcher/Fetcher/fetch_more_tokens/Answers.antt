@@ -1,4 +1,4 @@
-use Rattle.snap_scan.proofs.Prelude.{arith, err_from_is_err_and, state_of}
+use Rattle.snap_scan.proofs.Prelude.{◌∙◌, arith, err_from_is_err_and, state_of}
 use Rattle.snap_scan.proofs.Ending.{holding}
 use Rattle.snap_scan.proofs.Founding.{sound-step, founded-fetch}
 use Rattle.snap_scan.proofs.Owing.{owed-fetch, owed-fails}
@@ -22,6 +22,7 @@ fetching-preserved c = record {
       owed-fetch (state_of c.is_ready.new.self) (state_of c.fetch_next_token.new.self) ts (c.in_ok-is_ready.ensures.ahead c.if-branch.false)
       (c.in_ok-is_ready.ensures.owed ahead source ts (c.fetching.invariant.sound ahead source is) (c.fetching.invariant.owed ahead source ts is o))
       c.in_ok-fetch_next_token.ensures.value;
+  extent = c.fetch_next_token.ensures.extent ∙ c.is_ready.ensures.extent ∙ c.fetching.invariant.extent;
 }
 
 pub returns-in_err-fetch_next_token-clause-sound : goal.returns-in_err-fetch_next_token-clause-sound

@@ -1,4 +1,4 @@
-use Rattle.snap_scan.proofs.Prelude.{◌≡◌, ◌≤◌, length, state_of, spent, work, past_comment}
+use Rattle.snap_scan.proofs.Prelude.{◌≡◌, ◌≤◌, length, state_of, extent, spent, work, past_comment}
 use Rattle.snap_scan.proofs.fetcher.Fetcher.skip_comment.Given as goal
 
 abbrev pub invariant-characters : goal.invariant-characters
@@ -7,6 +7,7 @@ invariant-characters l = record {
   still : l.self.ended ≡ l.fn.self.ended;
   cost : spent (state_of l.self) ≤ spent (state_of l.fn.self);
   work : work (state_of l.self) ≤ work (state_of l.fn.self);
+  extent : extent (state_of l.self) ≡ extent (state_of l.fn.self);
 }
 
 abbrev pub decreases-characters : goal.decreases-characters

@@ -1,4 +1,4 @@
-use Rattle.snap_scan.proofs.Prelude.{◌≡◌, length, state_of, spent, work, unrolled}
+use Rattle.snap_scan.proofs.Prelude.{◌≡◌, length, state_of, extent, spent, work, unrolled}
 use Rattle.snap_scan.proofs.fetcher.Fetcher.unroll_indent.Given as goal
 
 abbrev pub invariant-loop-column : goal.invariant-loop-column
@@ -7,6 +7,7 @@ invariant-loop-column l = record {
   still : l.self.ended ≡ l.fn.self.ended;
   cost : spent (state_of l.self) ≡ spent (state_of l.fn.self);
   work : work (state_of l.self) ≡ work (state_of l.fn.self);
+  extent : extent (state_of l.self) ≡ extent (state_of l.fn.self);
 }
 
 abbrev pub decreases-loop-column : goal.decreases-loop-column

@@ -1,6 +1,7 @@
 use Rattle.snap_scan_blocks.proofs.Prelude.{◌≡◌, ◌≢◌, ◌==◌, ◌||◌, ◌∙◌, ℕ, Bool, true, false, not, slice_index, refl, sym, ap, subst, arith, Option, Some, None, Ok, Err, InLine, ScanError, OutOfMemory, Syntax, is_break, is_of, Mark, Place, Lines, Read, stop, with_breaks, ended, IsRefusedLine, ReadsLines}
 use Rattle.snap_scan_blocks.proofs.Between.{between_at, within_at, between-stop, between-line, within-end, within-break}
 use Rattle.std.proofs.lemmas.Result.{err_from_is_err_and}
+use Rattle.snap_scan_tokens.proofs.Places.{travels-on}
 use Rattle.snap_scan_blocks.proofs.lines.Lines.scan.Goals as goal
 use Rattle.snap_scan_blocks.proofs.lines.Lines.scan.Goals.{then-lines-test+else-col-indentation, else-lines-test}
 
@@ -89,9 +90,7 @@ lines-preserved c =
     record {
       stands = c.in_ok-scan_empty_lines.ensures.stands;
       same = c.in_ok-scan_empty_lines.ensures.value.0 b (ended m) ∙ past ∙ line ∙ c.lines.invariant.same;
-      onward = λ x h. c.scan_empty_lines.ensures.onward x (c.skip_break.ensures.onward x (c.scan_line.ensures.onward x (c.lines.invariant.onward x h)));
-      sum = c.scan_empty_lines.ensures.sum ∙ c.skip_break.ensures.sum ∙ c.scan_line.ensures.sum ∙ c.lines.invariant.sum;
-      lighter = omega (arith, c.scan_empty_lines.ensures.lighter, c.skip_break.ensures.lighter, c.scan_line.ensures.lighter, c.lines.invariant.lighter);
+      travels = travels-on (travels-on (travels-on c.lines.invariant.travels c.scan_line.ensures.travels) c.skip_break.ensures.travels) c.scan_empty_lines.ensures.travels;
     }
 
 pub returns-clause-value : goal.returns-clause-value

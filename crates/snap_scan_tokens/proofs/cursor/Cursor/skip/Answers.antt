@@ -1,4 +1,5 @@
-use Rattle.snap_scan_tokens.proofs.Prelude.{ap, arith, rules, length, ◌≡◌, ◌∷◌, chars}
+use Rattle.snap_scan_tokens.proofs.Prelude.{ap, sym, subst, ◌∙◌, arith, rules, length, ℕ, List, ◌≡◌, ◌∷◌, chars, EndsIn, Place}
+use Rattle.snap_scan_tokens.proofs.Pieces.{ends-next}
 use Rattle.snap_scan_tokens.proofs.Places.{later-next}
 use Rattle.snap_scan_tokens.proofs.cursor.Cursor.skip.Goals as goal
 
@@ -14,8 +15,22 @@ invariant_of-self-else-first-eq10 c =
     let longer = ap length is in
     (omega arith, omega arith, omega arith)
 
-pub returns-then-first-eq10-clause-onward : goal.returns-then-first-eq10-clause-onward
-returns-then-first-eq10-clause-onward c = λ p h. later-next p c.args.self.now _ (search rules) h
+pub returns-then-first-eq10-clause-travels : goal.returns-then-first-eq10-clause-travels
+returns-then-first-eq10-clause-travels c =
+    let left : c.args.self.now.left ≡ c.in-Some.first ∷ chars c.in-Some.rest.now = ap (λ (p : Place). p.left) (sym c.self.view_is) ∙ c.in-Some.ensures in
+    record {
+      onward = λ p h. later-next p c.args.self.now _ (search rules) h;
+      within = λ all h. let P : List ℕ → Type 0 = λ l. EndsIn all l in ends-next all c.in-Some.first (chars c.in-Some.rest.now) (subst P left h);
+      sum = search rules;
+      lighter = search rules;
+    }
 
-pub returns-else-first-eq10-clause-onward : goal.returns-else-first-eq10-clause-onward
-returns-else-first-eq10-clause-onward c = λ p h. later-next p c.args.self.now _ (search rules) h
+pub returns-else-first-eq10-clause-travels : goal.returns-else-first-eq10-clause-travels
+returns-else-first-eq10-clause-travels c =
+    let left : c.args.self.now.left ≡ c.in-Some.first ∷ chars c.in-Some.rest.now = ap (λ (p : Place). p.left) (sym c.self.view_is) ∙ c.in-Some.ensures in
+    record {
+      onward = λ p h. later-next p c.args.self.now _ (search rules) h;
+      within = λ all h. let P : List ℕ → Type 0 = λ l. EndsIn all l in ends-next all c.in-Some.first (chars c.in-Some.rest.now) (subst P left h);
+      sum = search rules;
+      lighter = search rules;
+    }

@@ -1,6 +1,0 @@
-use Rattle.snap_scan_tokens.proofs.Prelude.{ap, ◌∙◌, is_nil}
-use Rattle.snap_scan_tokens.proofs.Empties.{nil-text}
-use Rattle.snap_scan_tokens.proofs.folding.is_nil.Goals as goal
-
-pub returns : goal.returns
-returns c = c.is_empty.ensures ∙ nil-text c.as_str.result.now c.as_str.utf8 ∙ ap is_nil c.as_str.ensures
