@@ -103,8 +103,8 @@ parse_refused path line (NoFile named) h memory = absurd h
 tree_end : (path line : List ℕ) (plain : Plain) (result : Result PendingInlineSnapshot Error) → (line ≡ [] → ⊥) → MayBeReadAs line plain → MayBeJsonOf line plain → RecordEnd plain result
     → LineEnd path line result
 tree_end path line plain (Ok pending) filled read json h = record { filled = filled; tree = plain; read = read; json = json; tells = h }
-tree_end path line plain (Err UnexpectedDataType) filled read json h = record { tree = plain; read = read; json = json; refused = h }
-tree_end path line plain (Err MissingField) filled read json h = record { tree = plain; read = read; json = json; refused = h }
+tree_end path line plain (Err UnexpectedDataType) filled read json h = record { filled = filled; tree = plain; read = read; json = json; refused = h }
+tree_end path line plain (Err MissingField) filled read json h = record { filled = filled; tree = plain; read = read; json = json; refused = h }
 tree_end path line plain (Err OutOfMemory) filled read json h = tt
 tree_end path line plain (Err (FailedParsingYaml named)) filled read json h = absurd h
 tree_end path line plain (Err (FileIo named)) filled read json h = absurd h

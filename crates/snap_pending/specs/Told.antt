@@ -149,8 +149,9 @@ pub record LineTells (line : List ℕ) (pending : Pending) : Type 0 where
   pub json : MayBeJsonOf line tree
   pub tells : TellsRecord tree pending
 
--- a tree that the line may be read as is no record
+-- the line is not empty, and a tree that it may be read as is no record
 pub record IsReadAsNone (line : List ℕ) (error : Error) : Type 0 where
+  pub filled : line ≡ [] → ⊥
   pub tree : Plain
   pub read : MayBeReadAs line tree
   pub json : MayBeJsonOf line tree
