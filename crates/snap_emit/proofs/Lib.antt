@@ -6,5 +6,8 @@ mod PlainRead
 mod ReadBack
 mod LaidTrees
 mod Parsing
+mod FirstNumbers
+mod ShortNumbers
+mod ReadTexts
 mod NumberPieces
 pub mod OneText

@@ -1,5 +1,5 @@
 -- Trees that have a text in common are one tree.
-use Rattle.snap_emit.proofs.Prelude.{◌≡◌, ◌++◌, ℕ, List, Some, refl, ap, sym, subst, ◌∙◌, codes, text_of, document_of, Plain, IsWithin, Blocks, read_value, plain_read}
+use Rattle.snap_emit.proofs.Prelude.{◌≡◌, ◌++◌, ℕ, List, Some, refl, ap, sym, ◌∙◌, codes, text_of, document_of, Plain, IsWithin, Blocks, read_value, plain_read}
 use Rattle.std.proofs.Common.{inl, inr}
 use Rattle.snap_parse_laws.proofs.FreeLayouts.{free-is-laid}
 use Rattle.snap_yaml.specs.Value.{Value}
@@ -19,16 +19,12 @@ record Given (text : List ℕ) (t : Plain) : Type 0 where
   plainly : plain_read value ≡ Some t
 
 given : (text : List ℕ) (t : Plain) → IsWithin t → IsHeaderOf text t → Given text t
-given text t within (inl is) =
-    let P : List ℕ → Type 0 = λ x. HasValue x (read_value t) in
-    record { value = read_value t; has = subst P (sym is.text_is) (printed-value is.blocks t within); plainly = read-back t within }
-given text t within (inr s) =
-    let P : List ℕ → Type 0 = λ x. HasValue x (layout_value s.layout.tree) in
-    record {
-      value = layout_value s.layout.tree;
-      has = subst P (sym s.text_is) (laid-one-value s.layout (free-is-laid s.layout s.free));
-      plainly = (layout-reads s.layout.tree).plainly ∙ ap Some s.tree_is;
-    }
+given text t within (inl is) = record { value = read_value t; has = printed-value is.blocks t text within is.text_is; plainly = read-back t within }
+given text t within (inr s) = record {
+  value = layout_value s.layout.tree;
+  has = laid-one-value s.layout text (free-is-laid s.layout s.free) s.text_is;
+  plainly = (layout-reads s.layout.tree).plainly ∙ ap Some s.tree_is;
+}
 
 pub headers_same : (text : List ℕ) (a b : Plain) → IsWithin a → IsWithin b → IsHeaderOf text a → IsHeaderOf text b → a ≡ b
 headers_same text a b h k one other =

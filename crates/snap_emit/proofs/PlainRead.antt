@@ -1,5 +1,5 @@
 -- Trees that are made of values are those of the plain trees that they are read as.
-use Rattle.snap_emit.proofs.Prelude.{◌≡◌, ℕ, Bool, true, false, ◌||◌, List, [], ◌∷◌, ◌++◌, map, Option, Some, None, option_map, length, refl, sym, ap, ◌∙◌, arith, rules, option_and_then, tree, pair_tree, item_trees, pair_list, pair_trees, Pairs, Content, Map, value_of, array_values, hash_list, hash_values, Hash, plain_read, plains_read, entries_read, has_number_text, have_number_texts, are_number_texts_in, or_nothing}
+use Rattle.snap_emit.proofs.Prelude.{◌≡◌, ℕ, Bool, true, false, ◌||◌, List, [], ◌∷◌, ◌++◌, map, Option, Some, None, option_map, length, refl, sym, ap, ◌∙◌, arith, rules, option_and_then, tree, pair_tree, item_trees, pair_list, pair_trees, Pairs, Content, Map, value_of, array_values, hash_list, hash_values, Hash, plain_read, plains_read, entries_read, is_number_first, is_number_first_of, is_number_first_in, or_nothing, ◌&&◌, is_some}
 use Rattle.snap_content.specs.Plain as p
 use Rattle.snap_content.specs.Tree as t
 use Rattle.snap_content.proofs.Views.{tree-Map}
@@ -180,46 +180,101 @@ hash-some value hash pairs kept made is same listed read =
     ∙ ap (λ x. option_map p.content_of (plain_read x)) (hash-read value hash pairs is same)
 
 pub hash-found : (value : Yaml) (hash : Hash) (pairs : List (Yaml × Yaml)) (found before : Bool) → value ≡ held.Hash hash → pairs ≡ hash_list hash
-    → found ≡ (before || are_number_texts_in (hash_values pairs)) → found ≡ (before || has_number_text (value_of value))
-hash-found value hash pairs found before is same h = h ∙ ap (λ x. before || has_number_text x) (hash-read value hash pairs is same)
+    → found ≡ (before || is_number_first_in (hash_values pairs)) → found ≡ (before || is_number_first (value_of value))
+hash-found value hash pairs found before is same h = h ∙ ap (λ x. before || is_number_first x) (hash-read value hash pairs is same)
 
--- numbers that are kept as texts, in the items so far and in those that are left
+-- what was read is a tree, or is none
+pub is-read : (o : Option p.Plain) (c : t.Tree) → Some c ≡ option_map p.content_of o → is_some o ≡ true
+is-read None c is = absurd (cc)
+is-read (Some x) c is = refl
+
+pub is-unread : (o : Option p.Plain) → None ≡ option_map p.content_of o → is_some o ≡ false
+is-unread None is = refl
+is-unread (Some x) is = absurd (cc)
+
+-- numbers that come first, in the items so far and in those that are left
 or-grouped : (a b c : Bool) → (a || (b || c)) ≡ ((a || b) || c)
 or-grouped true b c = refl
 or-grouped false b c = refl
 
+-- where a part is a tree, what comes first in it or in the others; and where it is none, what comes first in it
+then-rest : (first is rest : Bool) → is ≡ true → (first || (is && rest)) ≡ (first || rest)
+then-rest first is rest same = rw same refl
+
+then-none : (first is rest : Bool) → is ≡ false → (first || (is && rest)) ≡ first
+then-none first is rest same = rw same (or_nothing first)
+
+abbrev first_of : List Yaml → Bool
+first_of ys = is_number_first_of (array_values ys)
+
+abbrev first_in : List (Yaml × Yaml) → Bool
+first_in ys = is_number_first_in (hash_values ys)
+
+abbrev is_read : Yaml → Bool
+is_read y = is_some (plain_read (value_of y))
+
+abbrev first_at : Yaml → Bool
+first_at y = is_number_first (value_of y)
+
 abbrev pub AreFound : Bool → List Yaml → Bool → List Yaml → Type 0
-AreFound found left before items = (found || have_number_texts (array_values left)) ≡ (before || have_number_texts (array_values items))
+AreFound found left before items = (found || is_number_first_of (array_values left)) ≡ (before || is_number_first_of (array_values items))
 
 pub none-found : (before : Bool) (left items : List Yaml) → left ≡ items → AreFound before left before items
-none-found before left items same = ap (λ ys. before || have_number_texts (array_values ys)) same
+none-found before left items same = ap (λ ys. before || first_of ys) same
 
-pub one-found : (found after before : Bool) (left more items : List Yaml) (y : Yaml) → AreFound found left before items → left ≡ y ∷ more → after ≡ (found || has_number_text (value_of y))
-    → AreFound after more before items
-one-found found after before left more items y h next is =
-    ap (λ b. b || have_number_texts (array_values more)) is ∙ sym (or-grouped found (has_number_text (value_of y)) (have_number_texts (array_values more)))
-    ∙ ap (λ ys. found || have_number_texts (array_values ys)) (sym next) ∙ h
+pub one-found : (found after before : Bool) (left more items : List Yaml) (y : Yaml) → AreFound found left before items → left ≡ y ∷ more → is_some (plain_read (value_of y)) ≡ true
+    → after ≡ (found || is_number_first (value_of y)) → AreFound after more before items
+one-found found after before left more items y h next read is =
+    ap (λ b. b || first_of more) is ∙ sym (or-grouped found (first_at y) (first_of more)) ∙ ap (λ b. found || b) (sym (then-rest (first_at y) (is_read y) (first_of more) read))
+    ∙ ap (λ ys. found || first_of ys) (sym next) ∙ h
 
-pub all-found : (found before : Bool) (left items : List Yaml) → AreFound found left before items → left ≡ [] → found ≡ (before || have_number_texts (array_values items))
-all-found found before left items h none = sym (or_nothing found) ∙ ap (λ ys. found || have_number_texts (array_values ys)) (sym none) ∙ h
+-- nothing counts after what is no tree
+pub last-found : (found after before : Bool) (left more items : List Yaml) (y : Yaml) → AreFound found left before items → left ≡ y ∷ more → is_some (plain_read (value_of y)) ≡ false
+    → after ≡ (found || is_number_first (value_of y)) → after ≡ (before || is_number_first_of (array_values items))
+last-found found after before left more items y h next unread is =
+    is ∙ ap (λ b. found || b) (sym (then-none (first_at y) (is_read y) (first_of more) unread)) ∙ ap (λ ys. found || first_of ys) (sym next) ∙ h
+
+pub all-found : (found before : Bool) (left items : List Yaml) → AreFound found left before items → left ≡ [] → found ≡ (before || is_number_first_of (array_values items))
+all-found found before left items h none = sym (or_nothing found) ∙ ap (λ ys. found || first_of ys) (sym none) ∙ h
 
 abbrev pub AreFoundIn : Bool → List (Yaml × Yaml) → Bool → List (Yaml × Yaml) → Type 0
-AreFoundIn found left before pairs = (found || are_number_texts_in (hash_values left)) ≡ (before || are_number_texts_in (hash_values pairs))
+AreFoundIn found left before pairs = (found || is_number_first_in (hash_values left)) ≡ (before || is_number_first_in (hash_values pairs))
 
 pub none-found-in : (before : Bool) (left pairs : List (Yaml × Yaml)) → left ≡ pairs → AreFoundIn before left before pairs
-none-found-in before left pairs same = ap (λ ys. before || are_number_texts_in (hash_values ys)) same
+none-found-in before left pairs same = ap (λ ys. before || first_in ys) same
+
+abbrev after_key : Yaml × Yaml → List (Yaml × Yaml) → Bool
+after_key y more = first_at y.1 || (is_read y.1 && first_in more)
+
+-- a first pair and the others, where its key is a tree
+keyed : (found between : Bool) (y : Yaml × Yaml) (more : List (Yaml × Yaml)) → is_some (plain_read (value_of y.0)) ≡ true → between ≡ (found || is_number_first (value_of y.0))
+    → (between || after_key y more) ≡ (found || first_in (y ∷ more))
+keyed found between y more read is =
+    ap (λ b. b || after_key y more) is ∙ sym (or-grouped found (first_at y.0) (after_key y more))
+    ∙ ap (λ b. found || b) (sym (then-rest (first_at y.0) (is_read y.0) (after_key y more) read))
 
 pub one-found-in : (found between after before : Bool) (left more pairs : List (Yaml × Yaml)) (y : Yaml × Yaml) → AreFoundIn found left before pairs → left ≡ y ∷ more
-    → between ≡ (found || has_number_text (value_of y.0)) → after ≡ (between || has_number_text (value_of y.1)) → AreFoundIn after more before pairs
-one-found-in found between after before left more pairs y h next is also =
-    let key : Bool = has_number_text (value_of y.0) in
-    let other : Bool = has_number_text (value_of y.1) in
-    let rest : Bool = are_number_texts_in (hash_values more) in
-    ap (λ b. b || rest) also ∙ sym (or-grouped between other rest) ∙ ap (λ b. b || (other || rest)) is ∙ sym (or-grouped found key (other || rest))
-    ∙ ap (λ ys. found || are_number_texts_in (hash_values ys)) (sym next) ∙ h
+    → is_some (plain_read (value_of y.0)) ≡ true → is_some (plain_read (value_of y.1)) ≡ true
+    → between ≡ (found || is_number_first (value_of y.0)) → after ≡ (between || is_number_first (value_of y.1)) → AreFoundIn after more before pairs
+one-found-in found between after before left more pairs y h next key value is also =
+    ap (λ b. b || first_in more) also ∙ sym (or-grouped between (first_at y.1) (first_in more))
+    ∙ ap (λ b. between || b) (sym (then-rest (first_at y.1) (is_read y.1) (first_in more) value)) ∙ keyed found between y more key is
+    ∙ ap (λ ys. found || first_in ys) (sym next) ∙ h
 
-pub all-found-in : (found before : Bool) (left pairs : List (Yaml × Yaml)) → AreFoundIn found left before pairs → left ≡ [] → found ≡ (before || are_number_texts_in (hash_values pairs))
-all-found-in found before left pairs h none = sym (or_nothing found) ∙ ap (λ ys. found || are_number_texts_in (hash_values ys)) (sym none) ∙ h
+pub last-key-found : (found after before : Bool) (left more pairs : List (Yaml × Yaml)) (y : Yaml × Yaml) → AreFoundIn found left before pairs → left ≡ y ∷ more
+    → is_some (plain_read (value_of y.0)) ≡ false → after ≡ (found || is_number_first (value_of y.0)) → after ≡ (before || is_number_first_in (hash_values pairs))
+last-key-found found after before left more pairs y h next unread is =
+    is ∙ ap (λ b. found || b) (sym (then-none (first_at y.0) (is_read y.0) (after_key y more) unread)) ∙ ap (λ ys. found || first_in ys) (sym next) ∙ h
+
+pub last-value-found : (found between after before : Bool) (left more pairs : List (Yaml × Yaml)) (y : Yaml × Yaml) → AreFoundIn found left before pairs → left ≡ y ∷ more
+    → is_some (plain_read (value_of y.0)) ≡ true → is_some (plain_read (value_of y.1)) ≡ false
+    → between ≡ (found || is_number_first (value_of y.0)) → after ≡ (between || is_number_first (value_of y.1)) → after ≡ (before || is_number_first_in (hash_values pairs))
+last-value-found found between after before left more pairs y h next key unread is also =
+    also ∙ ap (λ b. between || b) (sym (then-none (first_at y.1) (is_read y.1) (first_in more) unread)) ∙ keyed found between y more key is
+    ∙ ap (λ ys. found || first_in ys) (sym next) ∙ h
+
+pub all-found-in : (found before : Bool) (left pairs : List (Yaml × Yaml)) → AreFoundIn found left before pairs → left ≡ [] → found ≡ (before || is_number_first_in (hash_values pairs))
+all-found-in found before left pairs h none = sym (or_nothing found) ∙ ap (λ ys. found || first_in ys) (sym none) ∙ h
 
 -- an iterator whose count is none has nothing left
 pub nothing-left : {A : Type 0} (xs : List A) (n : ℕ) → n ≡ length xs → n ≡ 0 → xs ≡ []

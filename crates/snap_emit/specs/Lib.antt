@@ -4,3 +4,4 @@ pub mod Parsed
 pub mod Examples
 pub mod LayoutTrees
 pub mod Spelled
+pub mod Readings

@@ -1,5 +1,5 @@
 -- The plain tree that a value of YAML is read as.
-use Rattle.std.specs.Prelude.{◌≡◌, ℕ, ℤ, List, Bool, false, not, ◌||◌, ◌&&◌, Option, None, Some, option_map, option_and_then, if◌then◌else◌}
+use Rattle.std.specs.Prelude.{◌≡◌, ℕ, ℤ, List, Bool, false, not, ◌||◌, ◌&&◌, Option, None, Some, option_map, option_and_then, is_some, if◌then◌else◌}
 use Rattle.snap_content.specs.Numbers.{is_integer_text}
 use Rattle.snap_content.specs.Plain as p
 use Rattle.snap_content.specs.Tree.{Tree}
@@ -56,6 +56,24 @@ abbrev mutual
   pub are_number_texts_in : ValuePairs → Bool
   are_number_texts_in no_pairs = false
   are_number_texts_in (pair k v ps) = has_number_text k || (has_number_text v || are_number_texts_in ps)
+
+-- such a number stands in the value, and all that stands before it is a tree
+abbrev mutual
+  pub is_number_first : Value → Bool
+  is_number_first (real w) = not (is_whole w)
+  is_number_first (array vs) = is_number_first_of vs
+  is_number_first (hash ps) = is_number_first_in ps
+  is_number_first _ = false
+
+  -- in the first item or, where that is a tree, in the others
+  pub is_number_first_of : Values → Bool
+  is_number_first_of no_values = false
+  is_number_first_of (value v vs) = is_number_first v || (is_some (plain_read v) && is_number_first_of vs)
+
+  pub is_number_first_in : ValuePairs → Bool
+  is_number_first_in no_pairs = false
+  is_number_first_in (pair k v ps) =
+      is_number_first k || (is_some (plain_read k) && (is_number_first v || (is_some (plain_read v) && is_number_first_in ps)))
 
 -- the tree is that of a plain tree
 pub record IsPlain (made : Content) : Type 0 where

@@ -1,9 +1,9 @@
 //! The tree of a value of YAML.
-ghost use Rattle.std.specs.Prelude.{◌≡◌, ◌||◌, IfOk, IfSome, option_map};
+ghost use Rattle.std.specs.Prelude.{◌≡◌, ◌||◌, IfOk, option_map};
 ghost use Rattle.snap_content.specs.Plain.{content_of, trees_made, pairs_made};
 ghost use Rattle.snap_content.specs.View.{tree, item_trees, pair_trees};
 ghost use Rattle.snap_yaml.specs.View.{value_of, array_values, hash_values};
-ghost use Rattle.snap_emit.specs.PlainRead.{number_read, plain_read, plains_read, entries_read, has_number_text, have_number_texts, are_number_texts_in};
+ghost use Rattle.snap_emit.specs.PlainRead.{number_read, plain_read, plains_read, entries_read, is_number_first, is_number_first_of, is_number_first_in};
 ghost use Rattle.snap_yaml.specs.Value.{real};
 
 use crate::whole::{signed_content, whole_number};
@@ -14,7 +14,7 @@ use std::alloc::Global;
 /// The number that a text is, where that is a whole number of 128 bits, and else the text.
 fn number_or_text(text: Text, found: &mut bool) -> Content
     ensures made { tree result ≡ content_of (number_read text) }
-    ensures number { found.new ≡ (found.old || has_number_text (real text)) }
+    ensures number { found.new ≡ (found.old || is_number_first (real text)) }
 {
     match whole_number(text.as_str()) {
         Some(number) => number,
@@ -25,7 +25,8 @@ fn number_or_text(text: Text, found: &mut bool) -> Content
     }
 }
 
-/// The tree of a value. There is none of a value in which a bad one stands. `found` is set at a number that is kept as its text.
+/// The tree of a value. There is none of a value in which a bad one stands. `found` is set at a number that is kept as its text,
+/// where it stands before what is no tree.
 #[cycle(from_value)]
 pub(crate) fn tree_of(
     alloc: Global,
@@ -34,8 +35,7 @@ pub(crate) fn tree_of(
 ) -> Result<Option<Content>, OutOfMemory>
     ensures made { IfOk result (λ made. option_map tree made
         ≡ option_map content_of (plain_read (value_of value))) }
-    ensures number { IfOk result (λ made. IfSome made
-        (λ _. found.new ≡ (found.old || has_number_text (value_of value)))) }
+    ensures number { IfOk result (λ _. found.new ≡ (found.old || is_number_first (value_of value))) }
 {
     match value {
         Yaml::Null => Ok(Some(Content::None)),
@@ -64,8 +64,8 @@ fn trees_of(
 ) -> Result<Option<Vec<Content>>, OutOfMemory>
     ensures made { IfOk result (λ made. option_map (λ trees. item_trees trees.items) made
         ≡ option_map trees_made (plains_read (array_values items.items))) }
-    ensures number { IfOk result (λ made. IfSome made
-        (λ _. found.new ≡ (found.old || have_number_texts (array_values items.items)))) }
+    ensures number { IfOk result (λ _. found.new
+        ≡ (found.old || is_number_first_of (array_values items.items))) }
 {
     let mut made = Vec::with_capacity(alloc, items.len())?;
     for item in items {
@@ -86,8 +86,8 @@ fn pairs_of(
 ) -> Result<Option<Vec<(Content, Content)>>, OutOfMemory>
     ensures made { IfOk result (λ made. option_map (λ trees. pair_trees trees.items) made
         ≡ option_map pairs_made (entries_read (hash_values pairs.items))) }
-    ensures number { IfOk result (λ made. IfSome made
-        (λ _. found.new ≡ (found.old || are_number_texts_in (hash_values pairs.items)))) }
+    ensures number { IfOk result (λ _. found.new
+        ≡ (found.old || is_number_first_in (hash_values pairs.items))) }
 {
     let mut made = Vec::with_capacity(alloc, pairs.len())?;
     for (key, value) in pairs {

@@ -6,7 +6,7 @@ ghost use Rattle.snap_content.specs.Spell.{spelling};
 ghost use Rattle.snap_content.specs.Typed.{typed, value};
 ghost use Rattle.snap_print.specs.Blocks.{Blocks};
 ghost use Rattle.snap_print.specs.Lines.{text_of};
-ghost use Rattle.snap_emit.specs.Spelled.{IsHeaderOf};
+ghost use Rattle.snap_emit.specs.Spelled.{IsHeaderOf, SpellsHeader};
 ghost use Rattle.snap_emit.specs.Examples.{AreMarkedNumbers, AreWords, AreWholeNumbers, AreReal, AreTexts, AreSpelled};
 
 /// Trees whose numbers have 128 bits are one tree where they have a text in common, whether it is printed of them, with literal
@@ -16,6 +16,11 @@ pub const fn one_text_is_one_tree()
         → text_of v a ≡ text_of w b → a ≡ b }
     ensures spelled { (text : List ℕ) (a b : Plain) → IsWithin a → IsWithin b
         → IsHeaderOf text a → IsHeaderOf text b → a ≡ b }
+{}
+
+/// The numbers of a tree that a free layout spells have 128 bits.
+pub const fn spelled_numbers_are_within()
+    ensures { (text : List ℕ) (t : Plain) → SpellsHeader text t → IsWithin t }
 {}
 
 /// A scalar that is written without double quotes is what a reader takes its spelling for.

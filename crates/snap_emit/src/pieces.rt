@@ -3,9 +3,10 @@ ghost use Rattle.std.specs.Prelude.{◌≡◌, ◌<◌, false, length, IfOk, IfS
 ghost use Rattle.std.specs.List.{list_any};
 ghost use Rattle.std.specs.Str.{chars};
 ghost use Rattle.snap_yaml.specs.View.{value_of};
-ghost use Rattle.snap_emit.specs.Parsed.{IsUnspelled, RefusalEnd};
+ghost use Rattle.snap_emit.specs.Parsed.{IsErrorOf};
 ghost use Rattle.snap_emit.specs.Pieces.{ends_piece, IsPieceThen, is_beyond, is_number_piece, has_number_piece};
 
+use crate::refusal::Refusal;
 use crate::whole::is_whole;
 use snap_content::characters::{before_rest, split_first};
 use snap_content::{Error, OutOfMemory, Text};
@@ -76,8 +77,7 @@ fn has_number_piece(alloc: Global, text: &str) -> Result<bool, OutOfMemory>
 
 /// The refusal of a text for a number that is no whole number of 128 bits. It is named where it stands in the text.
 pub(crate) fn number_refusal(alloc: Global, text: &str, path: &Text) -> Result<Error, OutOfMemory>
-    ensures { IfOk result (λ error. IsUnspelled (chars text.now)
-        → RefusalEnd (chars text.now) path.now error) }
+    ensures { IfOk result (λ error. IsErrorOf (chars text.now) path.now Refusal.Number error) }
 {
     let path = path.try_clone(alloc)?;
     if has_number_piece(alloc, text)? {

@@ -1,5 +1,5 @@
 //! The walk that writes a tree: each piece goes straight into the text, further lines after the blanks of their column.
-ghost use Rattle.std.specs.Prelude.{◌≡◌, ◌+◌, ◌++◌, ◌∷◌, [], OnOk, OnErr, IfOk, IsTrue};
+ghost use Rattle.std.specs.Prelude.{◌≡◌, ◌+◌, ◌^◌, ◌≤◌, ◌++◌, ◌∷◌, [], OnOk, OnErr, IfOk, IfErr, IsTrue};
 ghost use Rattle.std.specs.Char.{is_ascii};
 ghost use Rattle.std.specs.List.{list_all};
 ghost use Rattle.snap_emit_values.specs.Columns.{IsBegun, break_at, gap, text_at};
@@ -18,7 +18,8 @@ use std::alloc::Global;
 
 /// Two columns further in. Where no number is left for the column, no memory would hold the blanks of its lines.
 fn deeper(column: usize) -> Result<usize, OutOfMemory>
-    ensures { IfOk result (λ inner. inner ≡ column + 2) }
+    ensures ok { IfOk result (λ inner. inner ≡ column + 2) }
+    ensures err { IfErr result (λ _. 2 ^ 64 ≤ column + 2) }
 {
     match column.checked_add(2) {
         Some(inner) => Ok(inner),

@@ -1,5 +1,5 @@
 //! What stands between the values of a JSON text.
-ghost use Rattle.std.specs.Prelude.{◌≡◌, ◌+◌, IfOk};
+ghost use Rattle.std.specs.Prelude.{◌≡◌, ◌+◌, ◌^◌, ◌≤◌, IfOk, IfErr};
 ghost use Rattle.snap_json.specs.Layout.{blanks, break_at, opening, closing, comma, colon};
 ghost use Rattle.snap_json.specs.Written.{whole, Wrote};
 
@@ -11,7 +11,8 @@ use std::alloc::Global;
 
 /// Two columns further in. Where no number is left for the column, no memory would hold the blanks of its lines.
 pub fn deeper(column: usize) -> Result<usize, OutOfMemory>
-    ensures { IfOk result (λ inner. inner ≡ column + 2) }
+    ensures ok { IfOk result (λ inner. inner ≡ column + 2) }
+    ensures err { IfErr result (λ _. 2 ^ 64 ≤ column + 2) }
 {
     match column.checked_add(2) {
         Some(inner) => Ok(inner),

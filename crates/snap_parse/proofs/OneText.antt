@@ -1,21 +1,20 @@
 -- A text has one document, whether it is printed of a tree or lies in a layout.
-use Rattle.snap_parse.proofs.Prelude.{◌≡◌, ℕ, List, [], ◌∷◌, ◌++◌, map, true, false, Some, sym, ap, ◌∙◌, refl, subst, Blocks, document_of, Plain, document_tokens, plain-source, fetched, Steps, none_more, one_more, type_of, Owes, start_scan, before_nul, TokenType, Event, Node, stream_events, Spot, start_spot, Parsed, parse_step, stage_step, Yields, finished, then_one, Value, document_value, node_of, read_value, IsWithin, steps, start}
+use Rattle.snap_parse.proofs.Prelude.{◌≡◌, ℕ, List, [], ◌∷◌, ◌++◌, map, true, false, Some, sym, ap, ◌∙◌, refl, subst, Blocks, document_of, Plain, fetched, Steps, none_more, one_more, type_of, Owes, start_scan, before_nul, TokenType, Event, Node, stream_events, Spot, start_spot, Parsed, parse_step, stage_step, Yields, finished, then_one, Value, document_value, node_of, json_node, read_value, IsWithin, steps, start, AreNodesOf, has_alias}
+use Rattle.snap_parse_laws_json.specs.Bounded.{IsJsonOf}
 use Rattle.snap_parse_laws.specs.LayoutRules.{IsDocument}
 use Rattle.snap_parse_laws.specs.LayoutTexts.{document_text}
-use Rattle.snap_parse_laws.specs.LayoutTokens.{layout_tokens}
 use Rattle.snap_parse_laws.specs.Layouts.{Document}
-use Rattle.snap_parse_laws.specs.Tokens.{document_with}
 use Rattle.snap_parse_laws.specs.Endings.{ends_in_block}
-use Rattle.snap_parse_laws.proofs.Documents.{laid-source, dumped-source}
 use Rattle.snap_scan.specs.State.{State}
 use Rattle.snap_parse_events.specs.declared.state.Stage.TheVariants as g
 use Rattle.snap_parse.specs.LaidEvents.{layout_tree}
 use Rattle.snap_parse.specs.LaidValues.{layout_value}
 use Rattle.snap_parse.specs.TreeNodes.{tree_node}
 use Rattle.snap_parse.proofs.Folds.{stream-steps}
-use Rattle.snap_parse.proofs.LaidRuns.{laid-events}
+use Rattle.snap_parse.proofs.JsonValues.{json-read}
 use Rattle.snap_parse.proofs.LaidValues.{laid-value}
-use Rattle.snap_parse.proofs.PrintedRuns.{printed-events}
+use Rattle.snap_parse.proofs.Loading.{printed-nodes, dumped-nodes, json-nodes, laid-nodes}
+use Rattle.snap_parse.proofs.NoAliases.{printed-free, json-free, tree-free}
 use Rattle.snap_parse.proofs.PrintedValues.{document-read}
 
 -- fetches lead from a state to one end
@@ -68,43 +67,38 @@ yielded-same p ts _ ys (then_one _ _ r es step more) k =
 one-value : (x y : Value) → ◌≡◌ {A = List Value} (x ∷ []) (y ∷ []) → x ≡ y
 one-value x y same = cc
 
--- a scanner of the text owes tokens that yield the events of one document, which has this value
+-- the text is one document, which has this value, and no alias stands in it
 pub record HasValue (text : List ℕ) (value : Value) : Type 0 where
   pub node : Node
-  pub tokens : List TokenType
-  pub owes : Owes (start_scan (before_nul text)).state tokens
-  pub yields : Yields start_spot tokens (stream_events (node ∷ []))
+  pub nodes : AreNodesOf text (node ∷ [])
   pub value_is : document_value node ≡ value
+  pub no_alias : has_alias (stream_events (node ∷ [])) ≡ false
 
 -- whether texts are written as literal blocks doesn't matter
-pub printed-value : (w : Blocks) (p : Plain) → IsWithin p → HasValue (document_of w p) (read_value p)
-printed-value w p within = record { node = node_of w p; tokens = document_tokens w p; owes = plain-source w p; yields = printed-events w p; value_is = document-read w p within }
+pub printed-value : (w : Blocks) (p : Plain) (text : List ℕ) → IsWithin p → text ≡ document_of w p → HasValue text (read_value p)
+printed-value w p text within is = record { node = node_of w p; nodes = printed-nodes text w p is; value_is = document-read w p within; no_alias = printed-free w p }
 
 -- the same without its last line's end, where no block ends the text
 pub dumped-value : (w : Blocks) (p : Plain) (text : List ℕ) → IsWithin p → ends_in_block w p ≡ false → text ++ 10 ∷ [] ≡ document_of w p → HasValue text (read_value p)
-dumped-value w p text within free is = record {
-  node = node_of w p;
-  tokens = document_tokens w p;
-  owes = dumped-source w p text free is;
-  yields = printed-events w p;
-  value_is = document-read w p within;
-}
+dumped-value w p text within free is = record { node = node_of w p; nodes = dumped-nodes text w p free is; value_is = document-read w p within; no_alias = printed-free w p }
 
-pub laid-one-value : (d : Document) → IsDocument d → HasValue (document_text d) (layout_value d.tree)
-laid-one-value d is = record {
+pub json-value : (p : Plain) (text : List ℕ) → IsWithin p → IsJsonOf p text → HasValue text (read_value p)
+json-value p text within is = record { node = json_node p; nodes = json-nodes text p is; value_is = json-read p within; no_alias = json-free p }
+
+pub laid-one-value : (d : Document) (text : List ℕ) → IsDocument d → text ≡ document_text d → HasValue text (layout_value d.tree)
+laid-one-value d text fits is = record {
   node = tree_node (layout_tree d.tree);
-  tokens = document_with (layout_tokens d.tree);
-  owes = laid-source d is;
-  yields = laid-events d.tree;
+  nodes = laid-nodes text d fits is;
   value_is = laid-value d.tree;
+  no_alias = tree-free (layout_tree d.tree);
 }
 
 pub values-same : (text : List ℕ) (a b : Value) → HasValue text a → HasValue text b → a ≡ b
 values-same text a b one other =
     let x : Node = one.node in
     let y : Node = other.node in
-    let tokens = owed-same (start_scan (before_nul text)).state one.tokens other.tokens one.owes other.owes in
+    let tokens = owed-same (start_scan (before_nul text)).state one.nodes.tokens other.nodes.tokens one.nodes.owes other.nodes.owes in
     let Q : List TokenType → Type 0 = λ v. Yields start_spot v (stream_events (y ∷ [])) in
-    let events = yielded-same start_spot one.tokens (stream_events (x ∷ [])) (stream_events (y ∷ [])) one.yields (subst Q (sym tokens) other.yields) in
+    let events = yielded-same start_spot one.nodes.tokens (stream_events (x ∷ [])) (stream_events (y ∷ [])) one.nodes.yields (subst Q (sym tokens) other.nodes.yields) in
     let f : List Event → List Value = λ es. (steps es start).documents in
     sym one.value_is ∙ one-value (document_value x) (document_value y) (sym (stream-steps (x ∷ [])) ∙ ap f events ∙ stream-steps (y ∷ [])) ∙ other.value_is

@@ -21,8 +21,10 @@ pub use Rattle.snap_scan_tokens.specs.Place.{before_nul}
 pub use Rattle.snap_scan_tokens.specs.declared.token.TokenType.{TokenType}
 pub use Rattle.snap_yaml.specs.Readers.{is_bad}
 pub use Rattle.snap_yaml.specs.Value.{Value, hash, bad_value}
+pub use Rattle.snap_parse.specs.Aliases.{is_alias, has_alias}
 pub use Rattle.snap_parse.specs.Documents.{paired, behind, and_some, node_value, values_in, values_in_pairs, document_value, scalar_value}
-pub use Rattle.snap_parse.specs.Loaded.{AreLoaded, scan_error}
+pub use Rattle.snap_parse.specs.Loaded.{AreLoaded, AreLoadedOf, AreValuesOf, scan_error}
 pub use Rattle.snap_parse.specs.PrintedEvents.{child_tree, child_node, node_of, tree_of, trees_of, entries_of, nodes_of, pairs_of}
 pub use Rattle.snap_parse.specs.PrintedValues.{read_value, read_values, read_pairs, read_number}
 pub use Rattle.snap_parse.specs.Steps.{Held, in_list, in_dict, LoadState, start, put_in, put, closed, step, steps}
+pub use Rattle.snap_parse.specs.TextNodes.{AreNodesOf}

@@ -1,3 +1,4 @@
+pub mod Aliases
 pub mod Documents
 pub mod Steps
 pub mod Loader
@@ -7,3 +8,4 @@ pub mod PrintedValues
 pub mod TreeNodes
 pub mod LaidEvents
 pub mod LaidValues
+pub mod TextNodes

@@ -10,6 +10,7 @@ mod loader;
 mod scalar;
 
 pub use load::YamlLoader;
+pub use loader::Documents;
 pub use snap_event::{Event, EventReceiver, MarkedEventReceiver, Tag};
 pub use snap_parse_events::{LoadError, ParseResult, Parser};
 pub use snap_scan_tokens::{Marker, ScanError, ScanInfo, TScalarStyle};

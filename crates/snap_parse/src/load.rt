@@ -1,11 +1,12 @@
 //! All documents of a text.
-ghost use Rattle.std.specs.Prelude.{◌≡◌, ◌≢◌, IfOk, IfErr, map, [], ◌∷◌, ◌++◌, false};
+ghost use Rattle.std.specs.Prelude.{◌≡◌, ◌≢◌, List, IfOk, IfErr, map, [], ◌∷◌, ◌++◌, false};
 ghost use Rattle.std.specs.Str.{chars};
 ghost use Rattle.snap_content.specs.Plain.{Plain};
 ghost use Rattle.snap_print.specs.Blocks.{Blocks};
 ghost use Rattle.snap_print.specs.Lines.{document_of};
 ghost use Rattle.snap_scan_tokens.specs.Place.{before_nul};
 ghost use Rattle.snap_scan.specs.Sound.{IsFounded};
+ghost use Rattle.snap_event.specs.Nodes.{Node};
 ghost use Rattle.snap_parse_laws.specs.Endings.{ends_in_block};
 ghost use Rattle.snap_parse_laws.specs.Layouts.{Document};
 ghost use Rattle.snap_parse_laws.specs.LayoutTexts.{document_text};
@@ -15,10 +16,11 @@ ghost use Rattle.snap_parse_laws_json.specs.Nodes.{json_node};
 ghost use Rattle.snap_yaml.specs.View.{value_of, array_list};
 ghost use Rattle.snap_parse.specs.Documents.{document_value};
 ghost use Rattle.snap_parse.specs.LaidValues.{layout_value};
-ghost use Rattle.snap_parse.specs.Loaded.{AreLoaded, scan_error};
+ghost use Rattle.snap_parse.specs.Loaded.{AreLoaded, AreLoadedOf, AreValuesOf, scan_error};
 ghost use Rattle.snap_parse.specs.PrintedEvents.{node_of};
+ghost use Rattle.snap_parse.specs.TextNodes.{AreNodesOf};
 
-use crate::loader::Loader;
+use crate::loader::{Documents, Loader};
 use snap_parse_events::{LoadError, Parser};
 use snap_scan_tokens::ScanError;
 use snap_yaml::Array;
@@ -29,6 +31,26 @@ use std::alloc::Global;
 pub struct YamlLoader;
 
 impl YamlLoader {
+    /// The documents of a text, one value for each, and whether an alias stands in them, or why it is no YAML: the parser's
+    /// own error.
+    pub fn load_documents(alloc: Global, source: &str) -> Result<Documents, ScanError>
+        ensures documents { IfOk result (λ made.
+            AreLoadedOf (map value_of (array_list made.values)) made.has_alias) }
+        ensures nodes { (nodes : List Node) → AreNodesOf (chars source.now) nodes
+            → IfOk result (λ made.
+            AreValuesOf nodes (map value_of (array_list made.values)) made.has_alias) }
+        ensures memory { (nodes : List Node) → AreNodesOf (chars source.now) nodes
+            → IfErr result (λ e. e ≡ ScanError.OutOfMemory) }
+        ensures cause { IfErr result (λ e. IsFounded (before_nul (chars source.now)) e) }
+    {
+        let mut parser = Parser::new(alloc, source);
+        let mut loader = Loader::new(alloc);
+        match parser.load(&mut loader, true) {
+            Ok(()) => loader.into_documents(),
+            Err(error) => Err(refusal(&error)),
+        }
+    }
+
     /// The documents of a text, one value for each, or why it is no YAML: the parser's own error.
     pub fn load_from_str(alloc: Global, source: &str) -> Result<Array, ScanError>
         ensures documents { IfOk result (λ made. AreLoaded (map value_of (array_list made))) }
@@ -56,13 +78,22 @@ impl YamlLoader {
             → IfErr result (λ e. e ≡ ScanError.OutOfMemory) }
         ensures cause { IfErr result (λ e. IsFounded (before_nul (chars source.now)) e) }
     {
-        let mut parser = Parser::new(alloc, source);
-        let mut loader = Loader::new(alloc);
-        match parser.load(&mut loader, true) {
-            Ok(()) => loader.into_documents(),
-            Err(error) => Err(refusal(&error)),
+        match YamlLoader::load_documents(alloc, source) {
+            Ok(documents) => Ok(into_values(documents)),
+            Err(error) => Err(error),
         }
     }
+}
+
+/// The values alone.
+fn into_values(documents: Documents) -> Array
+    ensures { result ≡ documents.values }
+{
+    let Documents {
+        values,
+        has_alias: _,
+    } = documents;
+    values
 }
 
 /// Why a text has no documents, where no document was open before.

@@ -1,5 +1,5 @@
 //! The receiver that makes documents of events.
-ghost use Rattle.std.specs.Prelude.{◌≡◌, [], OnOk, IfOk, IfErr, true, false};
+ghost use Rattle.std.specs.Prelude.{◌≡◌, ◌||◌, [], OnOk, IfOk, IfErr, true, false};
 ghost use Rattle.snap_yaml.specs.View.{value_of};
 ghost use Rattle.snap_parse.specs.Loader.{held_of};
 ghost use Rattle.snap_parse.specs.Steps.{put_in};
@@ -11,6 +11,15 @@ use snap_scan_tokens::{Marker, ScanError};
 use snap_yaml::{Array, Hash, Yaml};
 use std::alloc::Global;
 use std::collections::VecDeque;
+
+/// The documents of a text.
+#[derive(Drop)]
+pub struct Documents {
+    /// A value for each document.
+    pub values: Array,
+    /// Whether an alias stands in one of them. An alias has no value: its place is left out.
+    pub has_alias: bool,
+}
 
 /// A list or a mapping that is open.
 #[derive(Drop)]
@@ -57,12 +66,15 @@ pub(crate) struct Loader {
     node: Option<Yaml>,
     /// What is open, the innermost first.
     open: VecDeque<Frame>,
-    /// An event was lost for want of memory.
+    /// An alias came.
+    has_alias: bool,
+    /// An event was lost when memory ran out.
     is_broken: bool,
 }
 
 impl Loader {
     ghost use Rattle.snap_parse.specs.Steps.{put, close, end_document, step};
+    ghost use Rattle.snap_parse.specs.Aliases.{is_alias};
     ghost use Rattle.snap_parse.specs.Loader.{state_of, HasLoaded, HoldsDocuments};
 
     pub(crate) fn new(alloc: Global) -> Loader
@@ -73,24 +85,29 @@ impl Loader {
             documents: Array::new(alloc),
             node: None,
             open: VecDeque::new(alloc),
+            has_alias: false,
             is_broken: false,
         }
     }
 
     /// The documents, unless an event was lost.
-    pub(crate) fn into_documents(self) -> Result<Array, ScanError>
+    pub(crate) fn into_documents(self) -> Result<Documents, ScanError>
         ensures ok { IfOk result (λ made. HoldsDocuments self made) }
         ensures err { IfErr result (λ e. e ≡ ScanError.OutOfMemory) }
     {
         if self.is_broken {
             return Err(ScanError::OutOfMemory);
         }
-        Ok(self.documents)
+        Ok(Documents {
+            values: self.documents,
+            has_alias: self.has_alias,
+        })
     }
 
     /// Puts a value where it belongs.
     fn put(&mut self, made: Yaml) -> Result<(), OutOfMemory>
-        ensures { OnOk result (state_of self.new ≡ put (value_of made) (state_of self.old)) }
+        ensures made { OnOk result (state_of self.new ≡ put (value_of made) (state_of self.old)) }
+        ensures alias { self.new.has_alias ≡ self.old.has_alias }
     {
         match self.open.front_mut() {
             None => self.node = Some(made),
@@ -101,7 +118,8 @@ impl Loader {
 
     /// Ends what is open.
     fn close(&mut self) -> Result<(), OutOfMemory>
-        ensures { OnOk result (state_of self.new ≡ close (state_of self.old)) }
+        ensures made { OnOk result (state_of self.new ≡ close (state_of self.old)) }
+        ensures alias { self.new.has_alias ≡ self.old.has_alias }
     {
         match self.open.pop_front() {
             None => Ok(()),
@@ -112,7 +130,8 @@ impl Loader {
 
     /// Ends a document.
     fn end_document(&mut self) -> Result<(), OutOfMemory>
-        ensures { OnOk result (state_of self.new ≡ end_document (state_of self.old)) }
+        ensures made { OnOk result (state_of self.new ≡ end_document (state_of self.old)) }
+        ensures alias { self.new.has_alias ≡ self.old.has_alias }
     {
         let node = match self.node.take() {
             None => Yaml::BadValue,
@@ -123,10 +142,14 @@ impl Loader {
 
     /// What an event changes.
     fn take(&mut self, event: Event<'_>) -> Result<(), OutOfMemory>
-        ensures { OnOk result (state_of self.new ≡ step event.entry (state_of self.old)) }
+        ensures made { OnOk result (state_of self.new ≡ step event.entry (state_of self.old)) }
+        ensures alias { OnOk result (self.new.has_alias
+            ≡ (is_alias event.entry || self.old.has_alias)) }
     {
         match event {
-            Event::StreamStart | Event::StreamEnd | Event::DocumentStart | Event::Alias(_) => {
+            Event::StreamStart | Event::StreamEnd | Event::DocumentStart => Ok(()),
+            Event::Alias(_) => {
+                self.has_alias = true;
                 Ok(())
             }
             Event::DocumentEnd => self.end_document(),

@@ -1,6 +1,6 @@
-use Rattle.snap_emit.proofs.Prelude.{rules, List, length, sym, ap, subst, arith, into_iter_items, into_iter_len, Content}
+use Rattle.snap_emit.proofs.Prelude.{rules, List, length, sym, ap, subst, arith, into_iter_items, into_iter_len, Content, tree, value_of, plain_read}
 use Rattle.snap_emit.proofs.Sizes.{array-smaller, hash-smaller, all-left, item-smaller, fewer-left, all-pairs-left, key-smaller, value-smaller, fewer-pairs-left}
-use Rattle.snap_emit.proofs.PlainRead.{AreMade, ArePairsMade, hash-none, hash-some, hash-found, none-made, one-made, never-made, all-made, none-found, one-found, all-found, no-pairs-made, one-pair-made, key-never-made, value-never-made, all-pairs-made, none-found-in, one-found-in, all-found-in, nothing-left}
+use Rattle.snap_emit.proofs.PlainRead.{AreMade, ArePairsMade, hash-none, hash-some, hash-found, none-made, one-made, never-made, all-made, none-found, one-found, last-found, all-found, is-read, is-unread, no-pairs-made, one-pair-made, key-never-made, value-never-made, all-pairs-made, none-found-in, one-found-in, last-key-found, last-value-found, all-found-in, nothing-left}
 use Rattle.snap_emit.proofs.from_value.+from_value.Goals as goal
 
 pub tree_of-returns-in-None-2-clause-made : goal.tree_of-returns-in-None-2-clause-made
@@ -15,7 +15,12 @@ tree_of-returns-in-Some-2-clause-made t c =
 pub tree_of-returns-in-Some-2-clause-number : goal.tree_of-returns-in-Some-2-clause-number
 tree_of-returns-in-Some-2-clause-number t c =
     hash-found c.args.value c.in-Hash.pairs c.into_vec-in-Hash.result.items c.pairs_of.new.found c.args.found.now c.in-Hash.is c.into_vec-in-Hash.ensures
-    (rw c.in-Some-2.is at c.in_ok-pairs_of-in-Hash.ensures.number)
+    c.in_ok-pairs_of-in-Hash.ensures.number
+
+pub tree_of-returns-in-None-2-clause-number : goal.tree_of-returns-in-None-2-clause-number
+tree_of-returns-in-None-2-clause-number t c =
+    hash-found c.args.value c.in-Hash.pairs c.into_vec-in-Hash.result.items c.pairs_of.new.found c.args.found.now c.in-Hash.is c.into_vec-in-Hash.ensures
+    c.in_ok-pairs_of-in-Hash.ensures.number
 
 pub trees_of-loop-item-preserved : goal.trees_of-loop-item-preserved
 trees_of-loop-item-preserved t c =
@@ -31,7 +36,7 @@ trees_of-loop-item-preserved t c =
           (one-made c.loop-item.made.items left more c.args.items.items c.in-Some.item c.in-Some-2.item c.loop-item.invariant.made c.in-Some.ensures.steps.0 (rw c.in-Some-2.is at c.in_ok-tree_of.ensures.made));
       left = fewer-left left more c.args.items.items c.in-Some.item c.loop-item.invariant.left c.in-Some.ensures.steps.0;
       number = one-found c.loop-item.found c.tree_of.new.found c.args.found.now left more c.args.items.items c.in-Some.item c.loop-item.invariant.number c.in-Some.ensures.steps.0
-          (rw c.in-Some-2.is at c.in_ok-tree_of.ensures.number);
+          (is-read (plain_read (value_of c.in-Some.item)) (tree c.in-Some-2.item) (rw c.in-Some-2.is at c.in_ok-tree_of.ensures.made)) c.in_ok-tree_of.ensures.number;
     }
 
 pub trees_of-loop-item-init : goal.trees_of-loop-item-init
@@ -52,6 +57,12 @@ pub trees_of-returns-in-None-2-clause-made : goal.trees_of-returns-in-None-2-cla
 trees_of-returns-in-None-2-clause-made t c =
     never-made c.loop-item.made.items (into_iter_items c.loop-item.item-iterator) (into_iter_items c.next.new.self) c.args.items.items c.in-Some.item
     c.loop-item.invariant.made c.in-Some.ensures.steps.0 (rw c.in-None-2.is at c.in_ok-tree_of.ensures.made)
+
+pub trees_of-returns-in-None-2-clause-number : goal.trees_of-returns-in-None-2-clause-number
+trees_of-returns-in-None-2-clause-number t c =
+    last-found c.loop-item.found c.tree_of.new.found c.args.found.now (into_iter_items c.loop-item.item-iterator) (into_iter_items c.next.new.self) c.args.items.items c.in-Some.item
+    c.loop-item.invariant.number c.in-Some.ensures.steps.0 (is-unread (plain_read (value_of c.in-Some.item)) (rw c.in-None-2.is at c.in_ok-tree_of.ensures.made))
+    c.in_ok-tree_of.ensures.number
 
 pub trees_of-returns-clause-made : goal.trees_of-returns-clause-made
 trees_of-returns-clause-made t c =
@@ -92,7 +103,9 @@ pairs_of-loop-key-preserved t c =
           (rw c.in-Some-2.is at c.in_ok-key.ensures.made) (rw c.in-Some-3.is at c.in_ok-value.ensures.made));
       left = fewer-pairs-left left more c.args.pairs.items (c.in-Some.key, c.in-Some.value) c.loop-key.invariant.left c.in-Some.ensures.steps.0;
       number = one-found-in c.loop-key.found c.tree_of.new.found c.tree_of-in-loop-key.new.found c.args.found.now left more c.args.pairs.items (c.in-Some.key, c.in-Some.value) c.loop-key.invariant.number
-          c.in-Some.ensures.steps.0 (rw c.in-Some-2.is at c.in_ok-key.ensures.number) (rw c.in-Some-3.is at c.in_ok-value.ensures.number);
+          c.in-Some.ensures.steps.0 (is-read (plain_read (value_of c.in-Some.key)) (tree c.in-Some-2.key) (rw c.in-Some-2.is at c.in_ok-key.ensures.made))
+          (is-read (plain_read (value_of c.in-Some.value)) (tree c.in-Some-3.value) (rw c.in-Some-3.is at c.in_ok-value.ensures.made))
+          c.in_ok-key.ensures.number c.in_ok-value.ensures.number;
     }
 
 pub pairs_of-returns-in_default-clause-made : goal.pairs_of-returns-in_default-clause-made
@@ -104,6 +117,19 @@ pub pairs_of-returns-in_default-2-clause-made : goal.pairs_of-returns-in_default
 pairs_of-returns-in_default-2-clause-made t c =
     value-never-made c.loop-key.made.items (into_iter_items c.loop-key.key-iterator) (into_iter_items c.next.new.self) c.args.pairs.items (c.in-Some.key, c.in-Some.value)
     c.loop-key.invariant.made c.in-Some.ensures.steps.0 (rw c.in_default-2.is at c.in_ok-value.ensures.made)
+
+pub pairs_of-returns-in_default-clause-number : goal.pairs_of-returns-in_default-clause-number
+pairs_of-returns-in_default-clause-number t c =
+    last-key-found c.loop-key.found c.tree_of.new.found c.args.found.now (into_iter_items c.loop-key.key-iterator) (into_iter_items c.next.new.self) c.args.pairs.items
+    (c.in-Some.key, c.in-Some.value) c.loop-key.invariant.number c.in-Some.ensures.steps.0
+    (is-unread (plain_read (value_of c.in-Some.key)) (rw c.in_default.is at c.in_ok-key.ensures.made)) c.in_ok-key.ensures.number
+
+pub pairs_of-returns-in_default-2-clause-number : goal.pairs_of-returns-in_default-2-clause-number
+pairs_of-returns-in_default-2-clause-number t c =
+    last-value-found c.loop-key.found c.tree_of.new.found c.tree_of-in-loop-key.new.found c.args.found.now (into_iter_items c.loop-key.key-iterator) (into_iter_items c.next.new.self)
+    c.args.pairs.items (c.in-Some.key, c.in-Some.value) c.loop-key.invariant.number c.in-Some.ensures.steps.0
+    (is-read (plain_read (value_of c.in-Some.key)) (tree c.in-Some-2.key) (rw c.in-Some-2.is at c.in_ok-key.ensures.made))
+    (is-unread (plain_read (value_of c.in-Some.value)) (rw c.in_default-2.is at c.in_ok-value.ensures.made)) c.in_ok-key.ensures.number c.in_ok-value.ensures.number
 
 pub pairs_of-returns-clause-made : goal.pairs_of-returns-clause-made
 pairs_of-returns-clause-made t c =

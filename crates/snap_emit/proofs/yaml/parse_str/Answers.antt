@@ -1,12 +1,38 @@
-use Rattle.snap_emit.proofs.Prelude.{◌≡◌, Some, chars}
+use Rattle.snap_emit.proofs.Prelude.{chars}
 use Rattle.snap_emit.proofs.Parsing.{read-from}
+use Rattle.snap_emit.proofs.ReadTexts.{refusal-end, refusal-in, tree-within}
 use Rattle.snap_emit.proofs.yaml.parse_str.Goals as goal
 
-pub returns-in-Some-clause-end : goal.returns-in-Some-clause-end
-returns-in-Some-clause-end c =
-    let is : c.in_ok-content.field-0.content ≡ Some c.in-Some.content = cc in
-    read-from c.in-Some.content (chars c.args.text.now) (rw is at c.in_ok-content.ensures.plain) (λ t within text. rw is at (c.in_ok-content.ensures.read t within text))
+pub returns-in-Ok-clause-end : goal.returns-in-Ok-clause-end
+returns-in-Ok-clause-end c =
+    let s = rw c.in-Ok.is at c.in_ok-content.ensures.stream in
+    read-from c.in-Ok.content (chars c.args.text.now) (record { plain = s.holds.plain; tree_is = s.holds.tree_is })
+    (λ t within is. rw c.in-Ok.is at (c.in_ok-content.ensures.read t within is))
 
-pub returns-then-has_number_text-clause-end : goal.returns-then-has_number_text-clause-end
-returns-then-has_number_text-clause-end c =
-    c.in_ok-number_refusal.ensures (λ t within is. let whole = c.in_ok-content.ensures.whole t within is in let kept = c.if-has_number_text.true in absurd (cc))
+pub returns-in-Ok-clause-read : goal.returns-in-Ok-clause-read
+returns-in-Ok-clause-read c = λ t within is. rw c.in-Ok.is at (c.in_ok-content.ensures.read t within is)
+
+pub returns-in-Ok-clause-json : goal.returns-in-Ok-clause-json
+returns-in-Ok-clause-json c = λ t within is. rw c.in-Ok.is at (c.in_ok-content.ensures.json t within is)
+
+pub returns-in-Ok-clause-nodes : goal.returns-in-Ok-clause-nodes
+returns-in-Ok-clause-nodes c = λ nodes is. rw c.in-Ok.is at (c.in_ok-content.ensures.nodes nodes is)
+
+pub returns-in-Ok-clause-stream : goal.returns-in-Ok-clause-stream
+returns-in-Ok-clause-stream c = rw c.in-Ok.is at c.in_ok-content.ensures.stream
+
+pub returns-in-Ok-clause-within : goal.returns-in-Ok-clause-within
+returns-in-Ok-clause-within c = tree-within c.in-Ok.content (rw c.in-Ok.is at c.in_ok-content.ensures.stream)
+
+pub returns-in_ok-refused-in-Err-clause-end : goal.returns-in_ok-refused-in-Err-clause-end
+returns-in_ok-refused-in-Err-clause-end c =
+    refusal-end (chars c.args.text.now) c.args.path.now c.in-Err.refusal c.in_ok-refused-in-Err.field-0 c.in_ok-refused-in-Err.ensures
+    (λ t within is. rw c.in-Err.is at (c.in_ok-content.ensures.read t within is))
+
+pub returns-in_ok-refused-in-Err-clause-json_memory : goal.returns-in_ok-refused-in-Err-clause-json_memory
+returns-in_ok-refused-in-Err-clause-json_memory c = λ t within is. absurd (rw c.in-Err.is at (c.in_ok-content.ensures.json t within is))
+
+pub returns-in_ok-refused-in-Err-clause-nodes : goal.returns-in_ok-refused-in-Err-clause-nodes
+returns-in_ok-refused-in-Err-clause-nodes c =
+    λ nodes is.
+    refusal-in nodes (chars c.args.text.now) c.args.path.now c.in-Err.refusal c.in_ok-refused-in-Err.field-0 (rw c.in-Err.is at (c.in_ok-content.ensures.nodes nodes is)) c.in_ok-refused-in-Err.ensures

@@ -123,7 +123,7 @@ emit_pairs-returns-in_err-emit_child-clause-err t c =
     c.loop-key.out c.emit_child.new.out c.loop-key.invariant c.loop-key-test.true c.loop-key-item.is
     (begun_first c.loop-key.out c.emit_child.new.out (pair_of k (before_more w) c.loop-key-item.result) (break_at k)
     (pair_value k c.in_ok-inner.inner u u (before_more w) c.loop-key-item.result c.is_one_line.result c.loop-key.out c.emit_key.new.out c.emit_child.new.out (c.before_more-inside.ensures ∙ sym (twice w))
-    c.before_more-inside.ensures c.is_one_line.ensures c.in_ok-inner.ensures c.in_ok-emit_key.ensures.ok c.in_err-emit_child.ensures.err))) in
+    c.before_more-inside.ensures c.is_one_line.ensures c.in_ok-inner.ensures.ok c.in_ok-emit_key.ensures.ok c.in_err-emit_child.ensures.err))) in
     on_err c.from_residual-in_err-emit_child.result _ h
 
 pub emit_pairs-returns-in_err-break_line-clause-err : goal.emit_pairs-returns-in_err-break_line-clause-err
@@ -138,7 +138,7 @@ emit_pairs-returns-in_err-break_line-clause-err t c =
     c.loop-key.out c.break_line.new.out c.loop-key.invariant c.loop-key-test.true c.loop-key-item.is
     (begun_then c.loop-key.out c.emit_child.new.out c.break_line.new.out (pair_of k (before_more w) c.loop-key-item.result) (break_at k)
     (pair_added k c.in_ok-inner.inner u u (before_more w) c.loop-key-item.result c.is_one_line.result c.loop-key.out c.emit_key.new.out c.emit_child.new.out (c.before_more-inside.ensures ∙ sym (twice w))
-    c.before_more-inside.ensures c.is_one_line.ensures c.in_ok-inner.ensures c.in_ok-emit_key.ensures.ok c.in_ok-emit_child.ensures.ok)
+    c.before_more-inside.ensures c.is_one_line.ensures c.in_ok-inner.ensures.ok c.in_ok-emit_key.ensures.ok c.in_ok-emit_child.ensures.ok)
     c.in_err-break_line.ensures.err)) in
     on_err c.from_residual-in_err-break_line.result _ h
 
@@ -150,7 +150,7 @@ emit_pairs-loop-key-preserved t c =
     lines_more k (pair_of k (before_more w)) c.in-Some.front.now c.loop-key.key-index c.loop-key-item.result c.args.out.now c.loop-key.out c.emit_child.new.out c.break_line.new.out
     c.loop-key.invariant
     (pair_added k c.in_ok-inner.inner u u (before_more w) c.loop-key-item.result c.is_one_line.result c.loop-key.out c.emit_key.new.out c.emit_child.new.out (c.before_more-inside.ensures ∙ sym (twice w))
-    c.before_more-inside.ensures c.is_one_line.ensures c.in_ok-inner.ensures c.in_ok-emit_key.ensures.ok c.in_ok-emit_child.ensures.ok)
+    c.before_more-inside.ensures c.is_one_line.ensures c.in_ok-inner.ensures.ok c.in_ok-emit_key.ensures.ok c.in_ok-emit_child.ensures.ok)
     c.in_ok-break_line.ensures.ok c.loop-key-test.true c.loop-key-item.is
 
 pub emit_pairs-returns-in_err-emit_key-2-clause-err : goal.emit_pairs-returns-in_err-emit_key-2-clause-err
@@ -180,7 +180,7 @@ emit_pairs-returns-clause-ok t c =
     (λ h. added_last k (pair_of k (before_more w)) (pair_of k w) c.in-Some.front.now c.in-Some.field-0-0.now c.args.out.now c.loop-key.out c.emit_child-2.new.out
     (c.loop-key.invariant ∙ ap (λ xs. c.args.out.now ++ flat_map f xs) all)
     (pair_added k c.in_ok-inner.inner u w w c.in-Some.field-0-0.now c.is_one_line-2.result c.loop-key.out c.emit_key-2.new.out c.emit_child-2.new.out c.before_more-inside.ensures
-    refl c.is_one_line-2.ensures c.in_ok-inner.ensures c.in_ok-emit_key-2.ensures.ok h)
+    refl c.is_one_line-2.ensures c.in_ok-inner.ensures.ok c.in_ok-emit_key-2.ensures.ok h)
     ∙ ap (λ x. c.args.out.now ++ x) (dict_lines k w c.args.pairs.now c.in-Some.front.now c.in-Some.field-0-0.now c.in-Some.ensures.cases.0))
     c.emit_child-2.ensures.ok
 
@@ -197,5 +197,5 @@ emit_pairs-returns-clause-err t c =
     (begun_last k (pair_of k (before_more w)) (pair_of k w) c.in-Some.front.now c.in-Some.field-0-0.now c.args.out.now c.loop-key.out c.emit_child-2.new.out
     (c.loop-key.invariant ∙ ap (λ xs. c.args.out.now ++ flat_map f xs) all)
     (pair_value k c.in_ok-inner.inner u w w c.in-Some.field-0-0.now c.is_one_line-2.result c.loop-key.out c.emit_key-2.new.out c.emit_child-2.new.out c.before_more-inside.ensures
-    refl c.is_one_line-2.ensures c.in_ok-inner.ensures c.in_ok-emit_key-2.ensures.ok h)))
+    refl c.is_one_line-2.ensures c.in_ok-inner.ensures.ok c.in_ok-emit_key-2.ensures.ok h)))
     c.emit_child-2.ensures.err

@@ -12,19 +12,19 @@ write_items-returns-in_err-inner t c =
 pub write_items-returns-in_err-write_opening : goal.write_items-returns-in_err-write_opening
 write_items-returns-in_err-write_opening t c =
     on_exit c.from_residual-in_err-write_opening.result c.from_residual-in_err-write_opening.ensures.1
-    (stopped_at (item_list_at c.args.format c.args.column c.args.items.now) c.in_ok-inner.inner (c.args.column + 2) c.in_ok-inner.ensures
+    (stopped_at (item_list_at c.args.format c.args.column c.args.items.now) c.in_ok-inner.inner (c.args.column + 2) c.in_ok-inner.ensures.ok
     (failed_opening c.args.format c.args.column c.in_ok-inner.inner 91 93 (value_written c.args.format c.in_ok-inner.inner) c.args.items.now c.in-Some.rest.now c.in-Some.first.now c.in-Some.ensures.cases.0 c.in_err-write_opening.ensures))
 
 pub write_items-returns-in_err-write_value : goal.write_items-returns-in_err-write_value
 write_items-returns-in_err-write_value t c =
     on_exit c.from_residual-in_err-write_value.result c.from_residual-in_err-write_value.ensures.1
-    (stopped_at (item_list_at c.args.format c.args.column c.args.items.now) c.in_ok-inner.inner (c.args.column + 2) c.in_ok-inner.ensures
+    (stopped_at (item_list_at c.args.format c.args.column c.args.items.now) c.in_ok-inner.inner (c.args.column + 2) c.in_ok-inner.ensures.ok
     (failed_first c.args.format c.args.column c.in_ok-inner.inner 91 93 (value_written c.args.format c.in_ok-inner.inner) c.args.items.now c.in-Some.rest.now c.in-Some.first.now c.in-Some.ensures.cases.0 c.in_ok-write_opening.ensures c.in_err-write_value.ensures))
 
 pub write_items-returns-in_err-write_comma : goal.write_items-returns-in_err-write_comma
 write_items-returns-in_err-write_comma t c =
     on_exit c.from_residual-in_err-write_comma.result c.from_residual-in_err-write_comma.ensures.1
-    (stopped_at (item_list_at c.args.format c.args.column c.args.items.now) c.in_ok-inner.inner (c.args.column + 2) c.in_ok-inner.ensures
+    (stopped_at (item_list_at c.args.format c.args.column c.args.items.now) c.in_ok-inner.inner (c.args.column + 2) c.in_ok-inner.ensures.ok
     (failed_further c.args.format c.args.column c.in_ok-inner.inner 91 93 (value_written c.args.format c.in_ok-inner.inner) c.args.items.now c.in-Some.rest.now c.in-Some.first.now c.item-item.result c.loop-item.item-index c.in-Some.ensures.cases.0 c.in_ok-write_opening.ensures c.in_ok-write_value.ensures
     c.loop-item.invariant c.loop-item-test.true c.item-item.is
     (stopped_first (value_written c.args.format c.in_ok-inner.inner c.item-item.result) c.in_err-write_comma.ensures)))
@@ -32,7 +32,7 @@ write_items-returns-in_err-write_comma t c =
 pub write_items-returns-in_err-write_value-2 : goal.write_items-returns-in_err-write_value-2
 write_items-returns-in_err-write_value-2 t c =
     on_exit c.from_residual-in_err-write_value-2.result c.from_residual-in_err-write_value-2.ensures.1
-    (stopped_at (item_list_at c.args.format c.args.column c.args.items.now) c.in_ok-inner.inner (c.args.column + 2) c.in_ok-inner.ensures
+    (stopped_at (item_list_at c.args.format c.args.column c.args.items.now) c.in_ok-inner.inner (c.args.column + 2) c.in_ok-inner.ensures.ok
     (failed_further c.args.format c.args.column c.in_ok-inner.inner 91 93 (value_written c.args.format c.in_ok-inner.inner) c.args.items.now c.in-Some.rest.now c.in-Some.first.now c.item-item.result c.loop-item.item-index c.in-Some.ensures.cases.0 c.in_ok-write_opening.ensures c.in_ok-write_value.ensures
     c.loop-item.invariant c.loop-item-test.true c.item-item.is
     (stopped_behind c.in_ok-write_comma.ensures c.in_err-write_value-2.ensures)))
@@ -49,7 +49,7 @@ write_items-loop-item-preserved t c =
 
 pub write_items-returns : goal.write_items-returns
 write_items-returns t c =
-    wrote_at c.write_closing.result c.args.out.now c.write_closing.new.out (item_list_at c.args.format c.args.column c.args.items.now) c.in_ok-inner.inner (c.args.column + 2) c.in_ok-inner.ensures
+    wrote_at c.write_closing.result c.args.out.now c.write_closing.new.out (item_list_at c.args.format c.args.column c.args.items.now) c.in_ok-inner.inner (c.args.column + 2) c.in_ok-inner.ensures.ok
     (wrote_collection c.write_closing.result c.write_closing.new.out c.args.format c.args.column c.in_ok-inner.inner 91 93 (value_written c.args.format c.in_ok-inner.inner) c.args.items.now c.in-Some.rest.now c.in-Some.first.now c.loop-item.item-index c.in-Some.ensures.cases.0 c.in_ok-write_opening.ensures c.in_ok-write_value.ensures
     c.loop-item.invariant (take_all c.loop-item.item-index c.in-Some.rest.now c.loop-item-test.false) c.write_closing.ensures)
 
@@ -61,26 +61,26 @@ write_pairs-returns-in_err-inner t c =
 pub write_pairs-returns-in_err-write_opening : goal.write_pairs-returns-in_err-write_opening
 write_pairs-returns-in_err-write_opening t c =
     on_exit c.from_residual-in_err-write_opening.result c.from_residual-in_err-write_opening.ensures.1
-    (stopped_at (pair_list_at c.args.format c.args.column c.args.pairs.now) c.in_ok-inner.inner (c.args.column + 2) c.in_ok-inner.ensures
+    (stopped_at (pair_list_at c.args.format c.args.column c.args.pairs.now) c.in_ok-inner.inner (c.args.column + 2) c.in_ok-inner.ensures.ok
     (failed_opening c.args.format c.args.column c.in_ok-inner.inner 123 125 (pair_written c.args.format c.in_ok-inner.inner) c.args.pairs.now c.in-Some.rest.now c.in-Some.field-0-0.now c.in-Some.ensures.cases.0 c.in_err-write_opening.ensures))
 
 pub write_pairs-returns-in_err-write_key : goal.write_pairs-returns-in_err-write_key
 write_pairs-returns-in_err-write_key t c =
     on_exit c.from_residual-in_err-write_key.result c.from_residual-in_err-write_key.ensures.1
-    (stopped_at (pair_list_at c.args.format c.args.column c.args.pairs.now) c.in_ok-inner.inner (c.args.column + 2) c.in_ok-inner.ensures
+    (stopped_at (pair_list_at c.args.format c.args.column c.args.pairs.now) c.in_ok-inner.inner (c.args.column + 2) c.in_ok-inner.ensures.ok
     (failed_first c.args.format c.args.column c.in_ok-inner.inner 123 125 (pair_written c.args.format c.in_ok-inner.inner) c.args.pairs.now c.in-Some.rest.now c.in-Some.field-0-0.now c.in-Some.ensures.cases.0 c.in_ok-write_opening.ensures
     (stopped_first (value_written c.args.format c.in_ok-inner.inner c.in-Some.field-0-0.now.1) c.in_err-write_key.ensures)))
 
 pub write_pairs-returns-in_err-write_value : goal.write_pairs-returns-in_err-write_value
 write_pairs-returns-in_err-write_value t c =
     on_exit c.from_residual-in_err-write_value.result c.from_residual-in_err-write_value.ensures.1
-    (stopped_at (pair_list_at c.args.format c.args.column c.args.pairs.now) c.in_ok-inner.inner (c.args.column + 2) c.in_ok-inner.ensures
+    (stopped_at (pair_list_at c.args.format c.args.column c.args.pairs.now) c.in_ok-inner.inner (c.args.column + 2) c.in_ok-inner.ensures.ok
     (failed_first c.args.format c.args.column c.in_ok-inner.inner 123 125 (pair_written c.args.format c.in_ok-inner.inner) c.args.pairs.now c.in-Some.rest.now c.in-Some.field-0-0.now c.in-Some.ensures.cases.0 c.in_ok-write_opening.ensures (stopped_behind c.in_ok-write_key.ensures c.in_err-write_value.ensures)))
 
 pub write_pairs-returns-in_err-write_comma : goal.write_pairs-returns-in_err-write_comma
 write_pairs-returns-in_err-write_comma t c =
     on_exit c.from_residual-in_err-write_comma.result c.from_residual-in_err-write_comma.ensures.1
-    (stopped_at (pair_list_at c.args.format c.args.column c.args.pairs.now) c.in_ok-inner.inner (c.args.column + 2) c.in_ok-inner.ensures
+    (stopped_at (pair_list_at c.args.format c.args.column c.args.pairs.now) c.in_ok-inner.inner (c.args.column + 2) c.in_ok-inner.ensures.ok
     (failed_further c.args.format c.args.column c.in_ok-inner.inner 123 125 (pair_written c.args.format c.in_ok-inner.inner) c.args.pairs.now c.in-Some.rest.now c.in-Some.field-0-0.now c.loop-key-item.result c.loop-key.key-index c.in-Some.ensures.cases.0 c.in_ok-write_opening.ensures (added_behind c.in_ok-write_key.ensures c.in_ok-write_value.ensures)
     c.loop-key.invariant c.loop-key-test.true c.loop-key-item.is
     (stopped_first (pair_written c.args.format c.in_ok-inner.inner c.loop-key-item.result) c.in_err-write_comma.ensures)))
@@ -88,7 +88,7 @@ write_pairs-returns-in_err-write_comma t c =
 pub write_pairs-returns-in_err-write_key-2 : goal.write_pairs-returns-in_err-write_key-2
 write_pairs-returns-in_err-write_key-2 t c =
     on_exit c.from_residual-in_err-write_key-2.result c.from_residual-in_err-write_key-2.ensures.1
-    (stopped_at (pair_list_at c.args.format c.args.column c.args.pairs.now) c.in_ok-inner.inner (c.args.column + 2) c.in_ok-inner.ensures
+    (stopped_at (pair_list_at c.args.format c.args.column c.args.pairs.now) c.in_ok-inner.inner (c.args.column + 2) c.in_ok-inner.ensures.ok
     (failed_further c.args.format c.args.column c.in_ok-inner.inner 123 125 (pair_written c.args.format c.in_ok-inner.inner) c.args.pairs.now c.in-Some.rest.now c.in-Some.field-0-0.now c.loop-key-item.result c.loop-key.key-index c.in-Some.ensures.cases.0 c.in_ok-write_opening.ensures (added_behind c.in_ok-write_key.ensures c.in_ok-write_value.ensures)
     c.loop-key.invariant c.loop-key-test.true c.loop-key-item.is
     (stopped_behind c.in_ok-write_comma.ensures
@@ -97,7 +97,7 @@ write_pairs-returns-in_err-write_key-2 t c =
 pub write_pairs-returns-in_err-write_value-2 : goal.write_pairs-returns-in_err-write_value-2
 write_pairs-returns-in_err-write_value-2 t c =
     on_exit c.from_residual-in_err-write_value-2.result c.from_residual-in_err-write_value-2.ensures.1
-    (stopped_at (pair_list_at c.args.format c.args.column c.args.pairs.now) c.in_ok-inner.inner (c.args.column + 2) c.in_ok-inner.ensures
+    (stopped_at (pair_list_at c.args.format c.args.column c.args.pairs.now) c.in_ok-inner.inner (c.args.column + 2) c.in_ok-inner.ensures.ok
     (failed_further c.args.format c.args.column c.in_ok-inner.inner 123 125 (pair_written c.args.format c.in_ok-inner.inner) c.args.pairs.now c.in-Some.rest.now c.in-Some.field-0-0.now c.loop-key-item.result c.loop-key.key-index c.in-Some.ensures.cases.0 c.in_ok-write_opening.ensures (added_behind c.in_ok-write_key.ensures c.in_ok-write_value.ensures)
     c.loop-key.invariant c.loop-key-test.true c.loop-key-item.is
     (stopped_behind c.in_ok-write_comma.ensures (stopped_behind c.in_ok-write_key-2.ensures c.in_err-write_value-2.ensures))))
@@ -114,7 +114,7 @@ write_pairs-loop-key-preserved t c =
 
 pub write_pairs-returns : goal.write_pairs-returns
 write_pairs-returns t c =
-    wrote_at c.write_closing.result c.args.out.now c.write_closing.new.out (pair_list_at c.args.format c.args.column c.args.pairs.now) c.in_ok-inner.inner (c.args.column + 2) c.in_ok-inner.ensures
+    wrote_at c.write_closing.result c.args.out.now c.write_closing.new.out (pair_list_at c.args.format c.args.column c.args.pairs.now) c.in_ok-inner.inner (c.args.column + 2) c.in_ok-inner.ensures.ok
     (wrote_collection c.write_closing.result c.write_closing.new.out c.args.format c.args.column c.in_ok-inner.inner 123 125 (pair_written c.args.format c.in_ok-inner.inner) c.args.pairs.now c.in-Some.rest.now c.in-Some.field-0-0.now c.loop-key.key-index c.in-Some.ensures.cases.0 c.in_ok-write_opening.ensures (added_behind c.in_ok-write_key.ensures c.in_ok-write_value.ensures)
     c.loop-key.invariant (take_all c.loop-key.key-index c.in-Some.rest.now c.loop-key-test.false) c.write_closing.ensures)
 
@@ -126,26 +126,26 @@ write_fields-returns-in_err-inner t c =
 pub write_fields-returns-in_err-write_opening : goal.write_fields-returns-in_err-write_opening
 write_fields-returns-in_err-write_opening t c =
     on_exit c.from_residual-in_err-write_opening.result c.from_residual-in_err-write_opening.ensures.1
-    (stopped_at (field_list_at c.args.format c.args.column c.args.fields.now) c.in_ok-inner.inner (c.args.column + 2) c.in_ok-inner.ensures
+    (stopped_at (field_list_at c.args.format c.args.column c.args.fields.now) c.in_ok-inner.inner (c.args.column + 2) c.in_ok-inner.ensures.ok
     (failed_opening c.args.format c.args.column c.in_ok-inner.inner 123 125 (field_written c.args.format c.in_ok-inner.inner) c.args.fields.now c.in-Some.rest.now c.in-Some.field-0-0.now c.in-Some.ensures.cases.0 c.in_err-write_opening.ensures))
 
 pub write_fields-returns-in_err-write_name : goal.write_fields-returns-in_err-write_name
 write_fields-returns-in_err-write_name t c =
     on_exit c.from_residual-in_err-write_name.result c.from_residual-in_err-write_name.ensures.1
-    (stopped_at (field_list_at c.args.format c.args.column c.args.fields.now) c.in_ok-inner.inner (c.args.column + 2) c.in_ok-inner.ensures
+    (stopped_at (field_list_at c.args.format c.args.column c.args.fields.now) c.in_ok-inner.inner (c.args.column + 2) c.in_ok-inner.ensures.ok
     (failed_first c.args.format c.args.column c.in_ok-inner.inner 123 125 (field_written c.args.format c.in_ok-inner.inner) c.args.fields.now c.in-Some.rest.now c.in-Some.field-0-0.now c.in-Some.ensures.cases.0 c.in_ok-write_opening.ensures
     (stopped_first (value_written c.args.format c.in_ok-inner.inner c.in-Some.field-0-0.now.1) c.in_err-write_name.ensures)))
 
 pub write_fields-returns-in_err-write_value : goal.write_fields-returns-in_err-write_value
 write_fields-returns-in_err-write_value t c =
     on_exit c.from_residual-in_err-write_value.result c.from_residual-in_err-write_value.ensures.1
-    (stopped_at (field_list_at c.args.format c.args.column c.args.fields.now) c.in_ok-inner.inner (c.args.column + 2) c.in_ok-inner.ensures
+    (stopped_at (field_list_at c.args.format c.args.column c.args.fields.now) c.in_ok-inner.inner (c.args.column + 2) c.in_ok-inner.ensures.ok
     (failed_first c.args.format c.args.column c.in_ok-inner.inner 123 125 (field_written c.args.format c.in_ok-inner.inner) c.args.fields.now c.in-Some.rest.now c.in-Some.field-0-0.now c.in-Some.ensures.cases.0 c.in_ok-write_opening.ensures (stopped_behind c.in_ok-write_name.ensures c.in_err-write_value.ensures)))
 
 pub write_fields-returns-in_err-write_comma : goal.write_fields-returns-in_err-write_comma
 write_fields-returns-in_err-write_comma t c =
     on_exit c.from_residual-in_err-write_comma.result c.from_residual-in_err-write_comma.ensures.1
-    (stopped_at (field_list_at c.args.format c.args.column c.args.fields.now) c.in_ok-inner.inner (c.args.column + 2) c.in_ok-inner.ensures
+    (stopped_at (field_list_at c.args.format c.args.column c.args.fields.now) c.in_ok-inner.inner (c.args.column + 2) c.in_ok-inner.ensures.ok
     (failed_further c.args.format c.args.column c.in_ok-inner.inner 123 125 (field_written c.args.format c.in_ok-inner.inner) c.args.fields.now c.in-Some.rest.now c.in-Some.field-0-0.now c.loop-name-item.result c.loop-name.name-index c.in-Some.ensures.cases.0 c.in_ok-write_opening.ensures (added_behind c.in_ok-write_name.ensures c.in_ok-write_value.ensures)
     c.loop-name.invariant c.loop-name-test.true c.loop-name-item.is
     (stopped_first (field_written c.args.format c.in_ok-inner.inner c.loop-name-item.result) c.in_err-write_comma.ensures)))
@@ -153,7 +153,7 @@ write_fields-returns-in_err-write_comma t c =
 pub write_fields-returns-in_err-write_name-2 : goal.write_fields-returns-in_err-write_name-2
 write_fields-returns-in_err-write_name-2 t c =
     on_exit c.from_residual-in_err-write_name-2.result c.from_residual-in_err-write_name-2.ensures.1
-    (stopped_at (field_list_at c.args.format c.args.column c.args.fields.now) c.in_ok-inner.inner (c.args.column + 2) c.in_ok-inner.ensures
+    (stopped_at (field_list_at c.args.format c.args.column c.args.fields.now) c.in_ok-inner.inner (c.args.column + 2) c.in_ok-inner.ensures.ok
     (failed_further c.args.format c.args.column c.in_ok-inner.inner 123 125 (field_written c.args.format c.in_ok-inner.inner) c.args.fields.now c.in-Some.rest.now c.in-Some.field-0-0.now c.loop-name-item.result c.loop-name.name-index c.in-Some.ensures.cases.0 c.in_ok-write_opening.ensures (added_behind c.in_ok-write_name.ensures c.in_ok-write_value.ensures)
     c.loop-name.invariant c.loop-name-test.true c.loop-name-item.is
     (stopped_behind c.in_ok-write_comma.ensures
@@ -162,7 +162,7 @@ write_fields-returns-in_err-write_name-2 t c =
 pub write_fields-returns-in_err-write_value-2 : goal.write_fields-returns-in_err-write_value-2
 write_fields-returns-in_err-write_value-2 t c =
     on_exit c.from_residual-in_err-write_value-2.result c.from_residual-in_err-write_value-2.ensures.1
-    (stopped_at (field_list_at c.args.format c.args.column c.args.fields.now) c.in_ok-inner.inner (c.args.column + 2) c.in_ok-inner.ensures
+    (stopped_at (field_list_at c.args.format c.args.column c.args.fields.now) c.in_ok-inner.inner (c.args.column + 2) c.in_ok-inner.ensures.ok
     (failed_further c.args.format c.args.column c.in_ok-inner.inner 123 125 (field_written c.args.format c.in_ok-inner.inner) c.args.fields.now c.in-Some.rest.now c.in-Some.field-0-0.now c.loop-name-item.result c.loop-name.name-index c.in-Some.ensures.cases.0 c.in_ok-write_opening.ensures (added_behind c.in_ok-write_name.ensures c.in_ok-write_value.ensures)
     c.loop-name.invariant c.loop-name-test.true c.loop-name-item.is
     (stopped_behind c.in_ok-write_comma.ensures (stopped_behind c.in_ok-write_name-2.ensures c.in_err-write_value-2.ensures))))
@@ -179,7 +179,7 @@ write_fields-loop-name-preserved t c =
 
 pub write_fields-returns : goal.write_fields-returns
 write_fields-returns t c =
-    wrote_at c.write_closing.result c.args.out.now c.write_closing.new.out (field_list_at c.args.format c.args.column c.args.fields.now) c.in_ok-inner.inner (c.args.column + 2) c.in_ok-inner.ensures
+    wrote_at c.write_closing.result c.args.out.now c.write_closing.new.out (field_list_at c.args.format c.args.column c.args.fields.now) c.in_ok-inner.inner (c.args.column + 2) c.in_ok-inner.ensures.ok
     (wrote_collection c.write_closing.result c.write_closing.new.out c.args.format c.args.column c.in_ok-inner.inner 123 125 (field_written c.args.format c.in_ok-inner.inner) c.args.fields.now c.in-Some.rest.now c.in-Some.field-0-0.now c.loop-name.name-index c.in-Some.ensures.cases.0 c.in_ok-write_opening.ensures (added_behind c.in_ok-write_name.ensures c.in_ok-write_value.ensures)
     c.loop-name.invariant (take_all c.loop-name.name-index c.in-Some.rest.now c.loop-name-test.false) c.write_closing.ensures)
 
@@ -191,20 +191,20 @@ write_newtype_variant-returns-in_err-inner t c =
 pub write_newtype_variant-returns-in_err-write_variant : goal.write_newtype_variant-returns-in_err-write_variant
 write_newtype_variant-returns-in_err-write_variant t c =
     on_exit c.from_residual-in_err-write_variant.result c.from_residual-in_err-write_variant.ensures.1
-    (stopped_at (λ n. variant_written c.args.format c.args.column n c.args.variant.now (value_written c.args.format n c.args.value.now)) c.in_ok-inner.inner (c.args.column + 2) c.in_ok-inner.ensures
+    (stopped_at (λ n. variant_written c.args.format c.args.column n c.args.variant.now (value_written c.args.format n c.args.value.now)) c.in_ok-inner.inner (c.args.column + 2) c.in_ok-inner.ensures.ok
     (stopped_first (behind (value_written c.args.format c.in_ok-inner.inner c.args.value.now) (whole (closing c.args.format c.args.column 125))) c.in_err-write_variant.ensures))
 
 pub write_newtype_variant-returns-in_err-write_value : goal.write_newtype_variant-returns-in_err-write_value
 write_newtype_variant-returns-in_err-write_value t c =
     on_exit c.from_residual-in_err-write_value.result c.from_residual-in_err-write_value.ensures.1
-    (stopped_at (λ n. variant_written c.args.format c.args.column n c.args.variant.now (value_written c.args.format n c.args.value.now)) c.in_ok-inner.inner (c.args.column + 2) c.in_ok-inner.ensures
+    (stopped_at (λ n. variant_written c.args.format c.args.column n c.args.variant.now (value_written c.args.format n c.args.value.now)) c.in_ok-inner.inner (c.args.column + 2) c.in_ok-inner.ensures.ok
     (stopped_behind c.in_ok-write_variant.ensures (stopped_first (whole (closing c.args.format c.args.column 125)) c.in_err-write_value.ensures)))
 
 pub write_newtype_variant-returns : goal.write_newtype_variant-returns
 write_newtype_variant-returns t c =
     let r = c.write_closing.result in
     let new = c.write_closing.new.out in
-    wrote_at r c.args.out.now new (λ n. variant_written c.args.format c.args.column n c.args.variant.now (value_written c.args.format n c.args.value.now)) c.in_ok-inner.inner (c.args.column + 2) c.in_ok-inner.ensures
+    wrote_at r c.args.out.now new (λ n. variant_written c.args.format c.args.column n c.args.variant.now (value_written c.args.format n c.args.value.now)) c.in_ok-inner.inner (c.args.column + 2) c.in_ok-inner.ensures.ok
     (wrote_behind r new (behind (value_written c.args.format c.in_ok-inner.inner c.args.value.now) (whole (closing c.args.format c.args.column 125))) c.in_ok-write_variant.ensures
     (wrote_behind r new (whole (closing c.args.format c.args.column 125)) c.in_ok-write_value.ensures c.write_closing.ensures))
 
@@ -216,20 +216,20 @@ write_tuple_variant-returns-in_err-inner t c =
 pub write_tuple_variant-returns-in_err-write_variant : goal.write_tuple_variant-returns-in_err-write_variant
 write_tuple_variant-returns-in_err-write_variant t c =
     on_exit c.from_residual-in_err-write_variant.result c.from_residual-in_err-write_variant.ensures.1
-    (stopped_at (λ n. variant_written c.args.format c.args.column n c.args.variant.now (item_list_written c.args.format n c.args.items.now)) c.in_ok-inner.inner (c.args.column + 2) c.in_ok-inner.ensures
+    (stopped_at (λ n. variant_written c.args.format c.args.column n c.args.variant.now (item_list_written c.args.format n c.args.items.now)) c.in_ok-inner.inner (c.args.column + 2) c.in_ok-inner.ensures.ok
     (stopped_first (behind (item_list_written c.args.format c.in_ok-inner.inner c.args.items.now) (whole (closing c.args.format c.args.column 125))) c.in_err-write_variant.ensures))
 
 pub write_tuple_variant-returns-in_err-write_items : goal.write_tuple_variant-returns-in_err-write_items
 write_tuple_variant-returns-in_err-write_items t c =
     on_exit c.from_residual-in_err-write_items.result c.from_residual-in_err-write_items.ensures.1
-    (stopped_at (λ n. variant_written c.args.format c.args.column n c.args.variant.now (item_list_written c.args.format n c.args.items.now)) c.in_ok-inner.inner (c.args.column + 2) c.in_ok-inner.ensures
+    (stopped_at (λ n. variant_written c.args.format c.args.column n c.args.variant.now (item_list_written c.args.format n c.args.items.now)) c.in_ok-inner.inner (c.args.column + 2) c.in_ok-inner.ensures.ok
     (stopped_behind c.in_ok-write_variant.ensures (stopped_first (whole (closing c.args.format c.args.column 125)) c.in_err-write_items.ensures)))
 
 pub write_tuple_variant-returns : goal.write_tuple_variant-returns
 write_tuple_variant-returns t c =
     let r = c.write_closing.result in
     let new = c.write_closing.new.out in
-    wrote_at r c.args.out.now new (λ n. variant_written c.args.format c.args.column n c.args.variant.now (item_list_written c.args.format n c.args.items.now)) c.in_ok-inner.inner (c.args.column + 2) c.in_ok-inner.ensures
+    wrote_at r c.args.out.now new (λ n. variant_written c.args.format c.args.column n c.args.variant.now (item_list_written c.args.format n c.args.items.now)) c.in_ok-inner.inner (c.args.column + 2) c.in_ok-inner.ensures.ok
     (wrote_behind r new (behind (item_list_written c.args.format c.in_ok-inner.inner c.args.items.now) (whole (closing c.args.format c.args.column 125))) c.in_ok-write_variant.ensures
     (wrote_behind r new (whole (closing c.args.format c.args.column 125)) c.in_ok-write_items.ensures c.write_closing.ensures))
 
@@ -241,20 +241,20 @@ write_struct_variant-returns-in_err-inner t c =
 pub write_struct_variant-returns-in_err-write_variant : goal.write_struct_variant-returns-in_err-write_variant
 write_struct_variant-returns-in_err-write_variant t c =
     on_exit c.from_residual-in_err-write_variant.result c.from_residual-in_err-write_variant.ensures.1
-    (stopped_at (λ n. variant_written c.args.format c.args.column n c.args.variant.now (field_list_written c.args.format n c.args.fields.now)) c.in_ok-inner.inner (c.args.column + 2) c.in_ok-inner.ensures
+    (stopped_at (λ n. variant_written c.args.format c.args.column n c.args.variant.now (field_list_written c.args.format n c.args.fields.now)) c.in_ok-inner.inner (c.args.column + 2) c.in_ok-inner.ensures.ok
     (stopped_first (behind (field_list_written c.args.format c.in_ok-inner.inner c.args.fields.now) (whole (closing c.args.format c.args.column 125))) c.in_err-write_variant.ensures))
 
 pub write_struct_variant-returns-in_err-write_fields : goal.write_struct_variant-returns-in_err-write_fields
 write_struct_variant-returns-in_err-write_fields t c =
     on_exit c.from_residual-in_err-write_fields.result c.from_residual-in_err-write_fields.ensures.1
-    (stopped_at (λ n. variant_written c.args.format c.args.column n c.args.variant.now (field_list_written c.args.format n c.args.fields.now)) c.in_ok-inner.inner (c.args.column + 2) c.in_ok-inner.ensures
+    (stopped_at (λ n. variant_written c.args.format c.args.column n c.args.variant.now (field_list_written c.args.format n c.args.fields.now)) c.in_ok-inner.inner (c.args.column + 2) c.in_ok-inner.ensures.ok
     (stopped_behind c.in_ok-write_variant.ensures (stopped_first (whole (closing c.args.format c.args.column 125)) c.in_err-write_fields.ensures)))
 
 pub write_struct_variant-returns : goal.write_struct_variant-returns
 write_struct_variant-returns t c =
     let r = c.write_closing.result in
     let new = c.write_closing.new.out in
-    wrote_at r c.args.out.now new (λ n. variant_written c.args.format c.args.column n c.args.variant.now (field_list_written c.args.format n c.args.fields.now)) c.in_ok-inner.inner (c.args.column + 2) c.in_ok-inner.ensures
+    wrote_at r c.args.out.now new (λ n. variant_written c.args.format c.args.column n c.args.variant.now (field_list_written c.args.format n c.args.fields.now)) c.in_ok-inner.inner (c.args.column + 2) c.in_ok-inner.ensures.ok
     (wrote_behind r new (behind (field_list_written c.args.format c.in_ok-inner.inner c.args.fields.now) (whole (closing c.args.format c.args.column 125))) c.in_ok-write_variant.ensures
     (wrote_behind r new (whole (closing c.args.format c.args.column 125)) c.in_ok-write_fields.ensures c.write_closing.ensures))
 

@@ -11,19 +11,19 @@ returns-in_err-inner c =
 pub returns-in_err-write_opening : goal.returns-in_err-write_opening
 returns-in_err-write_opening c =
     on_exit c.from_residual-in_err-write_opening.result c.from_residual-in_err-write_opening.ensures.1
-    (stopped_at (bytes_at c.args.format c.args.column c.args.bytes.now) c.in_ok-inner.inner (c.args.column + 2) c.in_ok-inner.ensures
+    (stopped_at (bytes_at c.args.format c.args.column c.args.bytes.now) c.in_ok-inner.inner (c.args.column + 2) c.in_ok-inner.ensures.ok
     (failed_opening c.args.format c.args.column c.in_ok-inner.inner 91 93 (byte_written c.args.format c.in_ok-inner.inner) c.args.bytes.now c.in-Some.rest.now c.in-Some.first.now c.in-Some.ensures.cases.0 c.in_err-write_opening.ensures))
 
 pub returns-in_err-write_number : goal.returns-in_err-write_number
 returns-in_err-write_number c =
     on_exit c.from_residual-in_err-write_number.result c.from_residual-in_err-write_number.ensures.1
-    (stopped_at (bytes_at c.args.format c.args.column c.args.bytes.now) c.in_ok-inner.inner (c.args.column + 2) c.in_ok-inner.ensures
+    (stopped_at (bytes_at c.args.format c.args.column c.args.bytes.now) c.in_ok-inner.inner (c.args.column + 2) c.in_ok-inner.ensures.ok
     (failed_first c.args.format c.args.column c.in_ok-inner.inner 91 93 (byte_written c.args.format c.in_ok-inner.inner) c.args.bytes.now c.in-Some.rest.now c.in-Some.first.now c.in-Some.ensures.cases.0 c.in_ok-write_opening.ensures c.in_err-write_number.ensures))
 
 pub returns-in_err-write_comma : goal.returns-in_err-write_comma
 returns-in_err-write_comma c =
     on_exit c.from_residual-in_err-write_comma.result c.from_residual-in_err-write_comma.ensures.1
-    (stopped_at (bytes_at c.args.format c.args.column c.args.bytes.now) c.in_ok-inner.inner (c.args.column + 2) c.in_ok-inner.ensures
+    (stopped_at (bytes_at c.args.format c.args.column c.args.bytes.now) c.in_ok-inner.inner (c.args.column + 2) c.in_ok-inner.ensures.ok
     (failed_further c.args.format c.args.column c.in_ok-inner.inner 91 93 (byte_written c.args.format c.in_ok-inner.inner) c.args.bytes.now c.in-Some.rest.now c.in-Some.first.now (get_or c.in-Some.rest.now c.loop-byte.byte-index 0) c.loop-byte.byte-index c.in-Some.ensures.cases.0 c.in_ok-write_opening.ensures c.in_ok-write_number.ensures
     c.loop-byte.invariant c.loop-byte-test.true (same_get c.in-Some.rest.now c.loop-byte.byte-index c.loop-byte-test.true)
     (stopped_first (byte_written c.args.format c.in_ok-inner.inner (get_or c.in-Some.rest.now c.loop-byte.byte-index 0)) c.in_err-write_comma.ensures)))
@@ -31,7 +31,7 @@ returns-in_err-write_comma c =
 pub returns-in_err-write_number-2 : goal.returns-in_err-write_number-2
 returns-in_err-write_number-2 c =
     on_exit c.from_residual-in_err-write_number-2.result c.from_residual-in_err-write_number-2.ensures.1
-    (stopped_at (bytes_at c.args.format c.args.column c.args.bytes.now) c.in_ok-inner.inner (c.args.column + 2) c.in_ok-inner.ensures
+    (stopped_at (bytes_at c.args.format c.args.column c.args.bytes.now) c.in_ok-inner.inner (c.args.column + 2) c.in_ok-inner.ensures.ok
     (failed_further c.args.format c.args.column c.in_ok-inner.inner 91 93 (byte_written c.args.format c.in_ok-inner.inner) c.args.bytes.now c.in-Some.rest.now c.in-Some.first.now (get_or c.in-Some.rest.now c.loop-byte.byte-index 0) c.loop-byte.byte-index c.in-Some.ensures.cases.0 c.in_ok-write_opening.ensures c.in_ok-write_number.ensures
     c.loop-byte.invariant c.loop-byte-test.true (same_get c.in-Some.rest.now c.loop-byte.byte-index c.loop-byte-test.true)
     (stopped_behind c.in_ok-write_comma.ensures c.in_err-write_number-2.ensures)))
@@ -48,6 +48,6 @@ loop-byte-preserved c =
 
 pub returns : goal.returns
 returns c =
-    wrote_at c.write_closing.result c.args.out.now c.write_closing.new.out (bytes_at c.args.format c.args.column c.args.bytes.now) c.in_ok-inner.inner (c.args.column + 2) c.in_ok-inner.ensures
+    wrote_at c.write_closing.result c.args.out.now c.write_closing.new.out (bytes_at c.args.format c.args.column c.args.bytes.now) c.in_ok-inner.inner (c.args.column + 2) c.in_ok-inner.ensures.ok
     (wrote_collection c.write_closing.result c.write_closing.new.out c.args.format c.args.column c.in_ok-inner.inner 91 93 (byte_written c.args.format c.in_ok-inner.inner) c.args.bytes.now c.in-Some.rest.now c.in-Some.first.now c.loop-byte.byte-index c.in-Some.ensures.cases.0 c.in_ok-write_opening.ensures c.in_ok-write_number.ensures
     c.loop-byte.invariant (take_all c.loop-byte.byte-index c.in-Some.rest.now c.loop-byte-test.false) c.write_closing.ensures)
