@@ -1,5 +1,5 @@
 //! Batches that are loaded and saved again.
-use rows::add_escaped;
+use rows::{add_escaped, text_of};
 use snap_content::{Error, OutOfMemory, Text};
 use snap_io::MemoryStore;
 use snap_pending::PendingInlineSnapshot;
@@ -36,12 +36,18 @@ fn saved_again(alloc: Global, store: &mut MemoryStore, path: &Text) -> Result<Te
 }
 
 /// The answer to the text of a file.
-pub(crate) fn batch_line(alloc: Global, text: &str) -> Result<Text, OutOfMemory> {
+pub(crate) fn batch_line(alloc: Global, column: &str) -> Result<Text, OutOfMemory> {
+    let text = text_of(alloc, column)?;
     let path = Text::from_str(alloc, "a.pending-snap")?;
     let mut store = MemoryStore::new(alloc);
-    store.put(&path, text.as_bytes())?;
+    store.put(&path, text.as_str().as_bytes())?;
+    line_in(alloc, &mut store, &path)
+}
+
+/// The same in a store that is lent: where it is alive at an early return, that is dear to prove.
+fn line_in(alloc: Global, store: &mut MemoryStore, path: &Text) -> Result<Text, OutOfMemory> {
     let mut line = Text::empty();
-    match saved_again(alloc, &mut store, &path) {
+    match saved_again(alloc, store, path) {
         Ok(saved) => add_escaped(alloc, &mut line, saved.as_str())?,
         Err(Error::OutOfMemory) => return Err(OutOfMemory),
         Err(error) => {

@@ -20,7 +20,7 @@ pub(crate) fn store_line(
     Ok(line)
 }
 
-/// After want of memory there is no line.
+/// After out of memory there is no line.
 fn add_refusal(alloc: Global, line: &mut Text, error: &Error) -> Result<(), OutOfMemory> {
     if matches!(error, Error::OutOfMemory) {
         return Err(OutOfMemory);
