@@ -4,13 +4,13 @@ use snap_assert::Settings;
 use snap_content::{OutOfMemory, Text};
 use std::alloc::Global;
 
-/// Adds a column with a truth behind its name.
+/// Adds a column with a truth after its name.
 fn add_truth(alloc: Global, line: &mut Text, name: &str, holds: bool) -> Result<(), OutOfMemory> {
     let told = format!(in alloc; "{name} {holds}")?;
     add_text_column(alloc, line, told.as_str())
 }
 
-/// Adds a column with a text, if there is one, behind its name.
+/// Adds a column with a text, if there is one, after its name.
 fn add_text(
     alloc: Global,
     line: &mut Text,

@@ -5,7 +5,7 @@ use snap_store::{MetaData, Snapshot, SnapshotKind};
 use std::alloc::Global;
 use std::fmt::Display;
 
-/// Why there is no answer. After want of memory there is no line.
+/// Why there is no answer. After out of memory there is no line.
 pub(crate) fn refusal(alloc: Global, error: &Error) -> Result<Text, OutOfMemory> {
     if matches!(error, Error::OutOfMemory) {
         return Err(OutOfMemory);
@@ -14,7 +14,7 @@ pub(crate) fn refusal(alloc: Global, error: &Error) -> Result<Text, OutOfMemory>
     Text::from_str(alloc, told.as_str())
 }
 
-/// Adds the fields that are shown, each with a tab behind it, and what the contents are.
+/// Adds the fields that are shown, each with a tab after it, and what the contents are.
 pub(crate) fn add_metadata(
     alloc: Global,
     line: &mut Text,
@@ -67,7 +67,7 @@ fn add_kind(alloc: Global, line: &mut Text, kind: &SnapshotKind) -> Result<(), O
     Ok(())
 }
 
-/// Adds a number behind its word.
+/// Adds a number after its word.
 fn add_number(
     alloc: Global,
     line: &mut Text,

@@ -27,7 +27,7 @@ pub(crate) fn split_line(alloc: Global, columns: &str) -> Result<Text, OutOfMemo
     }
 }
 
-/// What metadata tell, and a text behind them.
+/// What metadata tell, and a text after them.
 fn told_before(alloc: Global, metadata: &MetaData, text: &Text) -> Result<Text, OutOfMemory> {
     let mut line = Text::empty();
     add_metadata(alloc, &mut line, metadata)?;

@@ -12,7 +12,7 @@
 //! - `conclude`: the same of a status that ends the program. The answer is the exit status, and what the sink of errors is told.
 //! - `usage` and `usage_lines`: whether the usage text has this part, and whether it has at most so many lines.
 //!
-//! An input that begins with `bytes ` is the bytes of the numbers behind it. A line that begins with `# ` is a heading, and is answered
+//! An input that begins with `bytes ` is the bytes of the numbers after it. A line that begins with `# ` is a heading, and is answered
 //! by itself.
 #![tactic(auto)]
 

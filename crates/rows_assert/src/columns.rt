@@ -4,7 +4,7 @@ use snap_content::{OutOfMemory, Text};
 use snap_select::SelectError;
 use std::alloc::Global;
 
-/// Adds a column with what became of a selector: what is wrong in it and where, if something is. After want of memory there is none.
+/// Adds a column with what became of a selector: what is wrong in it and where, if something is. After out of memory there is none.
 pub(crate) fn add_taken(
     alloc: Global,
     line: &mut Text,

@@ -1,4 +1,4 @@
-//! What is done with settings, one thing behind the other: `add SELECTOR TEXT` puts the text there too, `set SELECTOR TEXT` that
+//! What is done with settings, one thing after the other: `add SELECTOR TEXT` puts the text there too, `set SELECTOR TEXT` that
 //! alone, `sort SELECTOR` puts the list there in order too, and `clear` does nothing any more.
 use crate::asserted::add_saved;
 use crate::columns::add_taken;
@@ -8,7 +8,7 @@ use snap_content::{Content, Text};
 use snap_select::Redaction;
 use std::alloc::Global;
 
-/// The front of a text up to the first blank, and what is behind that.
+/// The front of a text up to the first blank, and what is after that.
 fn word(text: &str) -> (&str, &str) {
     text.split_once(' ').unwrap_or((text, ""))
 }

@@ -4,7 +4,7 @@ use snap_content::{OutOfMemory, Text};
 use snap_run_requests::{RequestError, read_request};
 use std::alloc::Global;
 
-/// What becomes of a document, in a word. After want of memory there is none.
+/// What becomes of a document, in a word. After out of memory there is none.
 fn outcome(alloc: Global, document: &[u8]) -> Result<&'static str, OutOfMemory> {
     match read_request(alloc, document) {
         Ok(_) => Ok("read"),
