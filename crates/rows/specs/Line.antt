@@ -1,7 +1,8 @@
 -- Texts as they stand on a line.
 use Rattle.std.specs.Prelude.{ℕ, List, [], ◌∷◌, ◌==◌, if◌then◌else◌, codes}
 
--- a character on a line
+-- a character on a line: a line's end, a return, a tab, NUL and a backslash as a backslash and a letter or one more, each other character
+-- as itself
 abbrev pub shown : ℕ → List ℕ
 shown c =
     if c == 10 then codes "\\n" else (
