@@ -2,7 +2,7 @@
 use Rattle.std.proofs.Common.{◌≡◌, ℕ, List, [], ◌∷◌, ◌++◌, Bool, true, false, if◌then◌else◌, refl, sym, ap, ◌∙◌, arith, ◌==◌}
 use Rattle.std.specs.Prelude.{codes}
 use Rattle.std.specs.List.{flat_map}
-use Rattle.rows.specs.Line.{shown, meant, read, read_behind}
+use Rattle.rows.specs.Line.{shown, meant, read, read_escaped}
 
 -- the tests of `shown`, from the last one on
 abbrev from_backslash : ℕ → List ℕ
@@ -24,7 +24,7 @@ lettered false c n m rest cs is letter below = below
 
 bare : (b : Bool) (c : ℕ) (cs : List ℕ) → (c == 92) ≡ b → (b ≡ true → c ≡ 92) → read ((if b then 92 ∷ 92 ∷ [] else c ∷ []) ++ cs) ≡ c ∷ read cs
 bare true c cs e is = ap (λ x. x ∷ read cs) (sym (is refl))
-bare false c cs e is = ap (λ x. if x then read_behind cs else c ∷ read cs) e
+bare false c cs e is = ap (λ x. if x then read_escaped cs else c ∷ read cs) e
 
 same : (c n : ℕ) → (c == n) ≡ true → c ≡ n
 same c n e = grind arith

@@ -1,7 +1,8 @@
 -- Texts as they stand on a line.
 use Rattle.std.specs.Prelude.{ℕ, List, [], ◌∷◌, ◌==◌, if◌then◌else◌, codes}
 
--- a character on a line
+-- a character on a line: a line's end, a return, a tab, NUL and a backslash as a backslash and a letter or one more, each other character
+-- as itself
 abbrev pub shown : ℕ → List ℕ
 shown c =
     if c == 10 then codes "\\n" else (
@@ -10,7 +11,7 @@ shown c =
     if c == 0 then codes "\\0" else (
     if c == 92 then codes "\\\\" else c ∷ []))))
 
--- the character that another one stands for behind a backslash
+-- the character that another one stands for after a backslash
 abbrev pub meant : ℕ → ℕ
 meant c = if c == 110 then 10 else (if c == 114 then 13 else (if c == 116 then 9 else (if c == 48 then 0 else c)))
 
@@ -18,8 +19,8 @@ meant c = if c == 110 then 10 else (if c == 114 then 13 else (if c == 116 then 9
 abbrev mutual
   pub read : List ℕ → List ℕ
   read [] = []
-  read (c ∷ cs) = if c == 92 then read_behind cs else c ∷ read cs
+  read (c ∷ cs) = if c == 92 then read_escaped cs else c ∷ read cs
 
-  pub read_behind : List ℕ → List ℕ
-  read_behind [] = []
-  read_behind (c ∷ cs) = meant c ∷ read cs
+  pub read_escaped : List ℕ → List ℕ
+  read_escaped [] = []
+  read_escaped (c ∷ cs) = meant c ∷ read cs

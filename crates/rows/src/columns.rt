@@ -4,12 +4,12 @@ use snap_content::{OutOfMemory, Text};
 use std::alloc::Global;
 use std::str;
 
-/// The first column, and those behind it.
+/// The first column, and those after it.
 pub fn first_column(columns: &str) -> (&str, &str) {
     columns.split_once('\t').unwrap_or((columns, ""))
 }
 
-/// Adds a column with this text, behind a tab where it is not the first.
+/// Adds a column with this text, after a tab where it is not the first.
 pub fn add_text_column(alloc: Global, line: &mut Text, text: &str) -> Result<(), OutOfMemory> {
     if !line.as_str().is_empty() {
         line.push_ascii(alloc, "\t")?;
@@ -17,7 +17,7 @@ pub fn add_text_column(alloc: Global, line: &mut Text, text: &str) -> Result<(),
     add_escaped(alloc, line, text)
 }
 
-/// Adds a column with a number behind a word.
+/// Adds a column with a number after a word.
 pub fn add_number_column(
     alloc: Global,
     line: &mut Text,

@@ -1,7 +1,7 @@
 //! Texts, trees and values of YAML on lines, for the programs that are held, row by row, against what is wanted.
 //! On a line `\n`, `\r`, `\t`, `\0` and `\\` stand for these characters.
 //!
-//! `lines` and `columns` (texts), `answers` (an answer for each line of the input), `trees`, with `scalars` and `held`, and `written`
+//! `lines` and `columns` (texts), `answers` (an answer for each row of the input), `trees`, with `scalars` and `held`, and `written`
 //! (trees, by words), `tree_columns` (a tree in one column), `values` (values of YAML), `laws`.
 #![tactic(auto)]
 
@@ -17,7 +17,7 @@ pub mod trees;
 pub mod values;
 pub mod written;
 
-pub use answers::{answer_lines, answer_rows};
+pub use answers::answer_rows;
 pub use columns::{add_file, add_number_column, add_text_column, first_column};
 pub use error::LineError;
 pub use lines::{add_escaped, text_of};

@@ -34,7 +34,7 @@ pub fn add_escaped(alloc: Global, line: &mut Text, text: &str) -> Result<(), Out
     Ok(())
 }
 
-/// The character that another one stands for behind a backslash.
+/// The character that another one stands for after a backslash.
 fn unescaped(c: char) -> char
     ensures { result ≡ meant c }
 {
@@ -47,7 +47,7 @@ fn unescaped(c: char) -> char
     }
 }
 
-/// The first character that a line stands for, and the line behind it.
+/// The first character that a line stands for, and the line after it.
 fn first_read(line: &str) -> Option<(char, &str)>
     ensures value { MatchOption result (read (chars line.now) ≡ [])
         (λ p. read (chars line.now) ≡ p.0 ∷ read (chars p.1.now)) }
@@ -57,8 +57,8 @@ fn first_read(line: &str) -> Option<(char, &str)>
     if c != '\\' {
         return Some((c, rest));
     }
-    let (letter, behind) = split_first(rest)?;
-    Some((unescaped(letter), behind))
+    let (letter, after) = split_first(rest)?;
+    Some((unescaped(letter), after))
 }
 
 /// The text that stands on a line.

@@ -1,10 +1,10 @@
-//! Trees on one line: words with a tab between each two, a tree behind the trees that it holds.
+//! Trees on one line: words with a tab between each two, a tree after the trees that it holds.
 //!
-//! A word is the name of a variant, and what it needs behind a blank: `Bool true`, `U8 1` to `I128 1`, `Char c`, `String t`,
+//! A word is the name of a variant, and what it needs after a blank: `Bool true`, `U8 1` to `I128 1`, `Char c`, `String t`,
 //! `Bytes 1 2 3`, `None`, `Unit`. `Some` holds the tree before it; `Seq 2` and `Tuple 2` hold two, and `Map 2` two pairs.
 //! A name stands before what it names, as a text: `UnitStruct`, `NewtypeStruct`, `TupleStruct 2` and `Struct 2`, whose fields are pairs
-//! of a name and a tree; `UnitVariant 3` is the variant of index 3, behind the name of its type and its own. The other variants,
-//! `NewtypeVariant`, `TupleVariant 2` and `StructVariant 2`, stand behind the unit variant of their names and what they hold.
+//! of a name and a tree; `UnitVariant 3` is the variant of index 3, after the name of its type and its own. The other variants,
+//! `NewtypeVariant`, `TupleVariant 2` and `StructVariant 2`, stand after the unit variant of their names and what they hold.
 //! A text stands there as `lines` writes it.
 use crate::error::LineError;
 use crate::held::{last_pairs, last_values};
@@ -33,7 +33,7 @@ fn hold(held: &mut Vec<Content>, tree: Content) -> Result<(), OutOfMemory> {
     Ok(())
 }
 
-/// The tree that a word stands for, behind the trees before it.
+/// The tree that a word stands for, after the trees before it.
 fn tree_of_word(
     alloc: Global,
     held: &mut Vec<Content>,

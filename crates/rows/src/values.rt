@@ -1,4 +1,4 @@
-//! Values on one line: words with a tab between each two, a collection behind what it holds.
+//! Values on one line: words with a tab between each two, a collection after what it holds.
 //!
 //! `s` and a text, `r` and the text of a number, `i` and a whole number, `t`, `f`, `n` for null, `b` for a bad value; `a` and how
 //! many of the values before it are the items; `h` and how many pairs of the values before it are the entries.

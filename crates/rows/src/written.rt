@@ -185,7 +185,7 @@ fn add_text(alloc: Global, line: &mut Text, text: &Text) -> Result<(), OutOfMemo
     add_escaped(alloc, line, text.as_str())
 }
 
-/// Adds a word with a number behind it.
+/// Adds a word with a number after it.
 fn add_counted(
     alloc: Global,
     line: &mut Text,
@@ -196,7 +196,7 @@ fn add_counted(
     add_word(alloc, line, word.as_str())
 }
 
-/// Adds a word, behind a tab where it is not the first.
+/// Adds a word, after a tab where it is not the first.
 fn add_word(alloc: Global, line: &mut Text, word: &str) -> Result<(), OutOfMemory> {
     if !line.as_str().is_empty() {
         line.push_ascii(alloc, "\t")?;

@@ -17,7 +17,7 @@ fn push_tree(alloc: Global, trees: &mut Items, column: &str) -> Result<(), anyho
     Ok(trees.push(tree)?)
 }
 
-/// Adds a column with this word, behind a tab where it is not the first.
+/// Adds a column with this word, after a tab where it is not the first.
 pub(crate) fn add_word(alloc: Global, line: &mut Text, word: &str) -> Result<(), OutOfMemory> {
     if !line.as_str().is_empty() {
         line.push_ascii(alloc, "\t")?;

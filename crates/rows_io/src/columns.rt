@@ -4,7 +4,7 @@ use snap_content::{OutOfMemory, Text};
 use std::alloc::Global;
 use std::str;
 
-/// The first word of a column, and what stands behind the blank there.
+/// The first word of a column, and what stands after the blank there.
 pub(crate) fn cut_word(column: &str) -> (&str, &str) {
     column.split_once(' ').unwrap_or((column, ""))
 }
@@ -18,7 +18,7 @@ pub(crate) fn numbers_of(alloc: Global, column: &str) -> Result<Vec<u64>, OutOfM
     Ok(numbers)
 }
 
-/// Adds a column with the text of these bytes behind a sign, which tells it from a word.
+/// Adds a column with the text of these bytes after a sign, which tells it from a word.
 pub(crate) fn add_bytes(alloc: Global, line: &mut Text, bytes: &[u8]) -> Result<(), OutOfMemory> {
     match str::from_utf8(bytes) {
         Ok(text) => {

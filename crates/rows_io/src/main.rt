@@ -10,7 +10,7 @@
 //! - `memory_source HOW TEXT`, `steady_source HOW TEXT`, `reader HOW TEXT` and `stubborn_reader HOW`: what a source gives in each read.
 //! - `memory_sink STEP..`, `steady_sink STEP..`, `writer STEP..`, `stubborn_writer STEP..` and `slow_writer STEP..`: what a sink takes
 //!   in each write; of the first two also what is written then.
-//! - `file PATH TEXT..`: what a sink over a file takes, and what a source over it gives behind each write.
+//! - `file PATH TEXT..`: what a sink over a file takes, and what a source over it gives after each write.
 //! - `names NAMES NAMES`: how two lists of names compare.
 //! - `error NAME`: how an error is told.
 #![tactic(auto)]

@@ -1,6 +1,6 @@
 //! The calls of a store of any kind.
 //!
-//! - `read PATH`: the bytes of the file behind `=`, or `nothing`.
+//! - `read PATH`: the bytes of the file after `=`, or `nothing`.
 //! - `write PATH BYTES`, `append PATH BYTES` and `remove PATH`: what was done.
 //! - `list FOLDER`: the names in their order.
 use crate::columns::{add_bytes, cut_word};
@@ -9,7 +9,7 @@ use snap_content::{OutOfMemory, Text};
 use snap_io::{Names, Store, StoreError};
 use std::alloc::Global;
 
-/// Adds the answer to a call that stands as a word and what is behind it.
+/// Adds the answer to a call that stands as a word and what is after it.
 pub(crate) fn add_called<S: Store>(
     alloc: Global,
     line: &mut Text,

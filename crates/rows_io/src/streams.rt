@@ -105,7 +105,7 @@ pub(crate) fn slow_writer_line(alloc: Global, columns: &str) -> Result<Text, Out
     Ok(line)
 }
 
-/// What a sink over a file takes, through a writer that holds bytes back, and what a source over the same file gives behind each
+/// What a sink over a file takes, through a writer that holds bytes back, and what a source over the same file gives after each
 /// write, while the sink is still open.
 pub(crate) fn file_line<R: Files + Alloc>(
     files: &R,

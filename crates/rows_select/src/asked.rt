@@ -81,17 +81,17 @@ fn signs_line(
     Ok(line)
 }
 
-/// Adds the signs of a copy, which ends here, behind a blank.
+/// Adds the signs of a copy, which ends here, after a blank.
 fn add_signs_of_copy(
     alloc: Global,
     line: &mut Text,
     copy: Selector<'_>,
     path: &[PathItem],
 ) -> Result<(), OutOfMemory> {
-    add_signs_behind(alloc, line, &copy, path)
+    add_signs_after(alloc, line, &copy, path)
 }
 
-fn add_signs_behind(
+fn add_signs_after(
     alloc: Global,
     line: &mut Text,
     selector: &Selector<'_>,

@@ -9,7 +9,7 @@ use snap_store::{Snapshot, SnapshotContents};
 use snap_text::{TextSnapshotContents, TextSnapshotKind};
 use std::alloc::Global;
 
-/// The snapshot of the first three columns, in a module, and the columns behind them.
+/// The snapshot of the first three columns, in a module, and the columns after them.
 pub fn snapshot_of(
     alloc: Global,
     module: Text,

@@ -1,4 +1,4 @@
-//! Trees of one word and what it needs behind a blank.
+//! Trees of one word and what it needs after a blank.
 use rows::text_of;
 use snap_content::{Content, Fields, Items, OutOfMemory, Pairs};
 use std::alloc::Global;

@@ -50,7 +50,7 @@ fn two_columns(alloc: Global, first: &Text, second: &Text) -> Result<Text, OutOf
     Ok(line)
 }
 
-/// The path with another one behind it, or as it is seen from another one.
+/// The path with another one after it, or as it is seen from another one.
 fn seen_line(alloc: Global, name: &str, path: &Text, column: &str) -> Result<Text, OutOfMemory> {
     let other = text_of(alloc, column)?;
     let made = seen(alloc, name, path, &other)?;

@@ -27,6 +27,7 @@ pub record Assertion : Type 0 where
   pub given : List ℕ
   pub printed : Tree
 
+-- the assertion of these parts
 abbrev pub assertion_of : Blocks → SettingsView → PlaceView → List ℕ → Tree → Assertion
 assertion_of blocks settings place given printed = record { blocks = blocks; settings = settings; place = place; given = given; printed = printed }
 
@@ -36,9 +37,11 @@ pub record Left : Type 0 where
   pub session : SessionView
   pub answer : Result Verdict AssertError
 
+-- what is asked in a session: the tree under the name with its suffix
 abbrev pub asked_in : Assertion → SessionView → Asked
 asked_in a session = asked_as a.blocks a.settings a.place (name_step a.settings session a.given).name a.printed
 
+-- the key under which an open block keeps the contents: the module, and the name with its suffix
 abbrev pub key_in : Assertion → SessionView → DuplicateKey
 key_in a session = Named a.place.module_name (name_step a.settings session a.given).name
 
@@ -46,11 +49,11 @@ key_in a session = Named a.place.module_name (name_step a.settings session a.giv
 abbrev pub new_contents : Asked → SnapshotContents
 new_contents asked = Text (record { raw = text_of asked.blocks asked.tree; kind = File })
 
--- no block says otherwise: the strays go, on a pass what waited goes, and the mode says what is written
+-- what an assertion leaves where no block refuses it: the strays go, on a pass the pending snapshot goes, and the mode says what is written
 abbrev pub goes_on : Update → Bool → Asked → Bool → Files → SessionView → Left
 goes_on mode force asked passed files session = record { files = step mode force asked passed files; session = session; answer = Ok (verdict_of mode passed) }
 
--- the block keeps other contents for the key: the strays are gone, and nothing else is changed
+-- what it leaves where the block keeps other contents for the key: the strays are gone, and nothing else is changed
 abbrev pub is_refused : Asked → DuplicateKey → SnapshotContents → Files → SessionView → Left
 is_refused asked key old files session = record { files = cleared asked.path files; session = session; answer = Err (DuplicateDiffers key old (new_contents asked)) }
 

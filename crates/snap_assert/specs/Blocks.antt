@@ -7,6 +7,7 @@ use Rattle.snap_store.specs.declared.contents.SnapshotContents.TheVariants.{Text
 use Rattle.snap_assert.specs.declared.error.DuplicateKey.{DuplicateKey}
 use Rattle.snap_assert.specs.declared.error.DuplicateKey.TheVariants.{Named, Inline}
 
+-- what one open block keeps: the contents of each key
 abbrev pub Block : Type 0
 Block = List (DuplicateKey × SnapshotContents)
 

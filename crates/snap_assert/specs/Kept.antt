@@ -16,10 +16,11 @@ is_written InPlace path q = bytes_eq q path
 is_written NewFile path q = bytes_eq q (pending_path path)
 is_written NoUpdate path q = false
 
--- what waits for a review, which goes in each mode
+-- what is pending, which goes in each mode: the pending snapshot, and its payloads
 abbrev pub is_waiting : List ℕ → List ℕ → Bool
 is_waiting path q = bytes_eq q (pending_path path) || is_stray path q
 
+-- the files that an assertion may change: what the mode writes, and what is pending
 abbrev pub may_change : Update → List ℕ → List ℕ → Bool
 may_change mode path q = is_written mode path q || is_waiting path q
 
@@ -33,6 +34,7 @@ pub record Keeps (written changed : List ℕ → Bool) (m : Files) (now : Option
   pub unwritten : (q : List ℕ) → written q ≡ false → IsKeptOrGone (get m q) (get files q)
   pub others : (q : List ℕ) → changed q ≡ false → get files q ≡ get m q
 
+-- no path at all
 abbrev pub is_none : List ℕ → Bool
 is_none q = false
 
@@ -43,7 +45,7 @@ IsWrittenAlone path files files' = (m : Files) → files ≡ Some m → Keeps (�
 abbrev pub IsTakenAlone : List ℕ → Option Files → Option Files → Type 0
 IsTakenAlone path files files' = (m : Files) → files ≡ Some m → Keeps is_none (λ q. bytes_eq q path) m files'
 
--- an assertion at the path writes no file but the one of its mode, and removes none but what waits there
+-- an assertion at the path writes no file but the one of its mode, and removes none but what is pending there
 abbrev pub KeptBy : Update → List ℕ → Option Files → Option Files → Type 0
 KeptBy mode path files files' = (m : Files) → files ≡ Some m → Keeps (is_written mode path) (may_change mode path) m files'
 
@@ -56,6 +58,7 @@ abbrev pub FaultIsOwn : Update → List ℕ → AssertError → Type 0
 FaultIsOwn mode path (FileIo named) = IsOwn mode path named
 FaultIsOwn mode path _ = Unit {0}
 
+-- a result whose fault, where it is one, names a path of the assertion's own
 abbrev pub NamesOwn : {T : Type 0} → Update → List ℕ → Result T AssertError → Type 0
 NamesOwn mode path (Ok value) = Unit {0}
 NamesOwn mode path (Err error) = FaultIsOwn mode path error

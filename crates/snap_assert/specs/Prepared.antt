@@ -44,7 +44,7 @@ pub record IsJudged (asked : Asked) (m : Files) (judged : Judged) : Type 0 where
   pub allowed : May judged.passed (get m asked.path) asked.blocks asked.tree
   pub warned : AreWarnings asked.path (get m asked.path) judged.passed (text_of asked.blocks asked.tree) (items_of judged.warnings)
 
--- the same, and what is to go
+-- what was found in the files: whether the tree passes, and the strays that are to go
 pub record IsSeen (asked : Asked) (m : Files) (seen : Seen) : Type 0 where
   pub judged : IsJudged asked m seen.judged
   pub strays : AreStrays asked.path m seen.strays.items

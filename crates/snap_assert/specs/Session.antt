@@ -18,10 +18,11 @@ pub record SessionView : Type 0 where
   pub blocks : List (List (DuplicateKey × SnapshotContents))
   pub literals : List DuplicateKey
 
+-- before the first assertion: no name was made, no block is open, no literal was met
 abbrev pub empty_session : SessionView
 empty_session = record { prefix = []; count = []; blocks = []; literals = [] }
 
--- nothing is remembered yet, since no call needs it
+-- what a session is seen as: nothing is remembered yet, since no call needs it
 abbrev pub session_of : Session → SessionView
 session_of session = empty_session
 
@@ -34,5 +35,6 @@ pub record Named : Type 0 where
   pub name : List ℕ
   pub session : SessionView
 
+-- the name with its suffix, and the session, which stays
 abbrev pub name_step : SettingsView → SessionView → List ℕ → Named
 name_step settings session given = record { name = suffixed given settings.suffix; session = session }

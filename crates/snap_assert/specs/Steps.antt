@@ -67,7 +67,7 @@ written InPlace asked files = insert files asked.path (encode_utf8_all (file_of 
 written NewFile asked files = insert files (pending_path asked.path) (encode_utf8_all (file_of (header_tree asked.meta) asked.blocks asked.tree))
 written NoUpdate asked files = files
 
--- on a pass what waited goes
+-- on a pass the pending snapshot goes
 abbrev pub passed_files : List ℕ → Files → Files
 passed_files path files = remove (cleared path files) (pending_path path)
 

@@ -18,6 +18,7 @@ pub record ReplacementView : Type 0 where
 abbrev pub replacement_of : Selector × Replacement → ReplacementView
 replacement_of pair = record { parts = parts_of pair.0; put = put_of pair.1 }
 
+-- what selectors and their replacements are seen as, in their order
 abbrev pub replacements_of : List (Selector × Replacement) → List ReplacementView
 replacements_of pairs = map replacement_of pairs
 
@@ -26,6 +27,6 @@ abbrev pub redacted_by : List ReplacementView → Tree → Tree
 redacted_by [] t = t
 redacted_by (r ∷ rs) t = redacted_by rs (redacted r.parts r.put [] t)
 
--- the same as a redaction
+-- the redaction that a replacement stands for
 abbrev pub redaction_for : {X : Type 0} {P : X → Type 0} {Y : Type 0} {Q : Y → Type 0} {g : _} → Selector × Replacement → RedactionView (Redaction X Y P Q g)
 redaction_for pair = redaction_at (parts_of pair.0) (redaction_by pair.1)

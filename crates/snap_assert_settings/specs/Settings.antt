@@ -7,7 +7,7 @@ use Rattle.snap_select.specs.declared.redaction.Redaction.{Redaction}
 use Rattle.snap_assert_settings.specs.Redactions.{RedactionView, redactions_of, RedactedBy}
 use Rattle.snap_assert_settings.specs.declared.settings.Settings.{Settings}
 
--- all but the redactions
+-- what settings hold, but for the redactions
 pub record SettingsView : Type 0 where
   pub sort_maps : Bool
   pub snapshot_path : List ℕ
@@ -35,6 +35,7 @@ new_settings = record {
 abbrev pub settings_of : {X : Type 0} {P : X → Type 0} {Y : Type 0} {Q : Y → Type 0} {g : _} → Settings X Y P Q g → SettingsView
 settings_of settings = record new_settings { sort_maps = settings.sort_maps; snapshot_path = settings.snapshot_path }
 
+-- what the redactions of settings are seen as
 abbrev pub redactions_in : {X : Type 0} {P : X → Type 0} {Y : Type 0} {Q : Y → Type 0} {g : _} → Settings X Y P Q g → List (RedactionView (Redaction X Y P Q g))
 redactions_in settings = redactions_of settings.redactions
 

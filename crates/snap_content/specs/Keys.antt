@@ -49,7 +49,7 @@ key_in (t.string s) = text s
 key_in (t.bytes s) = bytes s
 key_in _ = other
 
--- the key that a tree is, behind its wrappers
+-- the key that a tree is, inside its wrappers
 abbrev pub key_of : t.Tree → KeyValue
 key_of k = key_in (resolved k)
 

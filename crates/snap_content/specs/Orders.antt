@@ -41,6 +41,8 @@ place (struct_variant _ _ _ _) = 27
 abbrev pub text_cmp : List ℕ → List ℕ → Ordering
 text_cmp = slice_cmp nat_cmp
 
+-- the order of trees: by the places of their variants, then by their fields from left to right; lists element by element, a beginning
+-- before what goes on
 abbrev mutual
   pub tree_cmp : Tree → Tree → Ordering
   tree_cmp (bool b) (bool b') = bool_cmp b b'

@@ -7,6 +7,7 @@ abbrev pub IsNumber : ℤ → Type 0
 IsNumber (pos n) = n < 2 ^ 128
 IsNumber (negsuc n) = n < 2 ^ 127
 
+-- every number in a tree has at most 128 bits: from -2^127 to 2^128 - 1
 abbrev mutual
   pub IsWithin : Plain → Type 0
   IsWithin null = Unit {0}

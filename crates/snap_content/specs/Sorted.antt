@@ -4,6 +4,7 @@ use Rattle.std.specs.List.Sorted.{IsPermutation, IsSortedByKey, IsStableByKey}
 use Rattle.snap_content.specs.Tree as t
 use Rattle.snap_content.specs.Keys.{key_cmp}
 
+-- an entry of a map: its key and its value
 abbrev pub Entry : Type 0
 Entry = t.Tree × t.Tree
 
@@ -53,7 +54,7 @@ abbrev mutual
   FieldsRearranged R (t.field name value rest) out =
       (new : t.Tree) × (more : t.TreeFields) × (out ≡ t.field name new more) × Rearranged R value new × FieldsRearranged R rest more
 
--- a sorted tree: the entries of each map are in the order of their keys
+-- a sorted tree: each child is sorted, keys and values alike, and the entries of each map are in the order of their keys
 abbrev pub Sorted : t.Tree → t.Tree → Type 0
 Sorted = Rearranged InKeyOrder
 

@@ -54,6 +54,7 @@ is_named_number [] = false
 is_named_number (c ∷ cs) =
     (if c == 43 || c == 45 then is_inf_word cs else is_inf_word (c ∷ cs)) || bytes_eq (c ∷ cs) (codes ".nan") || bytes_eq (c ∷ cs) (codes "NaN") || bytes_eq (c ∷ cs) (codes ".NAN")
 
+-- what a reader takes a bare word for, by the first rule that fits
 abbrev pub typed : List ℕ → Typed
 typed w =
     if is_hexadecimal_text w then value (int (number_in 16 (drop 2 w))) else (

@@ -5,7 +5,7 @@ use Rattle.snap_content.specs.Typed.{typed, value, real}
 use Rattle.snap_parse_laws.specs.LayoutExamples.{hand_header, hand_request, hand_list}
 use Rattle.snap_emit.specs.LayoutTrees.{layout_plain, layout_keeps}
 
--- a number in base 16 or 8, or behind a plus: its digits may have a sign of their own, and it has 64 bits
+-- a number in base 16 or 8, or after a plus: its digits may have a sign of their own, and it has 64 bits
 pub record AreMarkedNumbers : Type 0 where
   pub hexadecimal : typed (codes "0xFF") ≡ value (int (pos 255))
   pub small_letters : typed (codes "0xff") ≡ value (int (pos 255))
@@ -18,6 +18,7 @@ pub record AreMarkedNumbers : Type 0 where
   pub plus_and_minus : typed (codes "+-5") ≡ value (int (negsuc 4))
   pub two_pluses : typed (codes "++5") ≡ value (int (pos 5))
 
+-- bare words, and what each is taken for
 pub record AreWords : Type 0 where
   pub tilde : typed (codes "~") ≡ value null
   pub nothing : typed (codes "null") ≡ value null

@@ -47,6 +47,7 @@ RefusalEnd text path JsonKey = ⊥
 RefusalEnd text path (NotText _) = ⊥
 RefusalEnd text path (NoFile _) = ⊥
 
+-- what a text is read as, or why it is refused
 abbrev pub ParseEnd : List ℕ → List ℕ → Result Content Error → Type 0
 ParseEnd text path (Ok made) = IsReadFrom made text
 ParseEnd text path (Err error) = RefusalEnd text path error
@@ -62,6 +63,7 @@ HeaderRefusalEnd text path (FailedParsingYaml named) = (named ≡ path) × IsNoH
 HeaderRefusalEnd text path (FloatText named) = ⊥
 HeaderRefusalEnd text path error = RefusalEnd text path error
 
+-- what a header is read as, or why it is refused
 abbrev pub HeaderEnd : List ℕ → List ℕ → Result Header Error → Type 0
 HeaderEnd text path (Ok header) = IsHeaderReadFrom header.content text
 HeaderEnd text path (Err error) = HeaderRefusalEnd text path error

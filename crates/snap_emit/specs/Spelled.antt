@@ -30,6 +30,7 @@ pub record IsPrintedOf (text : List ℕ) (plain : Plain) : Type 0 where
 abbrev pub IsTextOf : List ℕ → Plain → Type 0
 IsTextOf text t = IsPrintedOf text t ⊎ Spells text t
 
+-- the text is printed of the tree, or spells it as a header
 abbrev pub IsHeaderOf : List ℕ → Plain → Type 0
 IsHeaderOf text t = IsPrintedOf text t ⊎ SpellsHeader text t
 

@@ -22,7 +22,7 @@ abbrev pub shifted : ℕ → List ℕ → List ℕ
 shifted k [] = []
 shifted k (c ∷ cs) = if c == 10 then break_at k ++ shifted k cs else c ∷ shifted k cs
 
--- a block whose lines stand at column k, and the empty lines behind it, but for the end of the last
+-- a block whose lines stand at column k, and the empty lines after it, but for the end of the last
 abbrev pub block_text : ℕ → Blocks → List ℕ → List ℕ
 block_text k w s = block_sign (kept_ends s) ++ (break_at k ++ (shifted k (core s) ++ line_ends (empty_lines (is_inside w) (kept_ends s))))
 
@@ -46,6 +46,8 @@ key_text k key flat text = if s.is_simple key then s.spelled key ++ 58 ∷ gap (
 abbrev pub pair_text : ℕ → Blocks → s.Shape → s.Shape → List ℕ → List ℕ → List ℕ
 pair_text k w key value text value_text = key_text k key (s.is_flat value) text ++ child_text (k + 2) w (s.block_in w value) value_text
 
+-- what is written of a shape from where its first line begins: each further line comes after a line's end and as many blanks as the column
+-- has
 abbrev mutual
   pub text_at : ℕ → Blocks → s.Shape → List ℕ
   text_at k w (s.scalar s) = s
@@ -77,7 +79,7 @@ abbrev pub following : ℕ → List (List ℕ) → List ℕ
 following k [] = []
 following k (line ∷ rest) = line_behind k line ++ following k rest
 
--- lines, the first where one stands and the others behind k blanks
+-- lines, the first where one stands and the others after k blanks
 abbrev pub lines_at : ℕ → List (List ℕ) → List ℕ
 lines_at k [] = []
 lines_at k (first ∷ rest) = first ++ following k rest

@@ -7,6 +7,7 @@ use Rattle.snap_content.specs.View.{tree}
 use Rattle.snap_content.specs.declared.content.Content.{Content}
 use Rattle.snap_emit_values.specs.Shape.{Shape, scalar, text, plain_shape}
 
+-- the shape of a tree's plain form
 abbrev pub content_shape : Content → Shape
 content_shape c = plain_shape (plain (tree c))
 

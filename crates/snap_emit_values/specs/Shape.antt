@@ -10,6 +10,7 @@ use Rattle.snap_yaml.specs.Value as v
 use Rattle.snap_yaml.specs.View.{value_of}
 use Rattle.snap_yaml.specs.declared.yaml.Yaml.{Yaml}
 
+-- what is printed of a tree: a scalar as it is spelled, a text, a list, or a dict
 mutual
   pub data Shape : Type 0 where
     scalar : List ℕ → Shape

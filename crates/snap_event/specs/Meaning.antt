@@ -101,6 +101,7 @@ is_inside (open_in []) = false
 is_inside (open_in (o ∷ os)) = true
 is_inside ended = false
 
+-- the event that ends a stream
 abbrev pub is_stream_end : Event → Bool
 is_stream_end e.StreamEnd = true
 is_stream_end _ = false

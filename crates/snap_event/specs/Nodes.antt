@@ -5,6 +5,7 @@ use Rattle.snap_event.specs.declared.event.Tag.{Tag}
 use Rattle.snap_event.specs.declared.event.Event.{Event}
 use Rattle.snap_event.specs.declared.event.Event.TheVariants as e
 
+-- a node of a document: an alias by its number, a scalar, a list of nodes, or a dict of pairs of nodes, with anchors
 mutual
   pub data Node : Type 0 where
     alias : ℕ → Node

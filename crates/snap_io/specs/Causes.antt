@@ -32,11 +32,11 @@ abbrev pub CountedOnce : {T E : Type 0} → (E → Bool) → ℕ → ℕ → Res
 CountedOnce is_fault before now (Ok value) = now ≡ before
 CountedOnce is_fault before now (Err error) = CountedOnceIf (is_fault error) before now
 
--- a source or a sink has no other error
+-- the one error of a source or a sink is a fault
 abbrev pub is_fault : Fault → Bool
 is_fault fault = true
 
--- a store may also want memory
+-- the error of a store that is a fault: the other one is that of memory
 abbrev pub is_failed : StoreError → Bool
 is_failed Failed = true
 is_failed OutOfMemory = false

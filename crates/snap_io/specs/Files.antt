@@ -4,10 +4,11 @@ use Rattle.std.specs.Ordering.{nat_cmp}
 use Rattle.std.specs.Cmp.Lexicographic.{slice_cmp}
 use Rattle.std.specs.FinMap.{FinMap, get, insert, remove}
 
+-- what each path of a store holds
 abbrev pub Files : Type 0
 Files = FinMap (slice_cmp nat_cmp) (List ℕ)
 
--- the file at the path has these bytes behind what it held, or is these bytes where there was no file
+-- the file at the path has these bytes after what it held, or is these bytes where there was no file
 abbrev pub appended : Files → List ℕ → List ℕ → Files
 appended m path bytes = insert m path (unwrap_or (get m path) [] ++ bytes)
 

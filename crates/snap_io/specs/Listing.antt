@@ -51,5 +51,6 @@ FolderTold most folder (Ok names) before now = ((now ≡ lists (opened_folder fo
 FolderTold most folder (Err Failed) before now = (now ≡ lists (opened_folder folder) NotDone ∷ before) ⊎ ToldToEnd most (Err Failed) (lists (opened_folder folder) Done ∷ before) now
 FolderTold most folder (Err OutOfMemory) before now = ⊤
 
+-- what a list asks of the system: the folder was opened and told its names to the end, at most so many, or is not there
 abbrev pub FolderListed : List ℕ → Result (List (List ℕ)) StoreError → History → History → Type 0
 FolderListed folder result before now = FolderTold most_names folder result before now

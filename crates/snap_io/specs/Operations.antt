@@ -55,7 +55,7 @@ OpenedAndRead path (Ok (Some bytes)) before now = ReadToEnd (Ok bytes) (opens pa
 OpenedAndRead path (Err Failed) before now = (now ≡ opens path NotDone ∷ before) ⊎ ReadToEnd (Err Failed) (opens path Done ∷ before) now
 OpenedAndRead path (Err OutOfMemory) before now = ⊤
 
--- the path was looked at before it was opened: what is no regular file is never opened
+-- what a read asks of the system: the path was looked at before it was opened; what is no regular file is never opened
 abbrev pub FileRead : List ℕ → Result (Option (List ℕ)) StoreError → History → History → Type 0
 FileRead path result before now =
     ((result ≡ Ok None) × LookedAt path (Ok None) before now)
@@ -66,13 +66,13 @@ FileRead path result before now =
 abbrev pub appending : List ℕ → List ℕ → List Step
 appending path bytes = makes_folders (folder_of path) ∷ opens_to_append path ∷ writes bytes ∷ []
 
--- the path was looked at first: what is no regular file, or a link, is never opened
+-- what an append asks of the system: the path was looked at first; what is no regular file, or a link, is never opened
 abbrev pub FileAppended : List ℕ → List ℕ → Result (Unit {0}) StoreError → History → History → Type 0
 FileAppended path bytes result before now =
     ((result ≡ Err Failed) × LookedAtLink path (Err Failed) before now)
     ⊎ ((bits : Option ℕ) × (seen : History) × LookedAtLink path (Ok bits) before seen × Made (appending path bytes) result seen now)
 
--- the file was taken away, or nothing was there, or a folder, which stays; else the call failed
+-- what a removal asks of the system: the file was taken away, or nothing was there, or a folder, which stays; else the call failed
 pub record FileRemoved (path : List ℕ) (result : Result Bool StoreError) (before now : History) : Type 0 where
   pub answer : Answer
   pub told : gone_told answer ≡ result

@@ -1,7 +1,7 @@
 -- What a read takes of the bytes that are left, and what is written of bytes.
 use Rattle.std.specs.Prelude.{◌≡◌, ◌≤◌, ℕ, List, ◌++◌, length, take, Option, Some}
 
--- these bytes are the front of all, and the rest is left
+-- a source gave these bytes, the front of what was left, and has the rest
 pub record GivesFront (all front : List ℕ) (left : Option (List ℕ)) : Type 0 where
   pub rest : List ℕ
   pub told : left ≡ Some rest

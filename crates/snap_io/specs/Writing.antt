@@ -51,7 +51,7 @@ Replaced path bits bytes (Err error) before now =
     NoHelper path bits error before now
     ⊎ ((error ≡ Failed) × (helper : List ℕ) × (made : History) × (last : History) × (answer : Answer) × HelperMade path bits helper before made × Stopped (moving helper path bits bytes) made last × (now ≡ removes helper answer ∷ last))
 
--- it was looked which bits the file is to have, the folders were made, and the file was replaced
+-- what a write asks of the system: it was looked which bits the file is to have, the folders were made, and the file was replaced
 abbrev pub FileWritten : List ℕ → List ℕ → Result (Unit {0}) StoreError → History → History → Type 0
 FileWritten path bytes result before now =
     ((result ≡ Err Failed) × BitsFor path (Err Failed) before now)

@@ -25,6 +25,8 @@ abbrev pub key_plain : Option (List ℕ) → Plain
 key_plain None = null
 key_plain (Some s) = text s
 
+-- what JSON keeps of a tree: its plain form, with each key of a map as the text that JSON writes for it, and null in place of a key that is
+-- refused
 abbrev mutual
   pub json_plain : t.Tree → Plain
   json_plain (t.bool b) = bool b

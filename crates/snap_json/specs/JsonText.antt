@@ -43,6 +43,7 @@ abbrev mutual
   entries_at layout k no_entries = []
   entries_at layout k (entry key p es) = (comma layout k ++ (member_text layout key ++ text_at layout k p)) ++ entries_at layout k es
 
+-- the JSON text of a tree, in a layout
 abbrev pub json_text : Format → Tree → List ℕ
 json_text layout tree = text_at layout 0 (json_plain tree)
 
@@ -66,6 +67,7 @@ abbrev mutual
   entries_refused no_entries = false
   entries_refused (entry key p es) = is_refused key || (has_refused p || entries_refused es)
 
+-- some key of a map in the tree, at any depth, is one that JSON refuses
 abbrev pub json_refuses : Tree → Bool
 json_refuses tree = has_refused (json_plain tree)
 

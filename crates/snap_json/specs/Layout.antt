@@ -13,21 +13,21 @@ break_at Condensed k = []
 break_at SingleLine k = []
 break_at Pretty k = 10 ∷ blanks k
 
--- before the first element of a collection
+-- what comes before the first element of a collection
 abbrev pub opening : Format → ℕ → ℕ → List ℕ
 opening layout k bracket = bracket ∷ break_at layout k
 
--- behind its last element
+-- what comes after the last element of a collection
 abbrev pub closing : Format → ℕ → ℕ → List ℕ
 closing layout k bracket = break_at layout k ++ bracket ∷ []
 
--- between two elements
+-- what comes between two elements
 abbrev pub comma : Format → ℕ → List ℕ
 comma Condensed k = 44 ∷ []
 comma SingleLine k = 44 ∷ 32 ∷ []
 comma Pretty k = 44 ∷ 10 ∷ blanks k
 
--- between a key and its value
+-- what comes between a key and its value
 abbrev pub colon : Format → List ℕ
 colon Condensed = 58 ∷ []
 colon SingleLine = 58 ∷ 32 ∷ []

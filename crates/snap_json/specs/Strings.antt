@@ -15,5 +15,6 @@ json_escaped c =
     if c == 13 then codes "\\r" else (
     if nat_lt c 32 then escaped_code c else c ∷ [])))))))
 
+-- a text between double quotes, with escapes
 abbrev pub json_string : List ℕ → List ℕ
 json_string s = 34 ∷ (flat_map json_escaped s ++ 34 ∷ [])

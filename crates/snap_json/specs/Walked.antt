@@ -32,6 +32,7 @@ collection layout k inner open_bracket close_bracket w (x ∷ xs) =
     behind (whole (opening layout inner open_bracket))
     (behind (w x) (behind (all_written (further layout inner w) xs) (whole (closing layout k close_bracket))))
 
+-- what is written of a tree at a column, up to the first key that JSON refuses
 abbrev pub value_written : Format → ℕ → Content → Written
 value_written layout k value = written layout k (json_plain (tree value))
 

@@ -69,7 +69,7 @@ abbrev mutual
 abbrev pub before_first_refusal : Format → Tree → List ℕ
 before_first_refusal layout tree = characters (written layout 0 (json_plain tree))
 
--- what want of memory leaves of a text that was to grow by `full`: what it was, and a beginning of that
+-- what being out of memory leaves of a text that was to grow by `full`: what it was, and a beginning of that
 pub record IsBegun (old new full : List ℕ) : Type 0 where
   pub added : List ℕ
   pub rest : List ℕ
@@ -90,6 +90,7 @@ pub record IsStopped (error : JsonError) (old new : List ℕ) (all : Written) : 
   pub is_new : new ≡ old ++ added
   pub at_key : error ≡ JsonKey → all ≡ stopped added
 
+-- what a call left: all of it was added, or an error stopped it
 abbrev pub Wrote : Result (Unit {0}) JsonError → List ℕ → List ℕ → Written → Type 0
 Wrote (Ok _) old new all = IsAdded old new all
 Wrote (Err error) old new all = IsStopped error old new all

@@ -50,6 +50,6 @@ abbrev mutual
   values_in_pairs no_pairs = []
   values_in_pairs (pair n m ps) = and_some (node_value n) (and_some (node_value m) (values_in_pairs ps))
 
--- a document whose node has no value is bad
+-- the value of a document: that of its node; a bad value where its node has none
 abbrev pub document_value : Node → Value
 document_value n = unwrap_or (node_value n) bad_value

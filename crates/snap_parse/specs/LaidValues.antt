@@ -45,6 +45,7 @@ abbrev mutual
   entries_values (w.only e) = entry_values e v.no_pairs
   entries_values (w.pair e es) = entry_values e (entries_values es)
 
+-- the value of a layout: that of its tree, whatever the breaks, blanks, comments and columns are
 abbrev pub layout_value : w.Layout → v.Value
 layout_value (w.leaf x) = leaf_value x
 layout_value (w.collection t) = collection_value t

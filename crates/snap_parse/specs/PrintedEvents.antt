@@ -46,7 +46,7 @@ abbrev mutual
   entries_of w (p.entry k v es) =
       entry (tree_of (before_more w) k) (child_tree (as_block (before_entries w es) v) (tree_of (before_entries w es) v)) (entries_of w es)
 
--- without anchors and tags
+-- the node of a plain tree, without anchors and tags: a text in double quotes where it needs them, each other scalar plain
 abbrev mutual
   pub node_of : Blocks → p.Plain → n.Node
   node_of w p.null = n.scalar (codes "~") style.Plain 0 None

@@ -9,7 +9,8 @@ use Rattle.snap_yaml.specs.Value as v
 abbrev pub read_number : ℤ → v.Value
 read_number z = if has_64_bits z then v.integer z else v.real (signed_decimal z)
 
--- a text stays that text, whether it stands in quotes or not
+-- what is read of a printed tree: a text stays that text, in quotes or not; a whole number of 64 bits is that number, another is kept as
+-- its digits
 abbrev mutual
   pub read_value : p.Plain → v.Value
   read_value p.null = v.null

@@ -17,6 +17,7 @@ pub record LoadState : Type 0 where
   pub node : Option Value
   pub held : List Held
 
+-- before the first event
 abbrev pub start : LoadState
 start = record { documents = []; node = None; held = [] }
 
@@ -63,6 +64,7 @@ step e.SequenceEnd s = close s
 step (e.MappingStart id) s = open_one (in_dict [] None) s
 step e.MappingEnd s = close s
 
+-- what is made of events, one after the other
 abbrev pub steps : List Event → LoadState → LoadState
 steps [] s = s
 steps (event ∷ events) s = steps events (step event s)

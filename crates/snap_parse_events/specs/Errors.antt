@@ -11,7 +11,7 @@ abbrev pub load_error : ScanError → LoadError
 load_error (c.Syntax mark info) = l.Scan (c.Syntax mark info)
 load_error c.OutOfMemory = l.OutOfMemory
 
--- a refusal is one that the source explains, and never want of memory
+-- a refusal is one that the source explains, and never out of memory
 abbrev pub IsLoadFounded : List ℕ → LoadError → Type 0
 IsLoadFounded source (l.Scan (c.Syntax mark info)) = IsFounded source (c.Syntax mark info)
 IsLoadFounded source (l.Scan c.OutOfMemory) = ⊥

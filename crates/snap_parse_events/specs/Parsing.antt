@@ -20,6 +20,7 @@ pub record Parsing : Type 0 where
   pub names : Names
   pub error : Option ScanError
 
+-- a parser before its first event
 abbrev pub start_parsing : List ℕ → Parsing
 start_parsing cs = record { tokens = start_tokens cs; spot = start_spot; names = no_names; error = None }
 
@@ -46,7 +47,7 @@ pub record WillGive (p : Parsing) (events : List Event) : Type 0 where
 abbrev pub GoesOn : Event → Parsing → Parsing → Type 0
 GoesOn event old new = (first : Event) (others : List Event) → WillGive old (first ∷ others) → (event ≡ first) × WillGive new others
 
--- what a parser promises of an event that it gives: it is one that may come, the names are those behind it, and it is the first of
+-- what a parser promises of an event that it gives: it is one that may come, the names are those after it, and it is the first of
 -- those that the parser would give
 pub record IsNext (event : Event) (old new : Parsing) : Type 0 where
   pub allowed : after event (meaning old) ≡ Some (meaning new)

@@ -57,7 +57,7 @@ pub record Passing {R : Type 0} (tells : R → List Event → Type 0) (multi : B
   pub run : Run p events q
   pub gets : GetsMore tells old new events
 
--- the receiver got the events up to the first behind which loading stops, while the parser went from p to q
+-- the receiver got the events up to the first after which loading stops, while the parser went from p to q
 pub record LoadsUpTo {R : Type 0} (tells : R → List Event → Type 0) (multi : Bool) (old new : R) (p q : Parsing) : Type 0 where
   pub events : List Event
   pub last : Event

@@ -7,6 +7,7 @@ use Rattle.snap_scan_tokens.specs.declared.token.TEncoding.TheVariants.{Utf8}
 use Rattle.snap_event.specs.declared.event.Event.{Event}
 use Rattle.snap_event.specs.declared.event.Event.TheVariants as e
 
+-- a scalar, a list or a dict in blocks or in flow, or a list at the column of its dict
 mutual
   pub data Tree : Type 0 where
     scalar : TScalarStyle → List ℕ → Tree
@@ -90,12 +91,13 @@ abbrev mutual
   entry_events_onto no_entries es = es
   entry_events_onto (entry t u fs) es = events_onto t (events_onto u (entry_events_onto fs es))
 
--- a document behind `---`, and one without it, as a JSON text
+-- a document after `---`, and one without it, as a JSON text
 abbrev pub document_tokens : Tree → List TokenType
 document_tokens t = k.StreamStart Utf8 ∷ k.DocumentStart ∷ tokens_onto t (k.StreamEnd ∷ [])
 
 abbrev pub bare_tokens : Tree → List TokenType
 bare_tokens t = k.StreamStart Utf8 ∷ tokens_onto t (k.StreamEnd ∷ [])
 
+-- the events of a stream of one document
 abbrev pub document_events : Tree → List Event
 document_events t = e.StreamStart ∷ e.DocumentStart ∷ events_onto t (e.DocumentEnd ∷ e.StreamEnd ∷ [])

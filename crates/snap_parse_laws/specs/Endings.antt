@@ -8,6 +8,7 @@ abbrev pub child_ends : Option (List ℕ) → Bool → Bool
 child_ends None below = below
 child_ends (Some s) below = true
 
+-- the text of a tree ends in a literal block: the last item or value is one, or the last of what it holds is
 abbrev mutual
   pub ends_in_block : Blocks → Plain → Bool
   ends_in_block w null = false

@@ -65,5 +65,6 @@ abbrev pub IsLayout : Position → Layout → Type 0
 IsLayout p (leaf t) = IsLeaf p t
 IsLayout p (collection t) = IsCollection p t
 
+-- a free layout: each bare text is spelled as what it means, and no entry has marks of its own
 abbrev pub IsFree : Document → Type 0
 IsFree d = (is_gap d.gap ≡ true) × IsLayout ending d.tree

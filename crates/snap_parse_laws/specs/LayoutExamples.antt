@@ -79,6 +79,7 @@ blocks = record {
       (only (simple (bare (codes "b")) (level fed (last (piece 0 (block (codes "z") 2 false))))))));
 }
 
+-- layouts that were worked out by hand, and their texts
 pub record AreLaid : Type 0 where
   pub header : document_text hand_header ≡ codes "---\r\nsource:   src/a.rs\r\n# note\r\nexpression: \"x\"\r\ninfo:\r\n    - 1\r\n    -   b: 2\r\n"
   pub header_free : IsFree hand_header

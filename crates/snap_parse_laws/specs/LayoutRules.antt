@@ -89,5 +89,7 @@ abbrev pub IsLayout : Position → Layout → Type 0
 IsLayout p (leaf t) = IsLeaf p t
 IsLayout p (collection t) = IsCollection p t
 
+-- what a scanner asks of a layout: its gap, comments, letters and rests are such, a bare text is one by the scanner's test, and a key has
+-- at most 1,024 characters
 abbrev pub IsDocument : Document → Type 0
 IsDocument d = (is_gap d.gap ≡ true) × IsLayout ending d.tree

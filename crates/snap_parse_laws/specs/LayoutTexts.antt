@@ -79,6 +79,7 @@ abbrev pub layout_onto : ℕ → Layout → List ℕ → List ℕ
 layout_onto k (leaf t) rest = leaf_onto k t rest
 layout_onto k (collection t) rest = collection_onto k t rest
 
+-- the characters of a layout: `---`, the gap, the blanks up to its column, and its tree
 abbrev pub document_text : Document → List ℕ
 document_text d = codes "---" ++ gap_onto d.gap (blanks d.column ++ layout_onto d.column d.tree [])
 

@@ -45,6 +45,7 @@ abbrev mutual
   entries_tokens (only e) = entry_tokens e
   entries_tokens (pair e es) = entry_tokens e ++ entries_tokens es
 
+-- the tokens of a layout: those of its tree
 abbrev pub layout_tokens : Layout → List TokenType
 layout_tokens (leaf t) = leaf_tokens t
 layout_tokens (collection t) = collection_tokens t

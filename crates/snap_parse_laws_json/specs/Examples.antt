@@ -15,6 +15,7 @@ pair = list (item (bool true) (item (text (codes "x")) no_items))
 abbrev pub table : Plain
 table = dict (entry (text (codes "a")) (int (negsuc 4)) (entry (text (codes "b")) (list no_items) no_entries))
 
+-- JSON texts and their tokens, which were worked out by hand
 pub record AreTokens : Type 0 where
   pub nothing : json_stream_tokens null ≡ k.StreamStart Utf8 ∷ k.Scalar PlainStyle (codes "null") ∷ k.StreamEnd ∷ []
   pub quoted : json_tokens (text (codes "a\n")) ≡ k.Scalar DoubleQuoted (codes "a\n") ∷ []
@@ -37,6 +38,7 @@ nested (suc n) = list (item (nested n) no_items)
 abbrev pub keyed : ℕ → Plain
 keyed n = dict (entry (text (replicate n 97)) null no_entries)
 
+-- where the bounds of levels and of keys lie
 pub record AreBounds : Type 0 where
   pub deepest : is_bounded (nested 1023) ≡ true
   pub too_deep : is_bounded (nested 1024) ≡ false

@@ -25,7 +25,7 @@ abbrev mutual
   json_entries p.no_entries = no_entries
   json_entries (p.entry key x es) = entry (json_tree key) (json_tree x) (json_entries es)
 
--- without anchors and tags
+-- the node of a JSON text, without anchors and tags: each text in double quotes, all else plain
 abbrev mutual
   pub json_node : p.Plain → n.Node
   json_node p.null = n.scalar (codes "null") style.Plain 0 None

@@ -8,6 +8,7 @@ pub record Cut : Type 0 where
   pub before : List ℕ
   pub behind : List ℕ
 
+-- a cut into these two parts
 abbrev pub cut_of : List ℕ → List ℕ → Cut
 cut_of before behind = record { before = before; behind = behind }
 
@@ -53,9 +54,11 @@ abbrev pub before_or_none : Option Cut → List ℕ
 before_or_none None = []
 before_or_none (Some cut) = cut.before
 
--- the name stands behind the last two underscores, and the module before them
+-- the name in the path of a snapshot's file: of the last component, without its last ending, what comes after the last two underscores; all
+-- of it where there are none
 abbrev pub snapshot_name : List ℕ → List ℕ
 snapshot_name path = behind_or (stem_of_path path) (cut_last (codes "__") (stem_of_path path))
 
+-- the module there: what comes before the last two underscores; nothing where there are none
 abbrev pub module_name : List ℕ → List ℕ
 module_name path = before_or_none (cut_last (codes "__") (stem_of_path path))

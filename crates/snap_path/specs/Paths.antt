@@ -16,7 +16,7 @@ is_component [] = false
 is_component (c ∷ []) = not (c == 46)
 is_component (c ∷ d ∷ cs) = true
 
--- what a path is made of
+-- the pieces of a path between slashes, without empty ones and `.`
 abbrev pub components : List ℕ → List (List ℕ)
 components path = filter is_component (between_slashes path)
 
@@ -32,7 +32,7 @@ slashed (part ∷ next ∷ parts) = part ++ 47 ∷ slashed (next ∷ parts)
 abbrev pub path_of_parts : Bool → List (List ℕ) → List ℕ
 path_of_parts absolute parts = if absolute then 47 ∷ slashed parts else slashed parts
 
--- an absolute tail stands for itself
+-- the tail's components after the base's; an absolute tail stands for itself
 abbrev pub joined : List ℕ → List ℕ → List ℕ
 joined base tail =
     if is_absolute tail then path_of_parts true (components tail)
@@ -48,9 +48,11 @@ last_of [] = None
 last_of (part ∷ []) = Some part
 last_of (part ∷ next ∷ parts) = last_of (next ∷ parts)
 
+-- the path without its last component
 abbrev pub parent_of : List ℕ → List ℕ
 parent_of path = path_of_parts (is_absolute path) (all_but_last (components path))
 
+-- the last component, if there is one
 abbrev pub name_of : List ℕ → Option (List ℕ)
 name_of path = last_of (components path)
 
@@ -80,7 +82,8 @@ abbrev pub same_start : Bool → Bool → Bool
 same_start true absolute = absolute
 same_start false absolute = not absolute
 
--- the path as seen from the base: where only one of both is absolute, it is the path
+-- the path as it is seen from the base: without their common front, after one `..` for each component that the base has left; where only
+-- one of both is absolute, the path itself
 abbrev pub relative_from : List ℕ → List ℕ → List ℕ
 relative_from path base =
     if same_start (is_absolute path) (is_absolute base) then from_apart (apart (components path) (components base))
@@ -90,11 +93,12 @@ relative_from path base =
 abbrev pub IsName : List ℕ → Type 0
 IsName name = components name ≡ name ∷ []
 
--- what stands before a name in the path of a folder's file
+-- what comes before a name in the path of a file of a folder that has these parts
 abbrev pub front_behind : Bool → List (List ℕ) → List ℕ
 front_behind absolute [] = path_of_parts absolute []
 front_behind absolute (part ∷ parts) = path_of_parts absolute (part ∷ parts) ++ 47 ∷ []
 
+-- what comes before the names of a folder's files in their paths
 abbrev pub front_of : List ℕ → List ℕ
 front_of folder = front_behind (is_absolute folder) (components folder)
 
@@ -107,7 +111,7 @@ abbrev pub then_slashed : Bool → List (List ℕ) → List ℕ
 then_slashed true parts = flat_map behind_slash parts
 then_slashed false parts = slashed parts
 
--- whether a part stands before what follows
+-- a part comes before what follows
 abbrev pub stand_behind : Bool → List (List ℕ) → Bool
 stand_behind behind [] = behind
 stand_behind behind (part ∷ parts) = true

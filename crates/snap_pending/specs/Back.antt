@@ -35,6 +35,7 @@ MayBeBack (Some held) (Some back) = IsHeldBack held back
 MayBeBack None (Some back) = ⊥
 MayBeBack (Some held) None = ⊥
 
+-- a record as it is read back: the same run and line, and its snapshots where it has them
 pub record IsBack (pending back : Pending) : Type 0 where
   pub run_is : back.run_id ≡ pending.run_id
   pub line_is : back.line ≡ pending.line
@@ -55,6 +56,7 @@ pub record HasShortLines (pending : Pending) : Type 0 where
 abbrev pub HasText : Held → Type 0
 HasText held = is_some (text_in held.contents) ≡ true
 
+-- neither snapshot of a record is a payload
 pub record HasTexts (pending : Pending) : Type 0 where
   pub in_new : IfSome pending.new_snapshot HasText
   pub in_old : IfSome pending.old_snapshot HasText

@@ -13,6 +13,7 @@ pub record Held : Type 0 where
   pub meta : Meta
   pub contents : SnapshotContents
 
+-- what a snapshot is seen as
 abbrev pub held_of : Snapshot → Held
 held_of snapshot = record {
   module_name = module_in snapshot;
@@ -21,12 +22,14 @@ held_of snapshot = record {
   contents = contents_in snapshot;
 }
 
+-- a record: its run, its line, and the new and the old snapshot where it has them
 pub record Pending : Type 0 where
   pub run_id : List ℕ
   pub line : ℕ
   pub new_snapshot : Option Held
   pub old_snapshot : Option Held
 
+-- what a record is seen as
 abbrev pub pending_of : PendingInlineSnapshot → Pending
 pending_of pending = record {
   run_id = pending.run_id;

@@ -18,7 +18,7 @@ abbrev pub tree_or_none : Option Held → Tree
 tree_or_none None = none
 tree_or_none (Some held) = held_tree held
 
--- the run, the line of the assertion, and both snapshots
+-- the tree of a record: its run, the line of the assertion, and both snapshots
 abbrev pub record_of : Pending → Tree
 record_of pending = map (
     pair (string (codes "run_id")) (string pending.run_id) (pair (string (codes "line")) (u32 pending.line) (

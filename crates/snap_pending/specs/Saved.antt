@@ -6,7 +6,7 @@ use Rattle.snap_content.specs.declared.error.Error.{Error}
 use Rattle.snap_content.specs.declared.error.Error.TheVariants.{FailedParsingYaml, UnexpectedDataType, MissingField, FileIo, FloatText, JsonKey, NotText, NoFile, OutOfMemory}
 use Rattle.snap_io.specs.Files.{Files}
 
--- the file at the path is these lines, one behind the other, and gone where there are none
+-- the file at the path is these lines, one after the other, and gone where there are none
 abbrev pub with_lines : Files → List ℕ → List (List ℕ) → Files
 with_lines m path [] = remove m path
 with_lines m path (line ∷ lines) = insert m path (flat_map encode_utf8_all (line ∷ lines))
@@ -23,7 +23,7 @@ SavingRefused path refused (FloatText named) = ⊥
 SavingRefused path refused (NotText named) = ⊥
 SavingRefused path refused (NoFile named) = ⊥
 
--- they are saved only where no key is refused
+-- how a save ends: records are saved only where no key is refused
 abbrev pub SavingEnd : {T : Type 0} → List ℕ → Bool → Result T Error → Type 0
 SavingEnd path refused (Ok done) = refused ≡ false
 SavingEnd path refused (Err error) = SavingRefused path refused error

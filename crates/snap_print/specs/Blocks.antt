@@ -24,6 +24,7 @@ before_more inside = inside
 before_more end = inside
 before_more last = inside
 
+-- more of the text follows
 abbrev pub is_inside : Blocks → Bool
 is_inside inside = true
 is_inside _ = false

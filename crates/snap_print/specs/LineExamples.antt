@@ -14,6 +14,7 @@ followed value = dict (entry (text (codes "a")) (text value) (entry (text (codes
 abbrev pub twice : List ℕ → Plain
 twice value = list (item (text value) (item (text value) no_items))
 
+-- trees with literal blocks, and their texts, which were worked out by hand
 pub record ArePrinted : Type 0 where
   -- one line end is the sign's, and an empty line stands before what follows
   pub in_a_map : document_of last (followed (codes "x\ny\n")) ≡ codes "---\na: |\n  x\n  y\n\nb: 1\n"

@@ -66,6 +66,8 @@ abbrev pub before_entries : Blocks → Entries → Blocks
 before_entries w no_entries = w
 before_entries w (entry k v es) = before_more w
 
+-- the lines of a tree: a scalar is one; an item's come after `- ` and two blanks, a value's after its key and a colon, or after `? ` and `:
+-- ` where the key is not simple
 abbrev mutual
   pub lines_of : Blocks → Plain → List (List ℕ)
   lines_of w null = codes "~" ∷ []
@@ -87,6 +89,7 @@ abbrev mutual
   entry_lines w (entry k v es) =
       entry_block (before_entries w es) k v (lines_of (before_more w) k) (lines_of (before_entries w es) v) ++ entry_lines w es
 
+-- the text of a tree: its lines, each with its end
 abbrev pub text_of : Blocks → Plain → List ℕ
 text_of w p = flat_map ended (lines_of w p)
 

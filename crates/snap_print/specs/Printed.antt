@@ -26,6 +26,7 @@ pub record IsRow (line : List ℕ) : Type 0 where
   pub unbroken : list_any is_break line ≡ false
   pub no_dashes : begins_dashes line ≡ false
 
+-- each of these lines is a row
 abbrev pub AreRows : List (List ℕ) → Type 0
 AreRows [] = Unit {0}
 AreRows (line ∷ lines) = IsRow line × AreRows lines

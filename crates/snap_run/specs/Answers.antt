@@ -76,7 +76,7 @@ abbrev pub are_flags : List (List ℕ) → Bool
 are_flags [] = true
 are_flags (word ∷ words) = (is_force word || (is_force_pass word || is_literal word)) && (not (stands word words) && are_flags words)
 
--- those are set that stand among the words
+-- the flags that stand among the words
 abbrev pub flags_told : List (List ℕ) → Flags
 flags_told words = record {
   force_update = stands (codes "--force") words;
@@ -84,6 +84,7 @@ flags_told words = record {
   literal = stands (codes "--literal") words;
 }
 
+-- the words of a run in a workspace, in a mode, with these flags
 abbrev pub words_at : List ℕ → Update → Flags → RunWords
 words_at workspace update flags = record {
   workspace = workspace;
@@ -182,6 +183,7 @@ lines_of words (a ∷ more) = line_of words a ++ lines_of words more
 abbrev pub answer_fails : RunWords → Answer → Bool
 answer_fails words a = is_failure (verdict_of words.update a.passed) && not words.force_pass
 
+-- one of the answers fails
 abbrev pub some_fails : RunWords → List Answer → Bool
 some_fails words [] = false
 some_fails words (a ∷ more) = answer_fails words a || some_fails words more

@@ -13,7 +13,7 @@ abbrev pub arguments_of : {A E : Type 0} → Result (IntoIter (String A) A) E �
 arguments_of (Ok arguments) = Some (arguments_in arguments)
 arguments_of (Err error) = None
 
--- the words are the arguments behind the program's name, and none where some argument is no text
+-- the words are the arguments after the program's name, and none where some argument is no text
 abbrev pub words_given : Option (List (List ℕ)) → List (List ℕ)
 words_given None = []
 words_given (Some []) = []

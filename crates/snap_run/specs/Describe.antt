@@ -12,6 +12,7 @@ kind_text DoctestNeedsName = codes "DoctestNeedsName"
 kind_text DuplicateDiffers = codes "DuplicateDiffers"
 kind_text NamesExhausted = codes "NamesExhausted"
 
+-- what a status says in words
 abbrev pub description : Status → List ℕ
 description AllPassed = codes "snap: all passed"
 description SomeFailed = codes "snap: some failed"
@@ -24,6 +25,7 @@ description WriteFault = codes "snap: write fault"
 description OutOfMemory = codes "snap: out of memory"
 description InputTooLong = codes "snap: input too long"
 
+-- the exit status
 abbrev pub code_of : Status → ℕ
 code_of AllPassed = 0
 code_of SomeFailed = 1

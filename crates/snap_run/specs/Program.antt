@@ -14,7 +14,7 @@ message AllPassed = []
 message SomeFailed = []
 message status = encode_utf8_all (description status ++ 10 ∷ [])
 
--- the message was written, or nothing where there was no memory for it, or a part of its front where the sink failed
+-- what standard error was told: the message, or nothing where there was no memory for it, or a part of its front where the sink failed
 pub record IsSaid (status : Status) (before now : ℕ) (written written' : Option (List ℕ)) : Type 0 where
   pub front : (w : List ℕ) → written ≡ Some w → HoldsFront (message status) w written'
   pub whole : (w : List ℕ) → written ≡ Some w → IsSteady before now → (written' ≡ Some (w ++ message status)) ⊎ (written' ≡ Some w)

@@ -28,7 +28,7 @@ pub record RunKeeps (words : RunWords) (documents : List (List ℕ)) (m : Files)
   pub unwritten : (q : List ℕ) → All (IsSpared words is_written q) requests → IsKeptOrGone (get m q) (get files q)
   pub others : (q : List ℕ) → All (IsSpared words may_change q) requests → get files q ≡ get m q
 
--- without words of a run nothing is changed
+-- what a whole run keeps; without words of a run nothing is changed
 abbrev pub KeptByRun : Option RunWords → List (List ℕ) → Option Files → Option Files → Type 0
 KeptByRun None documents files files' = files' ≡ files
 KeptByRun (Some words) documents files files' = (m : Files) → files ≡ Some m → RunKeeps words documents m files'

@@ -3,6 +3,7 @@ use Rattle.std.specs.Prelude.{◌≡◌, false}
 use Rattle.snap_run.specs.Answers.{RunWords}
 use Rattle.snap_run.specs.declared.runner.Runner.{Runner}
 
+-- the words that the documents of a run share
 abbrev pub words_of : Runner → RunWords
 words_of runner = record {
   workspace = runner.workspace;
@@ -12,6 +13,6 @@ words_of runner = record {
   literal = runner.config.literal;
 }
 
--- no flag that is not built
+-- the words ask for no flag that is not built
 pub record IsReady (runner : Runner) : Type 0 where
   pub loose : runner.config.require_full_match ≡ false

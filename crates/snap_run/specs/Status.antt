@@ -78,17 +78,17 @@ LengthCause limit left left' WriteFault = IsReadToEnd limit left left'
 LengthCause limit left left' OutOfMemory = Unit {0}
 LengthCause limit left left' InputTooLong = TakesExactly (limit + 1) left left'
 
--- whether it says that the source failed
+-- a status that tells that the source failed
 abbrev pub says_read_fault : Status → Bool
 says_read_fault ReadFault = true
 says_read_fault _ = false
 
--- whether it says that the sink failed
+-- a status that tells that the sink failed
 abbrev pub says_write_fault : Status → Bool
 says_write_fault WriteFault = true
 says_write_fault _ = false
 
--- whether it says that the store failed
+-- a status that tells that the store failed
 abbrev pub says_file_fault : Status → Bool
 says_file_fault (FileIo n path) = true
 says_file_fault _ = false
@@ -103,6 +103,6 @@ pub record IsSteady (before now : ℕ) : Type 0 where
   pub same : now ≡ before
   pub below_last : before < 2 ^ 64 - 1
 
--- the run came to its end, unless memory was wanting
+-- the run came to its end, unless there was not enough memory
 abbrev pub EndsWell : Status → Type 0
 EndsWell status = (status ≡ AllPassed) ⊎ ((status ≡ SomeFailed) ⊎ (status ≡ OutOfMemory))

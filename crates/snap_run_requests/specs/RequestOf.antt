@@ -4,6 +4,7 @@ use Rattle.snap_assert_settings.specs.Replaced.{replacements_of}
 use Rattle.snap_run_requests.specs.Requests.{RequestView}
 use Rattle.snap_run_requests.specs.declared.request.Request.{Request}
 
+-- what a request is seen as
 abbrev pub request_of : Request → RequestView
 request_of request = record {
   module_name = request.module_name;

@@ -12,6 +12,7 @@ use Rattle.snap_store.specs.Fields.{last_value, text_value, line_value}
 use Rattle.snap_assert_place.specs.Place.{names_file}
 use Rattle.snap_assert_settings.specs.Replaced.{ReplacementView}
 
+-- a request: where it stands, its name and expression, the tree, what is redacted, and whether it is sorted
 pub record RequestView : Type 0 where
   pub module_name : List ℕ
   pub file : List ℕ
@@ -67,7 +68,7 @@ abbrev pub redactions_in : Plains → Option (List ReplacementView)
 redactions_in no_items = Some []
 redactions_in (item first more) = needed (redaction_in first) (λ redaction. needed (redactions_in more) (λ redactions. Some (redaction ∷ redactions)))
 
--- none where the key is not there
+-- the redactions of a request; none where the key is not there
 abbrev pub redactions_from : Option Plain → Option (List ReplacementView)
 redactions_from None = Some []
 redactions_from (Some (list items)) = redactions_in items

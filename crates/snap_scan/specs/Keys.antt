@@ -37,6 +37,7 @@ abbrev pub lowered : Option SimpleKey → Option SimpleKey
 lowered None = None
 lowered (Some key) = Some (record key { place = key.place - 1 })
 
+-- no possible key yet
 abbrev pub no_keys : Keys
 no_keys = record { key = None; outer = [] }
 
@@ -45,15 +46,19 @@ abbrev pub has_levels : List (Option SimpleKey) → Bool
 has_levels [] = false
 has_levels (k ∷ ks) = true
 
+-- some key is past that must be one
 abbrev pub any_overdue : Mark → Keys → Bool
 any_overdue mark ks = is_overdue mark ks.key || list_any (is_overdue mark) ks.outer
 
+-- the keys without those that are past
 abbrev pub still_fresh : Mark → Keys → Keys
 still_fresh mark ks = record { key = fresh mark ks.key; outer = map (fresh mark) ks.outer }
 
+-- some key is the first held token
 abbrev pub any_names_first : Keys → Bool
 any_names_first ks = names_first ks.key || list_any names_first ks.outer
 
+-- each key once the first held token was given
 abbrev pub all_lowered : Keys → Keys
 all_lowered ks = record { key = lowered ks.key; outer = map lowered ks.outer }
 

@@ -36,6 +36,7 @@ kind_of_sign flow adjacent p c =
     if c == 64 then k.Refused i.S4 else (
     if c == 96 then k.Refused i.S5 else k.Plain)))))))))))))))))
 
+-- what begins at a place: the end, at column 0 a directive or a document's sign, else by its first character
 abbrev pub kind_of : Bool → ℕ → Place → TokenKind
 kind_of flow adjacent p =
     if slice_index p.left 0 == 0 then k.StreamEnd else (

@@ -11,6 +11,7 @@ pub record Scan : Type 0 where
   pub state : State
   pub error : Option ScanError
 
+-- a scanner before its first token
 abbrev pub start_scan : List ℕ → Scan
 start_scan cs = record { source = cs; state = start_state cs; error = None }
 
@@ -19,6 +20,7 @@ abbrev pub left_while : Option ScanError → State → ℕ
 left_while (Some e) s = 0
 left_while None s = left_of s
 
+-- how many tokens a scanner can still give at most
 abbrev pub left : Scan → ℕ
 left scan = left_while scan.error scan.state
 

@@ -29,6 +29,7 @@ pub record State : Type 0 where
   -- the columns of the open blocks, the innermost first
   pub columns : List ℕ
 
+-- what a fetcher is seen as
 abbrev pub state_of : Fetcher → State
 state_of f = record {
   place = f.cursor;
@@ -41,6 +42,7 @@ state_of f = record {
   columns = f.columns;
 }
 
+-- before the first fetch
 abbrev pub start_state : List ℕ → State
 start_state cs = record {
   place = start_of cs;

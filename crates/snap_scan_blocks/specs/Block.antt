@@ -95,6 +95,7 @@ block_behind indent literal None = None
 block_behind indent literal (Some h) =
     block_of h.header (content_of h.header.indentation indent h.place) (lines_from h.header.indentation indent literal no_lines h.place)
 
+-- the block scalar at a place; none where it is refused
 abbrev pub block_from : Option ℕ → Bool → Place → Option Block
 block_from indent literal p = block_behind indent literal (header_from p)
 
@@ -102,7 +103,7 @@ block_from indent literal p = block_behind indent literal (header_from p)
 abbrev pub block_fault : Place → ScanInfo
 block_fault p = if is_some (header_from p) then S28 else header_fault p
 
--- the scalar was read, and is refused exactly where it is refused here, want of memory aside
+-- the scalar was read, and is refused exactly where it is refused here, out of memory aside
 abbrev pub ReadsBlock : Option Block → Result BlockScalar ScanError → Place → Type 0
 ReadsBlock (Some b) (Ok scalar) p = (scalar.text ≡ b.text) × (scalar.mark ≡ b.mark) × (p ≡ b.place)
 ReadsBlock None (Ok scalar) p = ⊥

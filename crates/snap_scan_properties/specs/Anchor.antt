@@ -16,6 +16,6 @@ ends_name c = is_blank_or_end c || is_among (codes "?:,]}%@`") c
 abbrev pub named : Found (List ℕ) → Result (Found (List ℕ)) ScanInfo
 named name = if is_nothing name.value || not (ends_name (ahead name.place)) then Err S22 else Ok name
 
--- the name behind `*` or `&`
+-- the name after `*` or `&`
 abbrev pub anchor_from : Place → Result (Found (List ℕ)) ScanInfo
 anchor_from p = named (run_of is_alpha (skipped p))

@@ -65,6 +65,7 @@ entitled name =
 abbrev pub closed : Found Directive → Result (Found Directive) ScanInfo
 closed said = if is_break_or_end (ahead (past_comment said.place)) then found said.value (past_break (past_comment said.place)) else Err S6
 
+-- the directive at a place, or what is wrong with it
 abbrev pub directive_from : Place → Result (Found Directive) ScanInfo
 directive_from p = do
   name ← entitled (run_of is_alpha (skipped p))

@@ -39,7 +39,7 @@ abbrev pub Refuses : {T : Type 0} → Result (Found T) ScanInfo → ScanError �
 Refuses there OutOfMemory = Unit {0}
 Refuses there (Syntax mark info) = there ≡ Err (fault_of info)
 
--- what stands there was read, or what is wrong there was named, want of memory aside
+-- what stands there was read, or what is wrong there was named, out of memory aside
 abbrev pub Reads : {T : Type 0} → Result (Found T) ScanInfo → Result T ScanError → Place → Type 0
 Reads there (Ok value) p = there ≡ found value p
 Reads there (Err error) p = Refuses there error

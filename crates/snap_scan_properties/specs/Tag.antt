@@ -44,7 +44,7 @@ shorthand p = if ahead (run_of is_alpha p).place == 33 then with_handle (run_of 
 abbrev pub any_tag : Place → Result (Found Tag) ScanInfo
 any_tag p = if slice_index p.left 1 == 60 then verbatim p else shorthand (skipped p)
 
--- a tag, with white space or the end behind it
+-- a tag, with white space or the end after it
 abbrev pub tag_from : Place → Result (Found Tag) ScanInfo
 tag_from p = do
   tag ← any_tag p

@@ -67,6 +67,7 @@ needed i.P7 = one_of (codes "[{")
 needed i.P8 = one_of (codes "-")
 needed i.P9 = nothing
 
+-- one of these signs
 abbrev pub is_among : List ℕ → ℕ → Bool
 is_among signs c = list_any (λ sign. c == sign) signs
 
@@ -78,8 +79,8 @@ HasCause text info = (needed info).count ≤ count_by (is_among (needed info).si
 abbrev pub explains : ℕ → ScanInfo → Bool
 explains c info = nat_le (needed info).count 1 && is_among (needed info).signs c
 
--- an error of a call that began at a place: want of memory, or a refusal that what was left there explains,
--- and that names a place there or behind it
+-- an error of a call that began at a place: out of memory, or a refusal that what was left there explains,
+-- and that names a place there or after it
 abbrev pub IsExplained : Place → ScanError → Type 0
 IsExplained p OutOfMemory = Unit {0}
 IsExplained p (Syntax mark info) = HasCause p.left info × (p.index ≤ mark.index) × (mark.index ≤ p.index + length p.left)

@@ -5,9 +5,11 @@ use Rattle.snap_scan_tokens.specs.Place.{Place, skipped, skipped_while}
 use Rattle.snap_scan_tokens.specs.declared.characters.Kind.{Kind}
 use Rattle.snap_scan_tokens.specs.declared.characters.Kind.TheVariants as k
 
+-- LF or CR
 abbrev pub is_break : ℕ → Bool
 is_break c = c == 10 || c == 13
 
+-- a blank or a tab
 abbrev pub is_blank : ℕ → Bool
 is_blank c = c == 32 || c == 9
 
@@ -15,16 +17,19 @@ is_blank c = c == 32 || c == 9
 abbrev pub is_pair : ℕ → ℕ → Bool
 is_pair c d = c == 13 && d == 10
 
--- NUL stands for the end of the text
+-- what ends a line or the text, for whose end NUL stands
 abbrev pub is_break_or_end : ℕ → Bool
 is_break_or_end c = is_break c || c == 0
 
+-- a blank, a tab, or what ends a line or the text
 abbrev pub is_blank_or_end : ℕ → Bool
 is_blank_or_end c = is_blank c || is_break_or_end c
 
+-- a comma, a bracket or a brace
 abbrev pub is_flow_sign : ℕ → Bool
 is_flow_sign c = c == 44 || c == 91 || c == 93 || c == 123 || c == 125
 
+-- a decimal digit
 abbrev pub is_digit : ℕ → Bool
 is_digit c = nat_le 48 c && nat_le c 57
 
@@ -48,7 +53,7 @@ is_of k.Word c = not (is_blank_or_end c || is_flow_sign c || c == 58)
 is_of k.SingleQuoted c = not (is_blank_or_end c || c == 39)
 is_of k.DoubleQuoted c = not (is_blank_or_end c || c == 34 || c == 92)
 
--- the place behind the line end that begins here
+-- the place after the line end that begins here
 abbrev pub past_break : Place → Place
 past_break p = if is_pair (slice_index p.left 0) (slice_index p.left 1) then skipped (skipped p) else skipped p
 
@@ -56,7 +61,7 @@ past_break p = if is_pair (slice_index p.left 0) (slice_index p.left 1) then ski
 abbrev pub past_blanks : Place → Place
 past_blanks p = skipped_while (is_of k.Blank) p
 
--- the place behind blanks, and behind the comment that stands there
+-- the place after blanks, and after the comment that stands there
 abbrev pub past_comment : Place → Place
 past_comment p = if slice_index (past_blanks p).left 0 == 35 then skipped_while (is_of k.InLine) (past_blanks p) else past_blanks p
 
@@ -65,11 +70,14 @@ abbrev pub is_document_sign : ℕ → List ℕ → Bool
 is_document_sign sign cs =
     slice_index cs 0 == sign && slice_index cs 1 == sign && slice_index cs 2 == sign && is_blank_or_end (slice_index cs 3)
 
+-- `---` alone at the beginning of a line
 abbrev pub is_document_start : Place → Bool
 is_document_start p = p.col == 0 && is_document_sign 45 p.left
 
+-- `...` alone at the beginning of a line
 abbrev pub is_document_end : Place → Bool
 is_document_end p = p.col == 0 && is_document_sign 46 p.left
 
+-- `---` or `...` alone at the beginning of a line
 abbrev pub is_document_indicator : Place → Bool
 is_document_indicator p = is_document_start p || is_document_end p

@@ -5,10 +5,11 @@ use Rattle.snap_scan_tokens.specs.declared.folding.Fold.{Fold}
 use Rattle.snap_scan_tokens.specs.declared.folding.Fold.TheVariants.{Inline, Broken, Escaped}
 use Rattle.snap_scan_tokens.specs.declared.folding.Gap.{Gap}
 
+-- no white space
 abbrev pub no_gap : Gap
 no_gap = record { fold = Inline; text = [] }
 
--- behind a line end that is escaped
+-- after a line end that is escaped
 abbrev pub escaped_gap : Gap
 escaped_gap = record { fold = Escaped; text = [] }
 
@@ -30,6 +31,7 @@ abbrev pub joined_as : Fold → List ℕ → List ℕ
 joined_as Broken text = if is_nothing text then 32 ∷ [] else text
 joined_as _ text = text
 
+-- what white space stands for once a character follows
 abbrev pub joined : Gap → List ℕ
 joined g = joined_as g.fold g.text
 

@@ -5,6 +5,7 @@ use Rattle.snap_scan_tokens.specs.declared.info.ScanInfo.TheVariants as i
 use Rattle.snap_scan_tokens.specs.declared.info.ScanError.{ScanError}
 use Rattle.snap_scan_tokens.specs.declared.info.ScanError.TheVariants.{Syntax, OutOfMemory}
 
+-- the sentence for each fault
 abbrev pub info_text : ScanInfo → List ℕ
 info_text i.S1 = codes "simple key expect ':'"
 info_text i.S2 = codes "simple key expected"

@@ -3,6 +3,7 @@ use Rattle.std.specs.Prelude.{ℕ, ◌+◌, ◌≡◌, ◌≤◌, ◌==◌, List
 use Rattle.snap_scan_tokens.specs.Mark.{Mark}
 use Rattle.snap_scan_tokens.specs.Pieces.{EndsIn}
 
+-- a place: the characters that are left, the index, the line and the column
 pub record Place : Type 0 where
   pub left : List ℕ
   pub index : ℕ
@@ -18,6 +19,7 @@ before_nul (c ∷ cs) = if c == 0 then [] else c ∷ before_nul cs
 abbrev pub mark_of : Place → Mark
 mark_of p = record { index = p.index; line = p.line; col = p.col }
 
+-- the first place of a text
 abbrev pub start_of : List ℕ → Place
 start_of cs = record { left = cs; index = 0; line = 1; col = 0 }
 
@@ -44,7 +46,7 @@ abbrev pub passed : (ℕ → Bool) → List ℕ → Place → Place
 passed is_one [] p = p
 passed is_one (c ∷ cs) p = if is_one c then passed is_one cs (behind c cs p) else p
 
--- the place behind the characters of a kind that stand here
+-- the place after the characters of a kind that stand here
 abbrev pub skipped_while : (ℕ → Bool) → Place → Place
 skipped_while is_one p = passed is_one p.left p
 

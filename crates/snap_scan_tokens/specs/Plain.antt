@@ -55,10 +55,11 @@ plain_begun indent flow [] p = plain_end no_gap [] p
 plain_begun indent flow (c ∷ cs) p =
     if is_blank c then plain indent flow no_gap [] (c ∷ cs) p else plain indent flow no_gap (c ∷ []) cs (skipped p)
 
+-- the plain scalar at a place; none where it is refused
 abbrev pub plain_from : Option ℕ → Bool → Place → Option Plain
 plain_from indent flow p = plain_begun indent flow p.left p
 
--- the scalar was read, and is refused exactly where it is refused here, want of memory aside
+-- the scalar was read, and is refused exactly where it is refused here, out of memory aside
 abbrev pub ReadsPlain : Option Plain → Result PlainScalar ScanError → Place → Type 0
 ReadsPlain (Some s) (Ok scalar) p = (scalar.text ≡ s.text) × (scalar.is_broken ≡ s.is_broken) × (p ≡ s.place)
 ReadsPlain None (Ok scalar) p = ⊥

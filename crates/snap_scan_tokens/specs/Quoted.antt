@@ -38,6 +38,7 @@ abbrev mutual
   doubled text [] p = None
   doubled text (c ∷ cs) p = single no_gap (text ++ 39 ∷ []) cs (skipped p)
 
+-- the scalar between single quotes at a place; none where it is refused
 abbrev pub single_from : Place → Option Quoted
 single_from p = single no_gap [] (skipped p).left (skipped p)
 
@@ -105,7 +106,7 @@ abbrev mutual
       if c == 92 then escape (text ++ joined g) cs (skipped p) else
       double no_gap (text ++ joined g ++ c ∷ []) cs (skipped p)))))
 
-  -- what stands behind a backslash: a line end, a letter for a character, or a letter and a code
+  -- what stands after a backslash: a line end, a letter for a character, or a letter and a code
   pub escape : List ℕ → List ℕ → Place → Option Quoted
   escape text [] p = None
   escape text (c ∷ cs) p =
@@ -143,6 +144,7 @@ escape_fault p = letter_fault (further_digits (slice_index p.left 0)) (skipped p
 abbrev pub double_at : Piece → Gap → Place → Option Quoted
 double_at text g p = double (gap_of g (before text.behind p.left)) text.text p.left p
 
+-- the scalar between double quotes at a place; none where it is refused
 abbrev pub double_from : Place → Option Quoted
 double_from p = double no_gap [] (skipped p).left (skipped p)
 
@@ -176,7 +178,7 @@ pub record IsInside (quotes : Quotes) (p : Place) : Type 0 where
   pub some : slice_index p.left 0 ≢ 0
   pub going : ends_quoted quotes p.left ≡ false
 
--- the text was read, and is refused exactly where it is refused here, want of memory aside
+-- the text was read, and is refused exactly where it is refused here, out of memory aside
 abbrev pub ReadsQuoted : Option Quoted → Result (List ℕ) ScanError → Place → Type 0
 ReadsQuoted (Some q) (Ok text) p = (text ≡ q.text) × (p ≡ q.place)
 ReadsQuoted None (Ok text) p = ⊥

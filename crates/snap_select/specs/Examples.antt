@@ -5,6 +5,7 @@ use Rattle.snap_select.specs.Grammar.{IsSelector}
 use Rattle.snap_select.specs.declared.fault.SelectFault.TheVariants.{BadToken, DeepTwice, TooLarge}
 use Rattle.snap_select.specs.declared.segment.Segment.TheVariants.{DeepWildcard, Wildcard, Key, Index, Range}
 
+-- texts that are selectors, and their parts
 pub record AreSelected : Type 0 where
   pub root : IsSelector (codes ".") ([] ∷ [])
   pub dot_before_bracket : IsSelector (codes ".[0]") ((Index 0 ∷ []) ∷ [])
@@ -21,6 +22,7 @@ pub record AreSelected : Type 0 where
   pub large_index : IsSelector (codes "[9223372036854775808]") ((Index 9223372036854775808 ∷ []) ∷ [])
   pub least_bound : IsSelector (codes "[-9223372036854775808:]") ((Range (Some (negsuc 9223372036854775807)) None ∷ []) ∷ [])
 
+-- texts that are no selectors, and their faults
 pub record AreRefused : Type 0 where
   pub open_bracket : IsFault (codes ".a[") BadToken 4
   pub last_dot : IsFault (codes ".a.") BadToken 4

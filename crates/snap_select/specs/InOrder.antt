@@ -11,7 +11,7 @@ abbrev pub put_in : {X : Type 0} → (X → X → Ordering) → X → List X →
 put_in cmp x [] = x ∷ []
 put_in cmp x (y ∷ ys) = if is_lt (cmp y x) then y ∷ put_in cmp x ys else x ∷ y ∷ ys
 
--- each element put into the order of those that stood behind it, so that equal ones stay as they stood.
+-- each element put into the order of those that stood after it, so that equal ones stay as they stood.
 -- That this is the one outcome of a stable sort is a law.
 abbrev pub ordered : {X : Type 0} → (X → X → Ordering) → List X → List X
 ordered cmp [] = []
@@ -40,6 +40,7 @@ fields_in (t.field name value rest) = (name, value) ∷ fields_in rest
 abbrev pub pair_cmp : t.Tree × t.Tree → t.Tree × t.Tree → Ordering
 pair_cmp p q = ordering_then (tree_cmp p.0 q.0) (tree_cmp p.1 q.1)
 
+-- fields by their names, then by their values
 abbrev pub field_cmp : List ℕ × t.Tree → List ℕ × t.Tree → Ordering
 field_cmp f g = ordering_then (text_cmp f.0 g.0) (tree_cmp f.1 g.1)
 

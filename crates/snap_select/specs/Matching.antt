@@ -19,6 +19,7 @@ pub data Step : Type 0 where
   into_field : List ℕ → Step
   to_item : ℕ → ℕ → Step
 
+-- the step of a part of a path
 abbrev pub step_of : PathItem → Step
 step_of (i.Content key) = under_key (tree key)
 step_of (i.Field name) = into_field name

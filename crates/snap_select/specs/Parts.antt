@@ -2,6 +2,6 @@
 use Rattle.std.specs.Prelude.{List}
 use Rattle.snap_select.specs.declared.segment.Segment.{Segment}
 
--- its parts, each with its segments
+-- the parts of a selector, each with its segments
 abbrev pub Parts : Type 0
 Parts = List (List Segment)

@@ -22,7 +22,7 @@ Gives {g = g} function t steps out =
     (alloc : _) × (value : _) × (path : _) × (new : _) × (tree value ≡ t) × (map step_of path.now ≡ steps) × (tree new ≡ out)
     × g.post (function.func.vtable, function.func.value) (alloc, (value, (path, tt))) (Ok new)
 
--- the same tree; the value in order; what an object allows; what a function promises
+-- what may be put in place of a value: the same tree; the value in order; what an object allows; what a function promises
 abbrev pub Puts : {X : Type 0} {P : X → Type 0} {Y : Type 0} {Q : Y → Type 0} {g : _} → Objects X P → Redaction X Y P Q g → Allowed
 Puts allows (Static content) t steps out = out ≡ tree content
 Puts allows Sorted t steps out = out ≡ in_order t

@@ -213,6 +213,7 @@ abbrev pub stepped : Option Place → ℕ → (Place → Outcome) → Outcome
 stepped None left o = refuses BadToken left
 stepped (Some to) left o = o to
 
+-- where these characters lead from a place
 abbrev pub outcome : Place → List ℕ → Outcome
 outcome place [] = at_end (ended place)
 outcome place (c ∷ cs) = going (flaw place c) (since place) (suc (length cs)) (stepped (step place c) (suc (length cs)) (λ to. outcome to cs))

@@ -45,6 +45,6 @@ abbrev mutual
       t.field name (put_or ss put (path ++ into_field name ∷ []) value (inside ss put (path ++ into_field name ∷ []) value))
       (redacted_fields ss put path rest)
 
--- the tree at a path
+-- the redacted tree, for a tree at a path, where what is put follows from the value alone
 abbrev pub redacted : Parts → (t.Tree → t.Tree) → List Step → t.Tree → t.Tree
 redacted ss put path c = put_or ss put path c (inside ss put path c)

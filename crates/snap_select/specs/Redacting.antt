@@ -58,7 +58,7 @@ abbrev mutual
 abbrev pub RedactedAt : Parts → Allowed → List Step → t.Tree → t.Tree → Type 0
 RedactedAt ss allows path c out = PutOr ss allows path c out (Inside ss allows path c out)
 
--- of a whole tree, whose path is empty
+-- a redaction of a whole tree, part by part
 pub record IsRedacted (ss : Parts) (allows : Allowed) (c out : t.Tree) : Type 0 where
   pub parts : RedactedAt ss allows [] c out
 

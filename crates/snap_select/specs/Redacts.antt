@@ -56,6 +56,7 @@ pub record RedactsAt (ss : Parts) (allows : Allowed) (path : List Step) (c out :
       → (new : t.Tree) × (part_at out position ≡ Some new) × allows part hit.steps new
   pub kept : (position : List ℕ) (part : t.Tree) → part_at c position ≡ Some part → IsUntouched ss path c position → IsKept out position part
 
--- of a whole tree, whose path is empty
+-- a redaction of a whole tree: each hit position holds a tree that may be put in place of the part that was there, and each other one
+-- outside of those its node
 pub record Redacts (ss : Parts) (allows : Allowed) (c out : t.Tree) : Type 0 where
   pub at_root : RedactsAt ss allows [] c out

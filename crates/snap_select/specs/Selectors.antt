@@ -2,6 +2,6 @@
 use Rattle.snap_select.specs.Parts.{Parts}
 use Rattle.snap_select.specs.declared.selector.Selector.{Selector}
 
--- its parts
+-- the parts of a selector, as they are seen
 abbrev pub parts_of : Selector → Parts
 parts_of selector = selector.parts.items

@@ -29,16 +29,17 @@ last_value name (entry key value more) = later_or (last_value name more) (is_nam
 abbrev pub is_filled : List ℕ → Plain → Plain → Bool
 is_filled name key value = if is_named name key then (if is_nil value then false else true) else false
 
+-- the last value under a name that is not nil
 abbrev pub last_filled : List ℕ → Entries → Option Plain
 last_filled name no_entries = None
 last_filled name (entry key value more) = later_or (last_filled name more) (is_filled name key value) value
 
--- a field of another type is as if it were not there
+-- the text of a field; one of another type is as if it were not there
 abbrev pub text_value : Option Plain → Option (List ℕ)
 text_value (Some (text s)) = Some s
 text_value _ = None
 
--- a line's number is below 2^32
+-- the number of a line, which is below 2^32
 abbrev pub line_value : Option Plain → Option ℕ
 line_value (Some (int (pos n))) = if nat_lt n (2 ^ 32) then Some n else None
 line_value _ = None

@@ -55,6 +55,7 @@ header_text (piece ∷ rest) = piece ++ concat (up_to_fence rest)
 abbrev pub lines_text : List (List ℕ) → List ℕ
 lines_text rest = joined_lines (map line_of rest)
 
+-- the first line of a file is `---`, without white space at its end
 abbrev pub is_headed : List ℕ → Bool
 is_headed text = first_is_fence (ended_lines text)
 
@@ -83,6 +84,7 @@ abbrev pub past_blank : List (List ℕ) → List (List ℕ)
 past_blank [] = []
 past_blank (line ∷ lines) = if is_blank line then lines else past_blank lines
 
+-- the body of a file without a header: the lines after the first blank one
 abbrev pub legacy_body : List ℕ → List ℕ
 legacy_body text = joined_lines (past_blank (legacy_lines text))
 

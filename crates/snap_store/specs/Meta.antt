@@ -6,6 +6,7 @@ use Rattle.snap_store.specs.FileSplit.{legacy_source, legacy_expression}
 use Rattle.snap_store.specs.declared.metadata.SnapshotKind.{SnapshotKind}
 use Rattle.snap_store.specs.declared.metadata.SnapshotKind.TheVariants.{Text, Binary}
 
+-- metadata: the source, the line, the description, the expression, the info, the input file and the kind
 pub record Meta : Type 0 where
   pub source : Option (List ℕ)
   pub assertion_line : Option ℕ
@@ -15,20 +16,21 @@ pub record Meta : Type 0 where
   pub input_file : Option (List ℕ)
   pub kind : SnapshotKind
 
+-- metadata of a text without any field
 abbrev pub empty_meta : Meta
 empty_meta = record { source = None; assertion_line = None; description = None; expression = None; info = None; input_file = None; kind = Text }
 
--- of a file without a header two fields are known
+-- the metadata of a file without a header: two fields at most
 abbrev pub legacy_meta : List ℕ → Meta
 legacy_meta whole = record empty_meta { source = legacy_source whole; expression = legacy_expression whole }
 
--- an empty text is not shown
+-- the text of a field, where it is not empty
 abbrev pub shown_text : Option (List ℕ) → Option (List ℕ)
 shown_text None = None
 shown_text (Some []) = None
 shown_text (Some (c ∷ cs)) = Some (c ∷ cs)
 
--- what is written into the file of an approved snapshot
+-- metadata as they are written into the file of an approved snapshot, without the line
 abbrev pub without_line : Meta → Meta
 without_line meta = record meta { assertion_line = None }
 
@@ -56,5 +58,6 @@ header_entries meta =
     text_field (codes "source") meta.source (line_field meta.assertion_line (text_field (codes "description") meta.description (
     text_field (codes "expression") meta.expression (info_field meta.info (text_field (codes "input_file") meta.input_file (kind_fields meta.kind))))))
 
+-- the tree of a header: a dict of the fields that are set, in their order
 abbrev pub header_tree : Meta → Plain
 header_tree meta = dict (header_entries meta)

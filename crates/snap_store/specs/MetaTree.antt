@@ -34,6 +34,7 @@ meta_pairs meta =
     text_pair (codes "source") meta.source (line_pair meta.assertion_line (text_pair (codes "description") meta.description (
     text_pair (codes "expression") meta.expression (info_pair meta.info (text_pair (codes "input_file") meta.input_file (kind_pairs meta.kind))))))
 
+-- metadata as a tree: a map of the fields that are set, in their order
 abbrev pub meta_tree : Meta → Tree
 meta_tree meta = map (meta_pairs meta)
 
@@ -42,6 +43,7 @@ abbrev pub filled_info : Option Tree → Option Tree
 filled_info None = None
 filled_info (Some info) = if is_nil info then None else Some info
 
+-- metadata in which a nil info is as if it were not there
 abbrev pub without_nil_info : Meta → Meta
 without_nil_info meta = record meta { info = filled_info meta.info }
 

@@ -9,6 +9,7 @@ use Rattle.snap_store.specs.declared.contents.SnapshotContents.{SnapshotContents
 use Rattle.snap_store.specs.declared.contents.SnapshotContents.TheVariants.{Text, Binary}
 use Rattle.snap_store.specs.declared.snapshot.Snapshot.{Snapshot}
 
+-- what metadata are seen as
 abbrev pub meta_of : MetaData → Meta
 meta_of metadata = record {
   source = metadata.source;
@@ -20,19 +21,23 @@ meta_of metadata = record {
   kind = metadata.kind;
 }
 
+-- the module of a snapshot
 abbrev pub module_in : Snapshot → List ℕ
 module_in snapshot = snapshot.module_name
 
+-- the name of a snapshot, if it has one
 abbrev pub name_in : Snapshot → Option (List ℕ)
 name_in snapshot = snapshot.snapshot_name
 
+-- what the metadata of a snapshot are seen as
 abbrev pub meta_in : Snapshot → Meta
 meta_in snapshot = meta_of snapshot.metadata
 
+-- the contents of a snapshot
 abbrev pub contents_in : Snapshot → SnapshotContents
 contents_in snapshot = snapshot.contents
 
--- whether it was read from a file without a header
+-- a snapshot that was read from a file without a header
 abbrev pub legacy_in : Snapshot → Bool
 legacy_in snapshot = snapshot.was_legacy
 

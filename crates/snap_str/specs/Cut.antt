@@ -18,7 +18,7 @@ pub record IsCutAtLast (mark : ℕ) (text before behind : List ℕ) : Type 0 whe
   pub is : text ≡ before ++ mark ∷ behind
   pub last : Lacks mark behind
 
--- the part holds no mark, and is the whole text or stands behind a mark at its end
+-- the part holds no mark, and is the whole text or stands after a mark at its end
 abbrev pub IsLastPart : ℕ → List ℕ → List ℕ → Type 0
 IsLastPart mark text part = Lacks mark part × ((text ≡ part) ⊎ ((before : List ℕ) × (text ≡ before ++ mark ∷ part)))
 

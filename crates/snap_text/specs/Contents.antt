@@ -15,6 +15,7 @@ use Rattle.snap_text.specs.declared.contents.TextSnapshotKind.TheVariants.{Inlin
 abbrev pub raw_of : TextSnapshotContents → List ℕ
 raw_of contents = contents.raw
 
+-- the kind of a text
 abbrev pub kind_of : TextSnapshotContents → TextSnapshotKind
 kind_of contents = contents.kind
 
@@ -40,9 +41,11 @@ width_as File text = 0
 abbrev pub compared_of : TextSnapshotContents → List ℕ
 compared_of contents = compared_as (kind_of contents) (raw_of contents)
 
+-- the normal form of a text, by its kind
 abbrev pub normal_of : TextSnapshotContents → List ℕ
 normal_of contents = normal_as (kind_of contents) (raw_of contents)
 
+-- the older form of a text, by its kind
 abbrev pub legacy_of : TextSnapshotContents → List ℕ
 legacy_of contents = legacy_as (kind_of contents) (raw_of contents)
 

@@ -19,6 +19,7 @@ shortest found best ([] ∷ rest) = shortest found best rest
 shortest found best ((c ∷ cs) ∷ rest) =
     if not found || nat_lt (length (lead (c ∷ cs))) (length best) then shortest true (lead (c ∷ cs)) rest else shortest found best rest
 
+-- of the lines of the trimmed text that have a character, the first shortest run of blanks and tabs at their front
 abbrev pub indentation_of : List ℕ → List ℕ
 indentation_of text = shortest false [] (lines (trimmed text))
 
@@ -35,14 +36,18 @@ abbrev pub joined_from : ℕ → List (List ℕ) → List ℕ
 joined_from n [] = []
 joined_from n (line ∷ rest) = from_byte n line ++ flat_map (behind_end n) rest
 
+-- at most one line
 abbrev pub is_short : List (List ℕ) → Bool
 is_short [] = true
 is_short (line ∷ []) = true
 is_short (line ∷ next ∷ rest) = false
 
+-- an inline text without its indentation: the trimmed text where that has at most one line, else each line of the whole text from that many
+-- bytes on
 abbrev pub normalized : List ℕ → List ℕ
 normalized text = if is_short (lines (trimmed text)) then trimmed text else joined_from (length (indentation_of text)) (lines text)
 
+-- the normal form of an inline text: without its indentation, then trimmed and without the carriage returns before line ends
 abbrev pub inline_normal : List ℕ → List ℕ
 inline_normal text = normal (normalized text)
 

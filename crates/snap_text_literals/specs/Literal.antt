@@ -27,5 +27,6 @@ pub record IsRaw (source text : List ℕ) : Type 0 where
   pub is : source ≡ 114 ∷ (hashes count ++ 34 ∷ body)
   pub spelled : IsBody count body text
 
+-- a source is a literal of this text: quoted with escapes, or raw
 abbrev pub literal_reads : List ℕ → List ℕ → Type 0
 literal_reads source text = IsQuoted source text ⊎ IsRaw source text

@@ -6,6 +6,7 @@ use Rattle.snap_text_literals.specs.Hashes.{hashes, required}
 use Rattle.snap_text_literals.specs.Lines.{is_line_end}
 use Rattle.snap_str.specs.Lines.{onto}
 
+-- a control character
 abbrev pub is_control : ℕ → Bool
 is_control c = nat_lt c 32 || (nat_le 127 c && nat_le c 159)
 
@@ -27,6 +28,7 @@ escaped_char c =
     if c == 92 then 92 ∷ 92 ∷ [] else (
     if is_control c then 92 ∷ 117 ∷ 123 ∷ (digits c ++ 125 ∷ []) else c ∷ []))))))
 
+-- a backslash or a quote
 abbrev pub is_marked : ℕ → Bool
 is_marked c = c == 92 || c == 34
 
@@ -65,5 +67,6 @@ meant indentation text = if list_any is_hidden text then text else shown indenta
 abbrev pub is_indent : ℕ → Bool
 is_indent c = c == 32 || c == 9
 
+-- blanks and tabs alone
 abbrev pub IsIndentation : List ℕ → Type 0
 IsIndentation text = list_all is_indent text ≡ true

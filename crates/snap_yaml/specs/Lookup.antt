@@ -22,12 +22,12 @@ abbrev pub first_value : (Value → Bool) → ValuePairs → Option Value
 first_value is_key no_pairs = None
 first_value is_key (pair k v ps) = if is_key k then Some v else first_value is_key ps
 
--- the value behind the text, in a hash
+-- the value under the text, in a hash
 abbrev pub value_at_text : List ℕ → Value → Option Value
 value_at_text name (hash ps) = first_value (is_text name) ps
 value_at_text name _ = None
 
--- the item at the index of an array, and in a hash the value behind that number
+-- the item at the index of an array, and in a hash the value under that number
 abbrev pub value_at_index : ℕ → Value → Option Value
 value_at_index n (array vs) = slice_get (listed vs) n
 value_at_index n (hash ps) = first_value (is_number n) ps

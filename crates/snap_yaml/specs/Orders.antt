@@ -17,6 +17,7 @@ place (hash _) = 5
 place null = 6
 place bad_value = 7
 
+-- the order of values: by the places of their variants, then by what they hold; lists element by element, a beginning before what goes on
 abbrev mutual
   pub value_cmp : Value → Value → Ordering
   value_cmp (real s) (real s') = text_cmp s s'

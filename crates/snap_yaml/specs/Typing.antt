@@ -48,6 +48,7 @@ typed_word w =
     if bytes_eq w (codes "true") then boolean true else (
     if bytes_eq w (codes "false") then boolean false else typed_number w))
 
+-- what a plain scalar is typed as, by the first rule that fits
 abbrev pub typed_yaml : List ℕ → Value
 typed_yaml w = integer_or (prefixed_number w) (typed_word w)
 
@@ -77,6 +78,6 @@ typed_as suffix w =
     if bytes_eq suffix (codes "float") then typed_float w else (
     if bytes_eq suffix (codes "null") then typed_null w else string w)))
 
--- a plain scalar behind a tag; another handle, as another suffix, makes a text of it
+-- a plain scalar after a tag; another handle, as another suffix, makes a text of it
 abbrev pub tagged : List ℕ → List ℕ → List ℕ → Value
 tagged handle suffix w = if bytes_eq handle (codes "!!") then typed_as suffix w else string w

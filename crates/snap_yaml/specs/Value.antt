@@ -1,6 +1,7 @@
 -- A value of a document as plain data: what a `Yaml` means, without memory.
 use Rattle.std.specs.Prelude.{ℕ, ℤ, Bool, List, [], ◌∷◌}
 
+-- a value: a number that is kept as its text, a whole number of 64 bits, a text, a truth value, an array, a hash, null, or a bad value
 mutual
   pub data Value : Type 0 where
     real : List ℕ → Value

@@ -29,9 +29,11 @@ Array = l.List Yaml
 abbrev pub Hash : Type 0
 Hash = l.List (Yaml × Yaml)
 
+-- the items of an array, in their order
 abbrev pub array_list : Array → List Yaml
 array_list = items_of
 
+-- the pairs of a hash, in their order
 abbrev pub hash_list : Hash → List (Yaml × Yaml)
 hash_list = items_of
 
@@ -42,5 +44,6 @@ array_values ys = v.values_of (map value_of ys)
 abbrev pub pair_value : Yaml × Yaml → v.Value × v.Value
 pair_value p = (value_of p.0, value_of p.1)
 
+-- the values of pairs
 abbrev pub hash_values : List (Yaml × Yaml) → v.ValuePairs
 hash_values ps = v.pairs_of (map pair_value ps)

@@ -1,4 +1,4 @@
-//! Tests of the scanner and the crates below it through their public calls, beside the rows of `scan_lines`, which hold its tokens
+//! Tests of the scanner and the crates below it through their public calls, beside the rows of `rows_yaml_read`, which hold its tokens
 //! against the original's: `places` and `pieces` of `snap_scan_tokens`, `properties` and `property_faults` of `snap_scan_properties`,
 //! `block_scalars` of `snap_scan_blocks`, `calls` of `snap_scan`. They stand apart, since a crate with tests is proved twice.
 #![tactic(auto)]

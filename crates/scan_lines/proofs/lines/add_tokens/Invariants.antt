@@ -1,5 +1,0 @@
-use Rattle.snap_scan.specs.Scan.{left}
-use Rattle.scan_lines.proofs.lines.add_tokens.Given as goal
-
-abbrev pub decreases-tokens : goal.decreases-tokens
-decreases-tokens l = left l.scanner
