@@ -1,5 +1,5 @@
 -- Scalars in quotes, whichever these are, one step further.
-use Rattle.snap_scan_tokens.proofs.Prelude.{◌≡◌, ◌≢◌, ◌||◌, ◌&&◌, ◌==◌, ℕ, [], ◌∷◌, Bool, true, false, not, slice_index, Option, refl, arith, sym, subst, both_first, both_second, eqb-true, Gap, is_blank, is_break, past_break, is_document_indicator, with_break, gap_of, Piece, before, EndsIn, Place, skipped, Quoted, quoted_end, None, Quotes, sign_of, ends_quoted, quoted_at, Mark, Syntax, S29, S30, IsRefusedBy, is_among, explains}
+use Rattle.snap_scan_tokens.proofs.Prelude.{◌≡◌, ◌||◌, ◌==◌, ℕ, [], ◌∷◌, Bool, true, false, not, slice_index, refl, sym, subst, both_first, both_second, eqb-true, Gap, is_blank, is_break, past_break, is_document_indicator, with_break, gap_of, Piece, before, EndsIn, Place, skipped, quoted_end, None, Quotes, sign_of, ends_quoted, quoted_at, Mark, Syntax, S29, S30, IsRefusedBy, is_among, explains}
 use Rattle.snap_scan_tokens.specs.declared.quoted.Quotes.TheVariants as q
 use Rattle.snap_scan_tokens.specs.declared.info.ScanInfo.{ScanInfo}
 use Rattle.snap_scan_tokens.proofs.Singles.{single-blank, single-break, single-refused, single-closed}
@@ -21,12 +21,6 @@ pub quoted-refused : (k : Quotes) (t : Piece) (g : Gap) (p : Place) → is_blank
     → (is_document_indicator p || slice_index p.left 0 == 0) ≡ true → quoted_at k t g p ≡ None
 quoted-refused q.Single t g p blank broken stop = single-refused t g p blank broken stop
 quoted-refused q.Double t g p blank broken stop = double-refused t g p blank broken stop
-
--- not one of two facts
-pub no-second : (a b : Bool) → a ≡ true → (a && not b) ≡ false → b ≡ true
-no-second true true is none = refl
-no-second true false is none = absurd (cc)
-no-second false b is none = absurd (cc)
 
 not-so : (b : Bool) → not b ≡ true → b ≡ false
 not-so true is = absurd (cc)

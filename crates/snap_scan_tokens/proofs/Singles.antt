@@ -150,27 +150,3 @@ closed-at g text (c ∷ cs) i l j sign quote alone =
 pub single-closed : (t : Piece) (g : Gap) (p : Place) → is_document_indicator p ≡ false → slice_index p.left 0 ≡ 39 → slice_index p.left 1 ≢ 39
     → single_at t g p ≡ quoted_end (gap_of g (before t.behind p.left)) t.text p
 single-closed t g p sign quote alone = closed-at (gap_of g (before t.behind p.left)) t.text p.left p.index p.line p.col sign quote alone
-
-doubled-at : (g : Gap) (text cs : List ℕ) (i l j : ℕ) → is_document_indicator (at cs i l j) ≡ false → slice_index cs 0 ≡ 39 → slice_index cs 1 ≡ 39
-    → single no_gap ((text ++ joined g) ++ 39 ∷ []) (skipped (skipped (at cs i l j))).left (skipped (skipped (at cs i l j))) ≡ single g text cs (at cs i l j)
-doubled-at g text [] i l j sign quote twice = absurd (cc)
-doubled-at g text (c ∷ []) i l j sign quote twice = absurd (cc)
-doubled-at g text (c ∷ d ∷ ds) i l j sign quote twice =
-    let blank : is_blank c ≡ false = rw quote refl in
-    let broken : is_break c ≡ false = rw quote refl in
-    let nul : (c == 0) ≡ false = rw quote refl in
-    let is : (c == 39) ≡ true = rw quote refl in
-    let again : (d == 39) ≡ true = rw twice refl in
-    let stop : (is_document_indicator (at (c ∷ d ∷ ds) i l j) || c == 0) ≡ false = or_from (is_document_indicator (at (c ∷ d ∷ ds) i l j)) (c == 0) sign nul in
-    rw (blank, broken, stop, is, again) refl
-
--- two quotes
-pub single-doubled : (t u : Piece) (g : Gap) (p q : Place) → is_document_indicator p ≡ false → slice_index p.left 0 ≡ 39 → slice_index p.left 1 ≡ 39
-    → q ≡ skipped (skipped p) → u ≡ record { text = (t.text ++ joined (gap_of g (before t.behind p.left))) ++ 39 ∷ []; behind = q.left }
-    → single_at u no_gap q ≡ single_at t g p
-single-doubled t u g p q sign quote twice is text =
-    let h : Gap = gap_of g (before t.behind p.left) in
-    let f : Gap → Option Quoted = λ k. single k ((t.text ++ joined h) ++ 39 ∷ []) q.left q in
-    let P : Place → Type 0 = λ x. single no_gap ((t.text ++ joined h) ++ 39 ∷ []) x.left x ≡ single_at t g p in
-    let U : Piece → Type 0 = λ x. single_at x no_gap q ≡ single_at t g p in
-    subst U (sym text) (ap f (gap-none q.left) ∙ subst P (sym is) (doubled-at h t.text p.left p.index p.line p.col sign quote twice))

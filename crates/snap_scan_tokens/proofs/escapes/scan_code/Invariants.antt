@@ -1,4 +1,4 @@
-use Rattle.snap_scan_tokens.proofs.Prelude.{◌≡◌, ◌≤◌, ◌<◌, ◌+◌, ◌-◌, ◌^◌, ℕ, List, length, EndsIn, Travels, digits, are_digits}
+use Rattle.snap_scan_tokens.proofs.Prelude.{◌≡◌, ◌≤◌, ◌<◌, ◌-◌, ◌^◌, ℕ, List, Travels, digits, are_digits}
 use Rattle.snap_scan_tokens.proofs.escapes.scan_code.Given as goal
 
 abbrev pub invariant-digits : goal.invariant-digits

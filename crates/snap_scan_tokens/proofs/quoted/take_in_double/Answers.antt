@@ -1,6 +1,5 @@
-use Rattle.snap_scan_tokens.proofs.Prelude.{◌≡◌, ◌∙◌, ◌==◌, false, slice_index, refl, sym, subst, Gap, Piece, EndsIn, Place, double_at}
+use Rattle.snap_scan_tokens.proofs.Prelude.{◌≡◌, ◌∙◌, ◌==◌, false, slice_index, sym, subst, Gap, Place, double_at}
 use Rattle.snap_scan_tokens.proofs.Doubles.{double-word}
-use Rattle.snap_scan_tokens.proofs.Pieces.{ends-same}
 use Rattle.snap_scan_tokens.proofs.quoted.take_in_double.Goals as goal
 
 pub returns-clause-value : goal.returns-clause-value

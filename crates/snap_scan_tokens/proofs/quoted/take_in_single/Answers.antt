@@ -1,7 +1,5 @@
-use Rattle.snap_scan_tokens.proofs.Prelude.{◌≡◌, ◌∙◌, ◌==◌, true, false, slice_index, refl, sym, subst, eqb-true, Gap, Piece, EndsIn, Place, single_at}
-use Rattle.snap_scan_tokens.proofs.EitherQuotes.{no-second}
-use Rattle.snap_scan_tokens.proofs.Singles.{single-word, single-doubled}
-use Rattle.snap_scan_tokens.proofs.Pieces.{ends-same}
+use Rattle.snap_scan_tokens.proofs.Prelude.{◌≡◌, ◌∙◌, sym, subst, Gap, Place, single_at}
+use Rattle.snap_scan_tokens.proofs.Singles.{single-word}
 use Rattle.snap_scan_tokens.proofs.quoted.take_in_single.Goals as goal
 
 pub returns-clause-value : goal.returns-clause-value

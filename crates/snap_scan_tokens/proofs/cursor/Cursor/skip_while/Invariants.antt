@@ -1,4 +1,4 @@
-use Rattle.snap_scan_tokens.proofs.Prelude.{◌≡◌, ◌≤◌, ◌+◌, ℕ, List, length, Travels, skipped_while, is_of, EndsIn}
+use Rattle.snap_scan_tokens.proofs.Prelude.{◌≡◌, length, Travels, skipped_while, is_of}
 use Rattle.snap_scan_tokens.proofs.cursor.Cursor.skip_while.Given as goal
 
 abbrev pub invariant-characters : goal.invariant-characters
