@@ -103,10 +103,12 @@ abbrev pub IsLoadedIn : List Node → Result Loaded Refusal → Type 0
 IsLoadedIn nodes (Ok loaded) = IsOnly (λ node. IsLoadedOf node loaded) nodes
 IsLoadedIn nodes (Err why) = IsNoDocument nodes why
 
+-- documents are read as a tree where there is one of them, and it is that tree's; else for a reason that holds
 abbrev pub IsTreeIn : List Node → Result Content Refusal → Type 0
 IsTreeIn nodes (Ok made) = IsOnly (λ node. IsTreeOf node made) nodes
 IsTreeIn nodes (Err why) = IsReasonOf nodes why
 
+-- the same of a header, which may hold aliases, and numbers that are kept as texts
 abbrev pub IsHeaderIn : List Node → Result Header Refusal → Type 0
 IsHeaderIn nodes (Ok header) = IsOnly (λ node. IsHeaderTreeOf node header) nodes
 IsHeaderIn nodes (Err why) = IsHeaderReasonOf nodes why

@@ -137,6 +137,7 @@ abbrev pub letter_fault : Option ℕ → List ℕ → ScanInfo
 letter_fault None cs = i.S31
 letter_fault (Some further) cs = code_fault further cs
 
+-- what is wrong with the escape after a backslash that stands before this place
 abbrev pub escape_fault : Place → ScanInfo
 escape_fault p = letter_fault (further_digits (slice_index p.left 0)) (skipped p).left
 
@@ -153,6 +154,7 @@ abbrev pub sign_of : Quotes → ℕ
 sign_of q.Single = 39
 sign_of q.Double = 34
 
+-- the style of a scalar in these quotes
 abbrev pub style_of : Quotes → TScalarStyle
 style_of q.Single = style.SingleQuoted
 style_of q.Double = style.DoubleQuoted
@@ -162,6 +164,7 @@ abbrev pub ends_quoted : Quotes → List ℕ → Bool
 ends_quoted q.Single cs = slice_index cs 0 == 39 && not (slice_index cs 1 == 39)
 ends_quoted q.Double cs = slice_index cs 0 == 34
 
+-- what a scalar in these quotes comes to, which opens at the place
 abbrev pub quoted_from : Quotes → Place → Option Quoted
 quoted_from q.Single p = single_from p
 quoted_from q.Double p = double_from p
