@@ -1,4 +1,4 @@
-use Rattle.snap_scan_blocks.proofs.Prelude.{◌≡◌, ◌≤◌, ◌∙◌, ℕ, List, length, codes, refl, sym, subst, arith, Ok, ScanError, block_fault, header_fault, Mark, Place, BlockScalar, Lines, between, header_from, with_breaks, Passes, IsRefusedOpening, ReadsLines}
+use Rattle.snap_scan_blocks.proofs.Prelude.{◌≡◌, ◌∙◌, ℕ, List, codes, refl, sym, subst, Ok, ScanError, block_fault, header_fault, Mark, Place, BlockScalar, Lines, between, header_from, with_breaks, Passes, IsRefusedOpening, ReadsLines}
 use Rattle.snap_scan_tokens.specs.Causes.{IsRefusedBy, IsFault}
 use Rattle.snap_scan_tokens.specs.declared.info.ScanInfo.{ScanInfo}
 use Rattle.snap_scan_tokens.specs.declared.info.ScanInfo.TheVariants.{S28}

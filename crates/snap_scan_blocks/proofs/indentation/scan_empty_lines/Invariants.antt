@@ -1,4 +1,4 @@
-use Rattle.snap_scan_blocks.proofs.Prelude.{◌≡◌, ◌≤◌, ◌+◌, length, Travels, Passes}
+use Rattle.snap_scan_blocks.proofs.Prelude.{length, Travels, Passes}
 use Rattle.snap_scan_blocks.proofs.indentation.scan_empty_lines.Given as goal
 
 abbrev pub invariant-lines : goal.invariant-lines

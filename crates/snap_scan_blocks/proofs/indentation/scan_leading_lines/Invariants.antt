@@ -1,4 +1,4 @@
-use Rattle.snap_scan_blocks.proofs.Prelude.{◌≡◌, ◌≤◌, ◌+◌, ℕ, max, length, Travels, widest, first_sign, Passes}
+use Rattle.snap_scan_blocks.proofs.Prelude.{◌≡◌, ◌≤◌, ℕ, max, length, Travels, widest, first_sign, Passes}
 use Rattle.snap_scan_blocks.proofs.indentation.scan_leading_lines.Given as goal
 
 abbrev pub invariant-lines : goal.invariant-lines

@@ -1,4 +1,4 @@
-use Rattle.snap_scan_blocks.proofs.Prelude.{◌≡◌, ◌∙◌, ℕ, Bool, true, nat_lt, slice_index, sym, ap, arith, Mark, Place, with_breaks}
+use Rattle.snap_scan_blocks.proofs.Prelude.{◌≡◌, ◌∙◌, ℕ, Bool, true, nat_lt, slice_index, sym, ap, Mark, Place, with_breaks}
 use Rattle.snap_scan_blocks.proofs.Between.{between-space, opened-space}
 use Rattle.snap_scan_tokens.proofs.Places.{travels-on}
 use Rattle.snap_scan_blocks.proofs.indentation.skip_indentation.Goals as goal

@@ -1,4 +1,4 @@
-use Rattle.snap_scan_blocks.proofs.Prelude.{◌≡◌, ◌≤◌, ◌+◌, ℕ, List, length, Travels, Passes}
+use Rattle.snap_scan_blocks.proofs.Prelude.{ℕ, List, length, Travels, Passes}
 use Rattle.snap_scan_blocks.proofs.indentation.skip_indentation.Given as goal
 
 abbrev pub invariant-spaces : goal.invariant-spaces

@@ -1,4 +1,4 @@
-use Rattle.snap_scan_properties.proofs.Prelude.{◌≡◌, ◌==◌, ◌∙◌, ◌++◌, ℕ, List, [], ◌∷◌, Result, Err, true, false, slice_index, sym, ap, subst, arith, chars, headed, uri_from, ne_eqb, or_from, is_uri, Place, ScanInfo, Found}
+use Rattle.snap_scan_properties.proofs.Prelude.{◌≡◌, ◌==◌, ◌∙◌, ◌++◌, ℕ, List, [], ◌∷◌, Result, Err, true, false, slice_index, sym, ap, subst, chars, headed, uri_from, ne_eqb, or_from, is_uri, Place, ScanInfo, Found}
 use Rattle.snap_scan_properties.proofs.Uris.{headed-refused, headed-end, headed-more, headed-plain}
 use Rattle.snap_scan_tokens.proofs.Places.{travels-on}
 use Rattle.snap_scan_properties.proofs.tag.scan_tag_uri.Goals as goal

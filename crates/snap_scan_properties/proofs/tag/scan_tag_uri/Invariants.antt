@@ -1,4 +1,4 @@
-use Rattle.snap_scan_properties.proofs.Prelude.{◌≡◌, ◌≤◌, ◌+◌, length, chars, Travels, headed, uri_from}
+use Rattle.snap_scan_properties.proofs.Prelude.{◌≡◌, length, chars, Travels, headed, uri_from}
 use Rattle.snap_scan_properties.proofs.tag.scan_tag_uri.Given as goal
 
 abbrev pub invariant-characters : goal.invariant-characters

@@ -1,4 +1,4 @@
-use Rattle.snap_scan_blocks.proofs.Prelude.{◌≡◌, ◌≤◌, ◌+◌, true, length, Travels, between, is_open}
+use Rattle.snap_scan_blocks.proofs.Prelude.{◌≡◌, true, length, Travels, between, is_open}
 use Rattle.snap_scan_blocks.proofs.lines.Lines.scan.Given as goal
 
 abbrev pub invariant-lines : goal.invariant-lines
