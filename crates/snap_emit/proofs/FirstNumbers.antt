@@ -1,5 +1,5 @@
 -- In a value that is a tree, a number comes first where one stands.
-use Rattle.snap_emit.proofs.Prelude.{◌≡◌, Bool, true, false, ◌||◌, ◌&&◌, Option, Some, None, is_some, option_map, option_and_then, refl, ap, plain_read, plains_read, entries_read, has_number_text, have_number_texts, are_number_texts_in, is_number_first, is_number_first_of, is_number_first_in}
+use Rattle.snap_emit.proofs.Prelude.{◌≡◌, Bool, true, ◌||◌, ◌&&◌, Option, Some, None, is_some, option_map, option_and_then, refl, ap, plain_read, plains_read, entries_read, has_number_text, have_number_texts, are_number_texts_in, is_number_first, is_number_first_of, is_number_first_in}
 use Rattle.snap_content.specs.Plain as p
 use Rattle.snap_yaml.specs.Value as v
 

@@ -1,5 +1,5 @@
 -- What the documents of a text are read as.
-use Rattle.snap_emit.proofs.Prelude.{◌≡◌, ℕ, Bool, true, false, List, [], ◌∷◌, map, Option, Some, None, option_map, Result, Ok, Err, refl, sym, ap, subst, ◌∙◌, IfOk, IfErr, IsOkAnd, Plain, plain, content_of, IsWithin, tree, Content, value_of, array_list, read_value, IsPlain, plain_read, has_number_text, is_number_first}
+use Rattle.snap_emit.proofs.Prelude.{◌≡◌, ℕ, Bool, true, false, List, [], ◌∷◌, map, Option, Some, None, option_map, Result, Ok, Err, refl, sym, ap, subst, ◌∙◌, IfOk, IfErr, IsOkAnd, Plain, plain, content_of, IsWithin, tree, Content, value_of, read_value, plain_read, has_number_text, is_number_first}
 use Rattle.std.proofs.Common.{inl, inr}
 use Rattle.std.specs.Prelude.{◌≢◌}
 use Rattle.snap_scan_tokens.specs.Place.{before_nul}

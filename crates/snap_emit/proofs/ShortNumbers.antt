@@ -1,7 +1,6 @@
 -- The numbers of a document that is read as a tree have at most 128 bits.
 use Rattle.snap_emit.proofs.Prelude.{◌≡◌, ◌^◌, ℕ, ℤ, Bool, true, false, List, [], ◌∷◌, Option, Some, None, option_map, option_and_then, if◌then◌else◌, ◌&&◌, ◌||◌, refl, sym, ap, subst, ◌∙◌, arith, codes, unwrap_or, IsNumber, IsWithin, AreWithin, AreEntriesWithin, tree, Content, content_of, plain, plain_read, plains_read, entries_read, is_whole}
 use Rattle.std.proofs.Common.{pos, negsuc, ◌==◌}
-use Rattle.std.proofs.lemmas.Bool.Decides.{nat_tests}
 use Rattle.std.specs.Str.{bytes_eq}
 use borrow.Author.Tests.{ltb-true}
 use Rattle.snap_content.specs.Numbers.{is_integer_text}
@@ -13,7 +12,7 @@ use Rattle.snap_scan_tokens.specs.declared.token.TScalarStyle.TheVariants as sty
 use Rattle.snap_event.specs.declared.event.Tag.{Tag}
 use Rattle.snap_event.specs.Nodes.{Node, alias, scalar, list, dict, Nodes, no_nodes, node, Pairs, no_pairs, pair}
 use Rattle.snap_yaml.specs.Readers.{is_bad}
-use Rattle.snap_yaml.specs.Typing.{is_integer_in, integer_of, is_digits_in, behind_zero, prefixed_number, is_real_text, integer_or, typed_word, typed_yaml, typed_bool, typed_int, typed_float, typed_null, typed_as, tagged}
+use Rattle.snap_yaml.specs.Typing.{is_integer_in, integer_of, is_digits_in, behind_zero, prefixed_number, is_real_text, integer_or, typed_word, typed_yaml, typed_bool, typed_int, typed_float, typed_null, typed_as}
 use Rattle.snap_yaml.specs.Value as v
 use Rattle.snap_parse.specs.Documents.{plain_value, scalar_value, paired, behind, and_some, node_value, values_in, values_in_pairs, document_value}
 

@@ -1,5 +1,5 @@
 -- What is loaded of a whole stream.
-use Rattle.snap_parse.proofs.Prelude.{◌≡◌, false, List, [], ◌∷◌, ◌++◌, map, sym, ap, ◌∙◌, subst, Blocks, document_of, Plain, document_tokens, plain-source, json_node, Owes, start_scan, before_nul, TokenType, node_of, Event, Node, stream_events, ℕ, Result, IfOk, Value, document_value, steps, start, AreLoadedOf, AreValuesOf, AreNodesOf, scan_error}
+use Rattle.snap_parse.proofs.Prelude.{◌≡◌, false, List, [], ◌∷◌, ◌++◌, map, sym, ap, ◌∙◌, subst, Blocks, document_of, Plain, document_tokens, plain-source, json_node, Owes, start_scan, before_nul, TokenType, node_of, Event, Node, stream_events, ℕ, Result, IfOk, Value, steps, start, AreLoadedOf, AreValuesOf, AreNodesOf, scan_error}
 use Rattle.snap_parse_laws_json.specs.Bounded.{IsJsonOf}
 use Rattle.snap_parse_laws_json.specs.Tokens.{json_stream_tokens}
 use Rattle.snap_parse_laws_json.proofs.Events.{json-events}
