@@ -10,7 +10,8 @@ mod loader;
 mod scalar;
 
 pub use load::YamlLoader;
-pub use snap_event::{Event, EventReceiver, MarkedEventReceiver, Tag};
-pub use snap_parse_events::{LoadError, ParseResult, Parser};
+pub use snap_parse_events::{
+    Event, EventReceiver, LoadError, MarkedEventReceiver, ParseResult, Parser, Tag,
+};
 pub use snap_scan_tokens::{Marker, ScanError, ScanInfo, TScalarStyle};
 pub use snap_yaml::{Array, Hash, Yaml, YamlIter};

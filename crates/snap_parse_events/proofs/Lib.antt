@@ -1,4 +1,5 @@
 mod Prelude
+pub mod WholeStreams
 pub mod Endings
 pub mod Running
 pub mod Naming

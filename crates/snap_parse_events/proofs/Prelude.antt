@@ -3,8 +3,8 @@ pub use Rattle.std.proofs.Common.{◌≡◌, List, [], ◌∷◌, Option, None, 
 pub use Rattle.std.proofs.lemmas.Bool.{and_parts}
 pub use Rattle.std.specs.List.{list_all}
 pub use Rattle.std.specs.Prelude.{⊤, All}
-pub use Rattle.snap_event.specs.Meaning.{Open, due, given, sequence, key, value, Meaning, ahead, open_in, ended, given_at, leaf, start, after, is_stream_end, after_all}
-pub use Rattle.snap_event.specs.declared.event.Event.{Event}
+pub use Rattle.snap_parse_events.specs.Meaning.{Open, due, given, sequence, key, value, Meaning, ahead, open_in, ended, given_in, given_at, leaf, start, after, is_stream_end, after_all}
+pub use Rattle.snap_parse_events.specs.declared.event.Event.{Event}
 pub use Rattle.snap_scan.specs.Owed.{Owes, IsFirst, GivesOwed}
 pub use Rattle.snap_scan.specs.Scan.{start_scan, Scan}
 pub use Rattle.snap_scan.specs.Sound.{Holds, shown, is_end, IsFounded}

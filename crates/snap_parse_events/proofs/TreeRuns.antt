@@ -1,7 +1,7 @@
 -- A tree's tokens yield its events.
 use Rattle.snap_parse_events.proofs.Prelude.{◌≡◌, Bool, true, false, if◌then◌else◌, Option, None, Some, List, [], ◌∷◌, refl, ◌∙◌, subst, TokenType, Event, State, Spot, start_spot, Parsed, at, left_spot, node_step, filled_step, first_document_step, bare, parse_step, Yields, finished, then_one}
 use Rattle.snap_scan_tokens.specs.declared.token.TokenType.TheVariants as k
-use Rattle.snap_event.specs.declared.event.Event.TheVariants as e
+use Rattle.snap_parse_events.specs.declared.event.Event.TheVariants as e
 use Rattle.snap_parse_events.specs.declared.state.State.TheVariants as s
 use Rattle.snap_parse_events.specs.declared.state.Stage.TheVariants as g
 use Rattle.snap_parse_events.specs.declared.state.Ends.TheVariants as n

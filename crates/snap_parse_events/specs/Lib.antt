@@ -1,3 +1,6 @@
+pub mod Meaning
+pub mod Nodes
+pub mod Streams
 pub mod Feed
 pub mod Names
 pub mod Place

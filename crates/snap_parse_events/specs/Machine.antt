@@ -3,8 +3,8 @@ use Rattle.std.specs.Prelude.{◌≡◌, ℕ, ◌+◌, ◌*◌, ◌≤◌, List,
 use Rattle.snap_scan_tokens.specs.declared.info.ScanError.{ScanError}
 use Rattle.snap_scan.specs.Sound.{Holds}
 use Rattle.snap_scan_tokens.specs.Mark.{Mark}
-use Rattle.snap_event.specs.declared.event.Event.{Event}
-use Rattle.snap_event.specs.Meaning.{Open, Meaning, open_in, given_in, after}
+use Rattle.snap_parse_events.specs.declared.event.Event.{Event}
+use Rattle.snap_parse_events.specs.Meaning.{Open, Meaning, open_in, given_in, after}
 use Rattle.snap_parse_events.specs.declared.machine.Machine.{Machine}
 use Rattle.snap_parse_events.specs.declared.state.State.{State}
 use Rattle.snap_parse_events.specs.declared.state.Stage.{Stage}

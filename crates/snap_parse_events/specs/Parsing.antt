@@ -3,8 +3,8 @@ use Rattle.std.specs.Prelude.{◌≡◌, ℕ, List, ◌∷◌, Option, None, Som
 use Rattle.snap_scan_tokens.specs.declared.info.ScanError.{ScanError}
 use Rattle.snap_scan_tokens.specs.declared.token.TokenType.{TokenType}
 use Rattle.snap_scan.specs.Sound.{IsFounded}
-use Rattle.snap_event.specs.declared.event.Event.{Event}
-use Rattle.snap_event.specs.Meaning.{Meaning, after}
+use Rattle.snap_parse_events.specs.declared.event.Event.{Event}
+use Rattle.snap_parse_events.specs.Meaning.{Meaning, after}
 use Rattle.snap_parse_events.specs.declared.tokens.Tokens.{Tokens}
 use Rattle.snap_parse_events.specs.Feed.{source_of, start_tokens}
 use Rattle.snap_parse_events.specs.Names.{Names, no_names, Naming}

@@ -1,9 +1,9 @@
 -- The events that a parser hands on, one after the other.
 use Rattle.std.specs.Prelude.{◌≡◌, Bool, true, false, not, List, [], ◌∷◌, ◌++◌}
 use Rattle.std.specs.List.{list_all}
-use Rattle.snap_event.specs.declared.event.Event.{Event}
-use Rattle.snap_event.specs.declared.event.Event.TheVariants as e
-use Rattle.snap_event.specs.Streams.{IsStream}
+use Rattle.snap_parse_events.specs.declared.event.Event.{Event}
+use Rattle.snap_parse_events.specs.declared.event.Event.TheVariants as e
+use Rattle.snap_parse_events.specs.Streams.{IsStream}
 use Rattle.snap_parse_events.specs.declared.load.Passed.{Passed}
 use Rattle.snap_parse_events.specs.declared.load.Passed.TheVariants as w
 use Rattle.snap_parse_events.specs.Names.{forgotten}

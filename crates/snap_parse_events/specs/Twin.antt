@@ -8,8 +8,8 @@ use Rattle.snap_scan_tokens.specs.declared.info.ScanError.TheVariants.{OutOfMemo
 use Rattle.snap_scan_tokens.specs.declared.token.TokenType.{TokenType}
 use Rattle.snap_scan_tokens.specs.declared.token.TokenType.TheVariants as k
 use Rattle.snap_scan_tokens.specs.declared.token.TScalarStyle.TheVariants as style
-use Rattle.snap_event.specs.declared.event.Event.{Event}
-use Rattle.snap_event.specs.declared.event.Event.TheVariants as e
+use Rattle.snap_parse_events.specs.declared.event.Event.{Event}
+use Rattle.snap_parse_events.specs.declared.event.Event.TheVariants as e
 use Rattle.snap_parse_events.specs.declared.machine.Machine.{Machine}
 use Rattle.snap_parse_events.specs.declared.state.Ends.{Ends}
 use Rattle.snap_parse_events.specs.declared.state.Ends.TheVariants as n

@@ -4,7 +4,7 @@ ghost use Rattle.std.specs.Prelude.{true};
 use crate::machine::{Machine, ParseResult};
 use crate::state::{Ends, Stage, State};
 use crate::tokens::unexpected;
-use snap_event::Event;
+use crate::event::Event;
 use snap_scan_tokens::{ScanInfo, Token, TokenType};
 
 impl<'a> Machine<'a> {

@@ -5,7 +5,7 @@ ghost use Rattle.snap_parse_events.specs.Feed.{tokens_left};
 use crate::machine::{Machine, ParseResult};
 use crate::state::{Ends, Stage, State};
 use crate::tokens::unexpected;
-use snap_event::Event;
+use crate::event::Event;
 use snap_scan_tokens::{Marker, ScanInfo, Token, TokenType};
 
 impl<'a> Machine<'a> {

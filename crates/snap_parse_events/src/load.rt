@@ -1,14 +1,15 @@
 //! Events handed on to a receiver.
 ghost use Rattle.std.specs.Prelude.{◌≡◌, ◌≢◌, ◌<◌, List, ◌∷◌, Err, None, Some, IfOk, OnOk, OnErr, IfErr, true, false};
-ghost use Rattle.snap_event.specs.declared.event.Event.{Event as EventSeen};
-ghost use Rattle.snap_event.specs.Meaning.{ahead, is_inside, is_stream_end};
+ghost use Rattle.snap_parse_events.specs.declared.event.Event.{Event as EventSeen};
+ghost use Rattle.snap_parse_events.specs.Meaning.{ahead, is_inside, is_stream_end};
 ghost use Rattle.snap_parse_events.specs.Errors.{IsLoadFounded};
 ghost use Rattle.snap_parse_events.specs.Parsing.{source, meaning, events_left, WillGive};
 ghost use Rattle.snap_parse_events.specs.Runs.{Steps, passed_of, stops, GetsMore, HandsOn, LoadsUpTo, LoadsPart, TellsStream};
 
 use crate::error::LoadError;
 use crate::parser::Parser;
-use snap_event::{Event, MarkedEventReceiver};
+use crate::event::Event;
+use crate::receiver::MarkedEventReceiver;
 use snap_scan_tokens::Marker;
 
 /// What kind of event was handed on, as far as loading has to know.

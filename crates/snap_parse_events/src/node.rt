@@ -7,7 +7,7 @@ ghost use Rattle.snap_parse_events.specs.Names.{Names, Naming, IsAnchored};
 use crate::machine::{Machine, ParseResult};
 use crate::state::{Ends, Stage, State};
 use snap_content::{Lent, Text};
-use snap_event::{Event, Tag};
+use crate::event::{Event, Tag};
 use snap_scan_tokens::{Marker, ScanError, ScanInfo, TScalarStyle, Token, TokenType};
 
 impl<'a> Machine<'a> {

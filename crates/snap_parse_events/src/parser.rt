@@ -7,8 +7,8 @@ ghost use Rattle.snap_scan_tokens.specs.declared.token.TokenType.{TokenType as K
 ghost use Rattle.snap_scan.specs.Owed.{Owes};
 ghost use Rattle.snap_scan.specs.Scan.{start_scan};
 ghost use Rattle.snap_scan.specs.Sound.{IsFounded};
-ghost use Rattle.snap_event.specs.declared.event.Event.{Event as EventSeen};
-ghost use Rattle.snap_event.specs.Meaning.{ended, is_inside, is_stream_end};
+ghost use Rattle.snap_parse_events.specs.declared.event.Event.{Event as EventSeen};
+ghost use Rattle.snap_parse_events.specs.Meaning.{ended, is_inside, is_stream_end};
 ghost use Rattle.snap_parse_events.specs.Names.{forgotten};
 ghost use Rattle.snap_parse_events.specs.Parsing.{start_parsing, source, meaning, events_left, WillGive, IsNext, KeepsError};
 ghost use Rattle.snap_parse_events.specs.Place.{start_spot};
@@ -16,7 +16,7 @@ ghost use Rattle.snap_parse_events.specs.Twin.{Yields};
 
 use crate::machine::Machine;
 pub use crate::machine::ParseResult;
-use snap_event::Event;
+use crate::event::Event;
 use snap_scan_tokens::ScanError;
 use std::alloc::Global;
 use std::marker::Model;

@@ -1,7 +1,6 @@
 //! Events handed on to receivers.
 use snap_content::{OutOfMemory, Text};
-use snap_event::{Event, EventReceiver, MarkedEventReceiver};
-use snap_parse_events::{LoadError, Parser};
+use snap_parse_events::{Event, EventReceiver, LoadError, MarkedEventReceiver, Parser};
 use snap_scan_tokens::{Marker, ScanError, ScanInfo};
 use std::alloc::Global;
 use std::process::Abort;

@@ -1,5 +1,5 @@
 use Rattle.snap_parse.proofs.Prelude.{◌≡◌, [], Bool, ap, ◌∙◌, refl, chars, Parsing, meaning, json_node, node_of, scan_error}
-use Rattle.snap_event.specs.Meaning.{ahead, is_inside}
+use Rattle.snap_parse_events.specs.Meaning.{ahead, is_inside}
 use Rattle.snap_parse_events.specs.declared.error.LoadError.TheVariants.{OutOfMemory}
 use Rattle.snap_parse.proofs.Loading.{made, made-one, made-laid, printed-given, dumped-given, json-given, laid-given}
 use Rattle.snap_parse.proofs.load.YamlLoader.load_from_str.Goals as goal

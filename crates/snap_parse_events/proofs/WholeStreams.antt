@@ -1,12 +1,8 @@
 -- Events that may come, up to a stream's end, are those of documents.
-use Rattle.std.proofs.Common.{◌≡◌, ◌&&◌, Bool, true, false, Option, None, Some, List, [], ◌∷◌, ◌++◌, refl, sym, ◌∙◌, ap, subst, not, option_and_then}
-use Rattle.std.specs.List.{list_all}
-use Rattle.snap_event.specs.declared.event.Event.{Event}
-use Rattle.snap_event.specs.declared.event.Event.TheVariants as e
-use Rattle.snap_event.specs.Meaning.{Open, due, given, sequence, key, value, Meaning, ahead, open_in, ended, given_in, leaf, start, after, after_all, is_stream_end}
-use Rattle.snap_event.specs.Nodes.{Node, alias, scalar, list, dict, Nodes, no_nodes, node, Pairs, no_pairs, pair, node_onto, nodes_onto, pairs_onto, documents_onto}
-use Rattle.snap_event.specs.Streams.{HasNoEnd, IsStream, AreDocuments}
-use Rattle.std.proofs.lemmas.Bool.{and_parts}
+use Rattle.snap_parse_events.proofs.Prelude.{◌≡◌, ◌&&◌, Bool, true, false, Option, None, Some, List, [], ◌∷◌, ◌++◌, refl, sym, ◌∙◌, ap, subst, not, option_and_then, list_all, and_parts, Event, Open, due, given, sequence, key, value, Meaning, ahead, open_in, ended, given_in, leaf, start, after, after_all, is_stream_end}
+use Rattle.snap_parse_events.specs.declared.event.Event.TheVariants as e
+use Rattle.snap_parse_events.specs.Nodes.{Node, alias, scalar, list, dict, Nodes, no_nodes, node, Pairs, no_pairs, pair, node_onto, nodes_onto, pairs_onto, documents_onto}
+use Rattle.snap_parse_events.specs.Streams.{HasNoEnd, IsStream, AreDocuments}
 
 -- these events end what is open, and the stream
 abbrev Completes : List Open → List Event → Type 0

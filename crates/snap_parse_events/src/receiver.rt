@@ -1,6 +1,6 @@
 //! What gets events, one by one.
 ghost use Rattle.std.specs.Prelude.{List, [], ◌∷◌, ◌++◌, OnOk, OnErr};
-ghost use Rattle.snap_event.specs.declared.event.Event.{Event as EventSeen};
+ghost use Rattle.snap_parse_events.specs.declared.event.Event.{Event as EventSeen};
 
 use crate::event::Event;
 use snap_content::OutOfMemory;
