@@ -8,6 +8,7 @@ pub mod Machine
 pub mod Parsing
 pub mod Runs
 pub mod Errors
+pub mod Context
 pub mod Ends
 pub mod Taking
 pub mod Twin

@@ -8,7 +8,7 @@ ghost use Rattle.snap_parse_events.specs.Names.{no_names, Naming};
 ghost use Rattle.snap_parse_events.specs.Place.{below, weight_below, pending, start_spot};
 
 use crate::anchors::Anchors;
-use crate::state::{Stage, State};
+use crate::state::{Context, Stage, State};
 use crate::tokens::Tokens;
 use snap_content::{Lent, Text};
 use crate::event::Event;
@@ -108,7 +108,7 @@ impl<'a> Machine<'a> {
             State::ImplicitDocumentStart => self.implicit_document_start(),
             State::DocumentStart => self.document_start(),
             State::DocumentContent => self.document_content(),
-            State::BlockNode => self.parse_node(true, false, State::DocumentEnd),
+            State::BlockNode => self.parse_node(Context::Block, State::DocumentEnd),
             State::DocumentEnd => self.document_end(),
             State::BlockSequenceEntry => self.block_sequence_entry(),
             State::IndentlessSequenceEntry => self.indentless_sequence_entry(),

@@ -5,13 +5,14 @@ ghost use Rattle.snap_parse_events.specs.Feed.{tokens_left, Took};
 ghost use Rattle.snap_parse_events.specs.Names.{Names, Naming, IsAnchored};
 
 use crate::machine::{Machine, ParseResult};
-use crate::state::{Ends, Stage, State};
+use crate::state::{Context, Ends, Stage, State};
 use snap_content::{Lent, Text};
 use crate::event::{Event, Tag};
 use snap_scan_tokens::{Marker, ScanError, ScanInfo, TScalarStyle, Token, TokenType};
 
 impl<'a> Machine<'a> {
     ghost use Rattle.snap_scan_tokens.specs.declared.token.TokenType.{TokenType as Kind};
+    ghost use Rattle.snap_parse_events.specs.Context.{takes_indentless};
     ghost use Rattle.snap_parse_events.specs.Taking.{WillTake};
     ghost use Rattle.snap_parse_events.specs.Machine.{spot_of, meaning_now, events_now, events_before, if_indentless, HasSigns, StaysSound, KeepsSoundIn, KeepsSoundFrom, GivesNode, KeepsNames, StaysOnError};
     ghost use Rattle.snap_parse_events.specs.Twin.{Parsed, Parses, Follows, filled_step, node_step};
@@ -19,35 +20,33 @@ impl<'a> Machine<'a> {
     /// A node: its anchor and its tag, in either order, and what they stand before; or an alias.
     pub(crate) fn parse_node(
         &mut self,
-        is_block: bool,
-        is_indentless: bool,
+        context: Context,
         behind: State,
     ) -> ParseResult<'a>
         ensures event { GivesNode behind result self.old self.new }
         ensures left { OnOk result (events_now self.new + 2
-            ≤ events_before (tokens_left self.old.tokens) behind self.old + if_indentless is_indentless) }
+            ≤ events_before (tokens_left self.old.tokens) behind self.old + if_indentless context) }
         ensures names { KeepsNames result self.old self.new }
         ensures same { StaysOnError result self.old self.new }
         ensures sound { KeepsSoundIn behind result self.old self.new }
-        ensures twin { Follows (node_step is_block is_indentless behind self.old.outer.items)
+        ensures twin { Follows (node_step context behind self.old.outer.items)
             result self.old self.new }
     {
         let token = self.tokens.take()?;
-        self.parse_node_from(token, is_block, is_indentless, behind)
+        self.parse_node_from(token, context, behind)
     }
 
     /// The node that a token begins, which was taken.
     pub(crate) fn parse_node_from(
         &mut self,
         token: Token<'a>,
-        is_block: bool,
-        is_indentless: bool,
+        context: Context,
         behind: State,
     ) -> ParseResult<'a>
         ensures event { GivesNode behind result self.old self.new }
         ensures left { OnOk result (events_now self.new
             ≤ events_before (tokens_left self.old.tokens) behind self.old
-            + (2 + if_indentless is_indentless)) }
+            + (2 + if_indentless context)) }
         ensures names { KeepsNames result self.old self.new }
         ensures same { StaysOnError result self.old self.new }
         ensures sound { (source : List ℕ) → Took source token.entry self.old.tokens
@@ -55,7 +54,7 @@ impl<'a> Machine<'a> {
             → StaysSound source result self.new.tokens (spot_of self.new) }
         ensures twin { (rest : List Kind) (found : Parsed) → WillTake self.old.tokens rest
             → self.old.tokens.held ≡ None
-            → node_step is_block is_indentless behind self.old.outer.items (token.entry.1 ∷ rest)
+            → node_step context behind self.old.outer.items (token.entry.1 ∷ rest)
             ≡ Some found
             → Parses result (spot_of self.new) self.new.tokens found }
     {
@@ -63,12 +62,12 @@ impl<'a> Machine<'a> {
             Token(mark, TokenType::Alias(name)) => self.parse_alias(mark, &name, behind),
             Token(_, TokenType::Anchor(name)) => {
                 let anchor = self.anchors.register(name)?;
-                self.parse_anchored(anchor, is_block, is_indentless, behind)
+                self.parse_anchored(anchor, context, behind)
             }
             Token(_, TokenType::Tag(handle, suffix)) => {
-                self.parse_tagged(Tag { handle, suffix }, is_block, is_indentless, behind)
+                self.parse_tagged(Tag { handle, suffix }, context, behind)
             }
-            token => self.parse_content(token, 0, None, is_block, is_indentless, behind),
+            token => self.parse_content(token, 0, None, context, behind),
         }
     }
 
@@ -95,8 +94,7 @@ impl<'a> Machine<'a> {
     fn parse_anchored(
         &mut self,
         anchor: usize,
-        is_block: bool,
-        is_indentless: bool,
+        context: Context,
         behind: State,
     ) -> ParseResult<'a>
         ensures event { GivesNode behind result self.old self.new }
@@ -111,9 +109,9 @@ impl<'a> Machine<'a> {
             Token(_, TokenType::Tag(handle, suffix)) => {
                 let token = self.tokens.take()?;
                 let tag = Some(Tag { handle, suffix });
-                self.parse_content(token, anchor, tag, is_block, is_indentless, behind)
+                self.parse_content(token, anchor, tag, context, behind)
             }
-            token => self.parse_content(token, anchor, None, is_block, is_indentless, behind),
+            token => self.parse_content(token, anchor, None, context, behind),
         }
     }
 
@@ -121,8 +119,7 @@ impl<'a> Machine<'a> {
     fn parse_tagged(
         &mut self,
         tag: Tag,
-        is_block: bool,
-        is_indentless: bool,
+        context: Context,
         behind: State,
     ) -> ParseResult<'a>
         ensures event { GivesNode behind result self.old self.new }
@@ -136,9 +133,9 @@ impl<'a> Machine<'a> {
             Token(_, TokenType::Anchor(name)) => {
                 let anchor = self.anchors.register(name)?;
                 let token = self.tokens.take()?;
-                self.parse_content(token, anchor, Some(tag), is_block, is_indentless, behind)
+                self.parse_content(token, anchor, Some(tag), context, behind)
             }
-            token => self.parse_content(token, 0, Some(tag), is_block, is_indentless, behind),
+            token => self.parse_content(token, 0, Some(tag), context, behind),
         }
     }
 
@@ -148,14 +145,13 @@ impl<'a> Machine<'a> {
         token: Token<'a>,
         anchor: usize,
         tag: Option<Tag>,
-        is_block: bool,
-        is_indentless: bool,
+        context: Context,
         behind: State,
     ) -> ParseResult<'a>
         ensures event { GivesNode behind result self.old self.new }
         ensures left { OnOk result (events_now self.new
             ≤ events_before (tokens_left self.old.tokens) behind self.old + 5) }
-        ensures bare { anchor ≡ 0 → tag ≡ None → is_indentless ≡ false
+        ensures bare { anchor ≡ 0 → tag ≡ None → takes_indentless context ≡ false
             → OnOk result (events_now self.new
             ≤ events_before (tokens_left self.old.tokens) behind self.old + 2) }
         ensures names { (old : Names) → IsAnchored anchor old self.old.anchors
@@ -166,10 +162,12 @@ impl<'a> Machine<'a> {
             → StaysSound source result self.new.tokens (spot_of self.new) }
         ensures twin { (rest : List Kind) (found : Parsed) → anchor ≡ 0 → tag ≡ None
             → WillTake self.old.tokens rest → self.old.tokens.held ≡ None
-            → node_step is_block is_indentless behind self.old.outer.items (token.entry.1 ∷ rest)
+            → node_step context behind self.old.outer.items (token.entry.1 ∷ rest)
             ≡ Some found
             → Parses result (spot_of self.new) self.new.tokens found }
     {
+        let is_block = context.takes_blocks();
+        let is_indentless = context.takes_indentless();
         match token {
             Token(mark, TokenType::Scalar(style, text)) => {
                 self.stage = Stage::Open(behind);
@@ -234,8 +232,7 @@ impl<'a> Machine<'a> {
     pub(crate) fn parse_filled(
         &mut self,
         ends: Ends,
-        is_block: bool,
-        is_indentless: bool,
+        context: Context,
         behind: State,
     ) -> ParseResult<'a>
         ensures event { GivesNode behind result self.old self.new }
@@ -244,12 +241,12 @@ impl<'a> Machine<'a> {
         ensures names { KeepsNames result self.old self.new }
         ensures same { StaysOnError result self.old self.new }
         ensures sound { KeepsSoundIn behind result self.old self.new }
-        ensures twin { Follows (filled_step ends is_block is_indentless behind self.old.outer.items)
+        ensures twin { Follows (filled_step ends context behind self.old.outer.items)
             result self.old self.new }
     {
         let token = self.tokens.take()?;
         if !ends.has(&token.1) {
-            return self.parse_node_from(token, is_block, is_indentless, behind);
+            return self.parse_node_from(token, context, behind);
         }
         let mark = token.0;
         self.tokens.put_back(token);
