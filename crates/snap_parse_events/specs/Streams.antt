@@ -20,3 +20,7 @@ pub record IsStream (events : List Event) : Type 0 where
 -- these are the events of documents of one node each
 abbrev pub AreDocuments : List Event → Type 0
 AreDocuments events = (ds : List Node) × (events ≡ stream_events ds)
+
+-- these may be followed by others, with which they are the events of documents
+abbrev pub AreFront : List Event → Type 0
+AreFront events = (rest : List Event) × AreDocuments (events ++ rest)
