@@ -10,3 +10,4 @@ pub mod Taken
 pub mod TreeRuns
 pub mod Giving
 pub mod Following
+pub mod Failing
