@@ -9,6 +9,7 @@ pub mod Parsing
 pub mod Runs
 pub mod Errors
 pub mod Context
+pub mod Properties
 pub mod Ends
 pub mod Taking
 pub mod Twin
