@@ -1,5 +1,5 @@
 -- What the contracts of the states see of a parser.
-use Rattle.std.specs.Prelude.{◌≡◌, ℕ, ◌+◌, ◌*◌, ◌≤◌, List, Bool, true, All, Some, Result, Ok, Err, IfOk, OnOk, OnErr, if◌then◌else◌}
+use Rattle.std.specs.Prelude.{◌≡◌, ℕ, ◌+◌, ◌*◌, ◌≤◌, List, true, All, Some, Result, Ok, Err, IfOk, OnOk, OnErr, if◌then◌else◌}
 use Rattle.snap_scan_tokens.specs.declared.info.ScanError.{ScanError}
 use Rattle.snap_scan.specs.Sound.{Holds}
 use Rattle.snap_scan_tokens.specs.Mark.{Mark}

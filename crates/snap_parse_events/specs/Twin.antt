@@ -1,6 +1,6 @@
 -- What a parser makes of the tokens that it takes, where that is what trees need: no anchors, tags, directives or `...`, and no
 -- missing key or value.
-use Rattle.std.specs.Prelude.{codes, ◌≡◌, Bool, true, false, if◌then◌else◌, List, [], ◌∷◌, Option, None, Some, Result, Ok, Err}
+use Rattle.std.specs.Prelude.{codes, ◌≡◌, if◌then◌else◌, List, [], ◌∷◌, Option, None, Some, Result, Ok, Err}
 use Rattle.std.specs.Str.{chars}
 use Rattle.snap_scan_tokens.specs.Mark.{Mark}
 use Rattle.snap_scan_tokens.specs.declared.info.ScanError.{ScanError}

@@ -1,10 +1,10 @@
 //! Sequences and mappings in blocks.
 ghost use Rattle.std.specs.Prelude.{true};
 
+use crate::event::Event;
 use crate::machine::{Machine, ParseResult};
 use crate::state::{Context, Ends, Stage, State};
 use crate::tokens::unexpected;
-use crate::event::Event;
 use snap_scan_tokens::{ScanInfo, Token, TokenType};
 
 impl<'a> Machine<'a> {
@@ -71,7 +71,11 @@ impl<'a> Machine<'a> {
                 Ok((Event::MappingEnd, mark))
             }
             Token(_, TokenType::Key) => {
-                self.parse_filled(Ends::BlockPair, Context::Indentless, State::BlockMappingValue)
+                self.parse_filled(
+                    Ends::BlockPair,
+                    Context::Indentless,
+                    State::BlockMappingValue,
+                )
             }
             Token(mark, TokenType::Value) => self.give_empty(mark, State::BlockMappingContent),
             token => Err(unexpected(token, ScanInfo::P5)),

@@ -3,10 +3,10 @@ ghost use Rattle.std.specs.Prelude.{◌≡◌, ◌+◌, ◌*◌, ◌≤◌, ℕ,
 ghost use Rattle.snap_parse_events.specs.Meaning.{ahead, open_in, after};
 ghost use Rattle.snap_parse_events.specs.Feed.{tokens_left, starts};
 
+use crate::event::Event;
 use crate::machine::{Machine, ParseResult};
 use crate::state::{Context, Ends, Stage, State};
 use crate::tokens::unexpected;
-use crate::event::Event;
 use snap_scan_tokens::{ScanInfo, Token, TokenType};
 
 impl<'a> Machine<'a> {

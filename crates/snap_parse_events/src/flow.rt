@@ -2,10 +2,10 @@
 ghost use Rattle.std.specs.Prelude.{◌+◌, ◌≤◌, false, OnOk};
 ghost use Rattle.snap_parse_events.specs.Feed.{tokens_left};
 
+use crate::event::Event;
 use crate::machine::{Machine, ParseResult};
 use crate::state::{Context, Ends, Stage, State};
 use crate::tokens::unexpected;
-use crate::event::Event;
 use snap_scan_tokens::{Marker, ScanInfo, Token, TokenType};
 
 impl<'a> Machine<'a> {

@@ -8,10 +8,10 @@ ghost use Rattle.snap_parse_events.specs.Names.{no_names, Naming};
 ghost use Rattle.snap_parse_events.specs.Place.{below, weight_below, pending, start_spot};
 
 use crate::anchors::Anchors;
+use crate::event::Event;
 use crate::state::{Context, Stage, State};
 use crate::tokens::Tokens;
 use snap_content::{Lent, Text};
-use crate::event::Event;
 use snap_scan_tokens::{Marker, ScanError, TScalarStyle};
 use std::alloc::Global;
 use std::collections::VecDeque;
