@@ -1,13 +1,12 @@
 //! What the parser makes of a text, as lines.
 ghost use Rattle.std.specs.Prelude.{◌≡◌, ◌<◌, IfOk, true};
-ghost use Rattle.snap_event.specs.Meaning.{is_stream_end};
+ghost use Rattle.snap_parse_events.specs.Meaning.{is_stream_end};
 ghost use Rattle.snap_parse_events.specs.Parsing.{events_left};
 
 use crate::marks::{add_mark, add_refusal, add_style};
 use rows::add_text_column;
 use snap_content::{OutOfMemory, Text};
-use snap_event::{Event, Tag};
-use snap_parse_events::Parser;
+use snap_parse_events::{Event, Parser, Tag};
 use snap_scan_tokens::Marker;
 use std::alloc::Global;
 

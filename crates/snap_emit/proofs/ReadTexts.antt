@@ -6,8 +6,8 @@ use Rattle.snap_scan_tokens.specs.Place.{before_nul}
 use Rattle.snap_scan_tokens.specs.declared.info.ScanError.{ScanError}
 use Rattle.snap_scan_tokens.specs.declared.info.ScanError.TheVariants as c
 use Rattle.snap_scan.specs.Sound.{IsFounded}
-use Rattle.snap_event.specs.Nodes.{Node, stream_events}
-use Rattle.snap_event.specs.Streams.{IsStream}
+use Rattle.snap_parse_events.specs.Nodes.{Node, stream_events}
+use Rattle.snap_parse_events.specs.Streams.{IsStream}
 use Rattle.snap_parse_laws.proofs.FreeLayouts.{free-is-laid}
 use Rattle.snap_parse_laws.specs.FreeLayouts.{IsFree}
 use Rattle.snap_parse_laws.specs.LayoutTexts.{document_text}

@@ -8,7 +8,7 @@ use Rattle.snap_content.specs.declared.error.Error.{Error}
 use Rattle.snap_content.specs.declared.error.Error.TheVariants.{FailedParsingYaml, UnexpectedDataType, MissingField, FileIo, FloatText, JsonKey, NotText, NoFile, OutOfMemory}
 use Rattle.snap_emit.specs.Pieces.{has_number_piece}
 use Rattle.snap_emit.specs.Spelled.{IsTextOf, IsHeaderOf}
-use Rattle.snap_event.specs.Nodes.{Node}
+use Rattle.snap_parse_events.specs.Nodes.{Node}
 use Rattle.snap_emit.specs.Readings.{IsOnly, IsTreeOf, IsReasonOf}
 use Rattle.snap_emit.specs.declared.reading.Header.{Header}
 use Rattle.snap_emit.specs.declared.refusal.Refusal.{Refusal}

@@ -6,8 +6,8 @@ use Rattle.snap_content.specs.declared.content.Content.{Content}
 use Rattle.snap_scan_tokens.specs.Place.{before_nul}
 use Rattle.snap_scan_tokens.specs.declared.info.ScanError.TheVariants.{OutOfMemory}
 use Rattle.snap_scan.specs.Sound.{IsFounded}
-use Rattle.snap_event.specs.Nodes.{Node, stream_events}
-use Rattle.snap_event.specs.Streams.{IsStream}
+use Rattle.snap_parse_events.specs.Nodes.{Node, stream_events}
+use Rattle.snap_parse_events.specs.Streams.{IsStream}
 use Rattle.snap_yaml.specs.View.{value_of}
 use Rattle.snap_parse.specs.Aliases.{has_alias}
 use Rattle.snap_parse.specs.Documents.{document_value}

@@ -3,7 +3,7 @@ ghost use Rattle.std.specs.Prelude.{◌≡◌, ◌≢◌, ◌∷◌, [], List, m
 ghost use Rattle.std.specs.Str.{chars};
 ghost use Rattle.snap_content.specs.Plain.{content_of};
 ghost use Rattle.snap_content.specs.View.{tree};
-ghost use Rattle.snap_event.specs.Nodes.{Node};
+ghost use Rattle.snap_parse_events.specs.Nodes.{Node};
 ghost use Rattle.snap_yaml.specs.Value.{Value};
 ghost use Rattle.snap_yaml.specs.View.{value_of, array_list};
 ghost use Rattle.snap_parse.specs.TextNodes.{AreNodesOf};

@@ -4,7 +4,7 @@ ghost use Rattle.std.specs.Str.{chars};
 ghost use Rattle.snap_content.specs.Plain.{Plain, content_of};
 ghost use Rattle.snap_content.specs.Readable.{IsWithin};
 ghost use Rattle.snap_content.specs.View.{tree};
-ghost use Rattle.snap_event.specs.Nodes.{Node};
+ghost use Rattle.snap_parse_events.specs.Nodes.{Node};
 ghost use Rattle.snap_parse_laws_json.specs.Bounded.{IsJsonOf};
 ghost use Rattle.snap_parse.specs.TextNodes.{AreNodesOf};
 ghost use Rattle.snap_emit.specs.Readings.{IsTreeOf, IsTreeIn, IsHeaderTreeOf, IsHeaderIn, IsOfStream, IsReasonIn, IsStrict, IsLenient};

@@ -7,7 +7,7 @@ ghost use Rattle.snap_content.specs.View.{tree};
 ghost use Rattle.snap_print.specs.Blocks.{blocks_if};
 ghost use Rattle.snap_print.specs.Lines.{document_of, lines_of, text_of};
 ghost use Rattle.snap_print.specs.Printed.{AreRows, EndsWell};
-ghost use Rattle.snap_event.specs.Nodes.{Node};
+ghost use Rattle.snap_parse_events.specs.Nodes.{Node};
 ghost use Rattle.snap_parse_laws_json.specs.Bounded.{IsJsonOf};
 ghost use Rattle.snap_parse.specs.TextNodes.{AreNodesOf};
 ghost use Rattle.snap_emit.specs.Parsed.{ParseEnd, HeaderEnd, IsErrorOf, IsParsedIn};

@@ -1,6 +1,6 @@
 -- The steps over a stream's events give the documents of its nodes.
 use Rattle.snap_parse.proofs.Prelude.{◌≡◌, ◌||◌, is_alias, has_alias, Bool, true, false, if◌then◌else◌, Option, None, Some, List, [], ◌∷◌, ◌++◌, map, refl, sym, ◌∙◌, ap, append_assoc, append-nil, unwrap_or, Event, Node, alias, scalar, list, dict, Nodes, no_nodes, node, Pairs, no_pairs, pair, node_onto, nodes_onto, pairs_onto, documents_onto, stream_events, Value, hash, bad_value, is_bad, paired, behind, and_some, node_value, values_in, values_in_pairs, document_value, Held, in_list, in_dict, LoadState, start, put_in, put, closed, step, steps}
-use Rattle.snap_event.specs.declared.event.Event.TheVariants as e
+use Rattle.snap_parse_events.specs.declared.event.Event.TheVariants as e
 use Rattle.snap_yaml.specs.Value.{pairs_of}
 
 pub steps-more : (xs : List Event) (x : Event) (s : LoadState) → steps (xs ++ x ∷ []) s ≡ step x (steps xs s)

@@ -15,8 +15,8 @@ use Rattle.snap_parse.specs.LaidEvents.{layout_tree}
 use Rattle.snap_parse.specs.TreeNodes.{tree_node}
 use Rattle.snap_parse.proofs.LaidRuns.{laid-events}
 use Rattle.snap_parse.proofs.PrintedRuns.{printed-events}
-use Rattle.snap_event.specs.Streams.{IsStream}
-use Rattle.snap_event.proofs.Documents.{whole-streams}
+use Rattle.snap_parse_events.specs.Streams.{IsStream}
+use Rattle.snap_parse_events.proofs.WholeStreams.{whole-streams}
 use Rattle.std.proofs.lemmas.Result.{IfOk-weaker}
 use Rattle.snap_scan_tokens.specs.declared.info.ScanError.{ScanError}
 use Rattle.snap_scan_tokens.specs.declared.info.ScanError.TheVariants as c

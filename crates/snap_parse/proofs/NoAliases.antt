@@ -1,7 +1,7 @@
 -- No alias stands in a printed tree, a JSON text or a layout.
 use Rattle.snap_parse.proofs.Prelude.{◌≡◌, false, List, [], ◌∷◌, refl, Option, Some, None, Event, has_alias, node_onto, nodes_onto, pairs_onto, stream_events, node_of, nodes_of, pairs_of, child_node, json_node, json_nodes, json_pairs, Blocks, before_more, as_block, before_items, before_entries, Node, ℕ}
 use Rattle.snap_content.specs.Plain as p
-use Rattle.snap_event.specs.declared.event.Event.TheVariants as e
+use Rattle.snap_parse_events.specs.declared.event.Event.TheVariants as e
 use Rattle.snap_parse_events.specs.TokenTrees.{Tree, scalar, block_list, indentless_list, block_dict, flow_list, flow_dict, Trees, no_items, item, Entries, no_entries, entry}
 use Rattle.snap_parse.specs.TreeNodes.{tree_node, tree_nodes, tree_pairs}
 

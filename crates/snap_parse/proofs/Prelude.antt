@@ -7,8 +7,8 @@ pub use Rattle.snap_content.specs.Quotes.{needs_quotes}
 pub use Rattle.snap_content.specs.Readable.{IsWithin, AreWithin, AreEntriesWithin, IsNumber}
 pub use Rattle.snap_print.specs.Blocks.{Blocks, before_more, as_block}
 pub use Rattle.snap_print.specs.Lines.{before_items, before_entries, document_of}
-pub use Rattle.snap_event.specs.Nodes.{Node, alias, scalar, list, dict, Nodes, no_nodes, node, Pairs, no_pairs, pair, node_onto, nodes_onto, pairs_onto, documents_onto, stream_events}
-pub use Rattle.snap_event.specs.declared.event.Event.{Event}
+pub use Rattle.snap_parse_events.specs.Nodes.{Node, alias, scalar, list, dict, Nodes, no_nodes, node, Pairs, no_pairs, pair, node_onto, nodes_onto, pairs_onto, documents_onto, stream_events}
+pub use Rattle.snap_parse_events.specs.declared.event.Event.{Event}
 pub use Rattle.snap_parse_laws.proofs.Documents.{plain-source}
 pub use Rattle.snap_parse_laws.specs.Tokens.{document_tokens}
 pub use Rattle.snap_parse_laws_json.specs.Nodes.{json_node, json_nodes, json_pairs}

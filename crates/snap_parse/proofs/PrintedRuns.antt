@@ -4,7 +4,7 @@ use Rattle.snap_content.specs.Plain as p
 use Rattle.snap_scan_tokens.specs.declared.token.TokenType.TheVariants as k
 use Rattle.snap_scan_tokens.specs.declared.token.TEncoding.TheVariants.{Utf8}
 use Rattle.snap_scan_tokens.specs.declared.token.TScalarStyle.TheVariants as style
-use Rattle.snap_event.specs.declared.event.Event.TheVariants as e
+use Rattle.snap_parse_events.specs.declared.event.Event.TheVariants as e
 use Rattle.snap_parse_laws.specs.Tokens as o
 use Rattle.snap_parse_events.specs.TokenTrees.{Tree, IsFit, AreFit, FitEntries, tokens_onto, items_onto, entries_onto, events_onto, item_events_onto, entry_events_onto, document_tokens}
 use Rattle.snap_parse_events.proofs.TreeRuns.{document}

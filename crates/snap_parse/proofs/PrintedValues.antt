@@ -6,7 +6,7 @@ use Rattle.std.specs.List.{list_all}
 use Rattle.snap_content.specs.Numbers.{is_digits, is_integer_text}
 use Rattle.snap_content.specs.Plain as p
 use Rattle.snap_content.specs.Typed as t
-use Rattle.snap_event.specs.Nodes as n
+use Rattle.snap_parse_events.specs.Nodes as n
 use Rattle.snap_print.specs.Blocks.{is_block}
 use Rattle.snap_scan_tokens.specs.declared.token.TScalarStyle.TheVariants as style
 use Rattle.snap_yaml.specs.Through.{plain_typed}

@@ -2,8 +2,8 @@
 use Rattle.std.specs.Prelude.{ℕ, List, [], ◌∷◌, Option, None, Some, unwrap_or, if◌then◌else◌}
 use Rattle.snap_scan_tokens.specs.declared.token.TScalarStyle.{TScalarStyle}
 use Rattle.snap_scan_tokens.specs.declared.token.TScalarStyle.TheVariants as style
-use Rattle.snap_event.specs.declared.event.Tag.{Tag}
-use Rattle.snap_event.specs.Nodes.{Node, alias, scalar, list, dict, Nodes, no_nodes, node, Pairs, no_pairs, pair}
+use Rattle.snap_parse_events.specs.declared.event.Tag.{Tag}
+use Rattle.snap_parse_events.specs.Nodes.{Node, alias, scalar, list, dict, Nodes, no_nodes, node, Pairs, no_pairs, pair}
 use Rattle.snap_yaml.specs.Value.{Value, string, array, hash, bad_value, values_of, pairs_of}
 use Rattle.snap_yaml.specs.Readers.{is_bad}
 use Rattle.snap_yaml.specs.Typing.{typed_yaml, tagged}

@@ -2,9 +2,9 @@
 use Rattle.std.specs.Prelude.{◌≡◌, Bool, List, map}
 use Rattle.snap_scan_tokens.specs.declared.info.ScanError.{ScanError}
 use Rattle.snap_scan_tokens.specs.declared.info.ScanError.TheVariants.{OutOfMemory}
-use Rattle.snap_event.specs.declared.event.Event.{Event}
-use Rattle.snap_event.specs.Nodes.{Node, stream_events}
-use Rattle.snap_event.specs.Streams.{IsStream}
+use Rattle.snap_parse_events.specs.declared.event.Event.{Event}
+use Rattle.snap_parse_events.specs.Nodes.{Node, stream_events}
+use Rattle.snap_parse_events.specs.Streams.{IsStream}
 use Rattle.snap_parse_events.specs.declared.error.LoadError.{LoadError}
 use Rattle.snap_parse_events.specs.declared.error.LoadError.TheVariants as l
 use Rattle.snap_yaml.specs.Value.{Value}

@@ -1,6 +1,6 @@
 -- What a loader is seen as.
 use Rattle.std.specs.Prelude.{◌≡◌, List, map, option_map, false}
-use Rattle.snap_event.specs.declared.event.Event.{Event}
+use Rattle.snap_parse_events.specs.declared.event.Event.{Event}
 use Rattle.snap_yaml.specs.View.{value_of, array_list, pair_value, hash_list}
 use Rattle.snap_parse.specs.Steps.{Held, in_list, in_dict, LoadState, steps, start}
 use Rattle.snap_parse.specs.declared.loader.Frame.{Frame}

@@ -8,7 +8,7 @@ use Rattle.snap_print.specs.Blocks.{Blocks, before_more, as_block}
 use Rattle.snap_print.specs.Lines.{before_items, before_entries}
 use Rattle.snap_scan_tokens.specs.declared.token.TScalarStyle.{TScalarStyle}
 use Rattle.snap_scan_tokens.specs.declared.token.TScalarStyle.TheVariants as style
-use Rattle.snap_event.specs.Nodes as n
+use Rattle.snap_parse_events.specs.Nodes as n
 use Rattle.snap_parse_events.specs.TokenTrees.{Tree, scalar, block_list, block_dict, flow_list, flow_dict, Trees, no_items, item, Entries, no_entries, entry}
 
 -- how a text is written

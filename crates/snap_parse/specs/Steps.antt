@@ -1,7 +1,7 @@
 -- What a loader has made of the events so far.
 use Rattle.std.specs.Prelude.{List, [], ◌∷◌, ◌++◌, Option, None, Some, unwrap_or, if◌then◌else◌}
-use Rattle.snap_event.specs.declared.event.Event.{Event}
-use Rattle.snap_event.specs.declared.event.Event.TheVariants as e
+use Rattle.snap_parse_events.specs.declared.event.Event.{Event}
+use Rattle.snap_parse_events.specs.declared.event.Event.TheVariants as e
 use Rattle.snap_yaml.specs.Value.{Value, array, hash, bad_value, values_of, pairs_of}
 use Rattle.snap_yaml.specs.Readers.{is_bad}
 use Rattle.snap_parse.specs.Documents.{scalar_value}

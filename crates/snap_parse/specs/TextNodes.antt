@@ -4,7 +4,7 @@ use Rattle.snap_scan_tokens.specs.Place.{before_nul}
 use Rattle.snap_scan_tokens.specs.declared.token.TokenType.{TokenType}
 use Rattle.snap_scan.specs.Owed.{Owes}
 use Rattle.snap_scan.specs.Scan.{start_scan}
-use Rattle.snap_event.specs.Nodes.{Node, stream_events}
+use Rattle.snap_parse_events.specs.Nodes.{Node, stream_events}
 use Rattle.snap_parse_events.specs.Place.{start_spot}
 use Rattle.snap_parse_events.specs.Twin.{Yields}
 

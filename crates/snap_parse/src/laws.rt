@@ -4,7 +4,7 @@ ghost use Rattle.snap_content.specs.Plain.{Plain};
 ghost use Rattle.snap_content.specs.Readable.{IsWithin};
 ghost use Rattle.snap_print.specs.Blocks.{Blocks};
 ghost use Rattle.snap_parse_laws.specs.Tokens.{document_tokens};
-ghost use Rattle.snap_event.specs.Nodes.{Node, stream_events};
+ghost use Rattle.snap_parse_events.specs.Nodes.{Node, stream_events};
 ghost use Rattle.snap_parse_laws_json.specs.Nodes.{json_node};
 ghost use Rattle.snap_parse_events.specs.Place.{start_spot};
 ghost use Rattle.snap_parse_events.specs.Twin.{Yields};

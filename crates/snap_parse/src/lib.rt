@@ -11,7 +11,8 @@ mod scalar;
 
 pub use load::YamlLoader;
 pub use loader::Documents;
-pub use snap_event::{Event, EventReceiver, MarkedEventReceiver, Tag};
-pub use snap_parse_events::{LoadError, ParseResult, Parser};
+pub use snap_parse_events::{
+    Event, EventReceiver, LoadError, MarkedEventReceiver, ParseResult, Parser, Tag,
+};
 pub use snap_scan_tokens::{Marker, ScanError, ScanInfo, TScalarStyle};
 pub use snap_yaml::{Array, Hash, Yaml, YamlIter};

@@ -6,7 +6,7 @@ ghost use Rattle.snap_print.specs.Blocks.{Blocks};
 ghost use Rattle.snap_print.specs.Lines.{document_of};
 ghost use Rattle.snap_scan_tokens.specs.Place.{before_nul};
 ghost use Rattle.snap_scan.specs.Sound.{IsFounded};
-ghost use Rattle.snap_event.specs.Nodes.{Node};
+ghost use Rattle.snap_parse_events.specs.Nodes.{Node};
 ghost use Rattle.snap_parse_laws.specs.Endings.{ends_in_block};
 ghost use Rattle.snap_parse_laws.specs.Layouts.{Document};
 ghost use Rattle.snap_parse_laws.specs.LayoutTexts.{document_text};

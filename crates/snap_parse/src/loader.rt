@@ -6,7 +6,7 @@ ghost use Rattle.snap_parse.specs.Steps.{put_in};
 
 use crate::scalar::scalar;
 use snap_content::OutOfMemory;
-use snap_event::{Event, MarkedEventReceiver};
+use snap_parse_events::{Event, MarkedEventReceiver};
 use snap_scan_tokens::{Marker, ScanError};
 use snap_yaml::{Array, Hash, Yaml};
 use std::alloc::Global;

@@ -5,7 +5,7 @@ ghost use Rattle.snap_parse.specs.Documents.{plain_value, scalar_value};
 ghost use Rattle.snap_yaml.specs.View.{value_of};
 
 use snap_content::{Lent, OutOfMemory};
-use snap_event::Tag;
+use snap_parse_events::Tag;
 use snap_scan_tokens::TScalarStyle;
 use snap_yaml::Yaml;
 use std::alloc::Global;

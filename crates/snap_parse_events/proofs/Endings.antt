@@ -1,6 +1,6 @@
 -- The stream's end in meanings and events.
 use Rattle.snap_parse_events.proofs.Prelude.{◌≡◌, List, [], ◌∷◌, Option, None, Some, Bool, true, false, not, refl, ap, Event, Open, due, given, sequence, key, value, Meaning, ahead, open_in, ended, given_at, leaf, start, after, is_stream_end, Passed, State, Stage, meaning_in, passed_of, stops, goes}
-use Rattle.snap_event.specs.declared.event.Event.TheVariants as e
+use Rattle.snap_parse_events.specs.declared.event.Event.TheVariants as e
 use Rattle.snap_parse_events.specs.declared.load.Passed.TheVariants as w
 use Rattle.snap_parse_events.specs.declared.state.Stage.TheVariants as g
 

@@ -1,6 +1,6 @@
 -- Runs of a parser whose events are known.
 use Rattle.snap_parse_events.proofs.Prelude.{◌≡◌, List, [], ◌∷◌, ◌++◌, Option, Some, Bool, true, false, not, refl, sym, ◌∙◌, ap, subst, append_assoc, list_all, Event, Meaning, ended, after, Passed, Parsing, meaning, WillGive, forgetting, Steps, Run, run_start, run_more, passed_of, stops, goes, GetsMore, Passing, LoadsUpTo, and_parts}
-use Rattle.snap_event.specs.declared.event.Event.TheVariants as e
+use Rattle.snap_parse_events.specs.declared.event.Event.TheVariants as e
 use Rattle.snap_parse_events.specs.declared.load.Passed.TheVariants as w
 use Rattle.snap_parse_events.proofs.Endings.{end-ends, event-ends, last-is-end, stage-ended, ended-stage}
 use Rattle.snap_parse_events.proofs.Giving.{none-ended, ended-none}

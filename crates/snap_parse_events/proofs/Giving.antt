@@ -1,5 +1,5 @@
 -- What a parser will give.
-use Rattle.snap_parse_events.proofs.Prelude.{◌≡◌, List, [], ◌∷◌, Option, None, Some, ℕ, refl, sym, ◌∙◌, ap, subst, ScanError, TokenType, Owes, start_scan, Event, after, Stage, Tokens, start_tokens, spot_of, meaning_now, Names, Naming, Parsing, WillGive, GoesOn, IsNext, Spot, start_spot, WillTake, Parsed, parse_step, stage_step, Yields, finished, then_one}
+use Rattle.snap_parse_events.proofs.Prelude.{◌≡◌, List, [], ◌∷◌, Option, None, Some, ℕ, refl, sym, ◌∙◌, ap, subst, ScanError, TokenType, Owes, start_scan, Event, after, Stage, Tokens, start_tokens, spot_of, meaning_now, Names, Naming, Parsing, WillGive, GoesOn, IsNext, Fails, Spot, start_spot, WillTake, Parsed, parse_step, stage_step, Yields, finished, then_one}
 use Rattle.snap_scan_tokens.specs.declared.info.ScanError.TheVariants.{OutOfMemory}
 use Rattle.snap_parse_events.specs.declared.machine.Machine.{Machine}
 use Rattle.snap_parse_events.specs.declared.state.Stage.TheVariants as g
@@ -79,3 +79,10 @@ pub next-refused : (e : ScanError) (p : Parsing) (m : Machine) (error : Option S
 next-refused e p m error is calm twin events will =
     let P : Parsing → Type 0 = λ v. WillGive v events in
     refused (seen m error) (e ≡ OutOfMemory) calm twin events (subst P (sym is) will)
+
+-- an error of the machine is one that the parser fails with
+pub next-fails : (why : ScanError) (p : Parsing) (m n : Machine) (before kept : Option ScanError) → seen m before ≡ p → kept ≡ Some why → spot_of n ≡ spot_of m
+    → ((events : List Event) → WillGive p events → why ≡ OutOfMemory) → Fails why p (seen n kept)
+next-fails why p m n before kept is keeps stays known =
+    let f : Parsing → Spot = λ v. v.spot in
+    record { kept = keeps; stays = stays ∙ ap f is; known = known }

@@ -1,4 +1,5 @@
 mod Prelude
+pub mod WholeStreams
 pub mod Endings
 pub mod Running
 pub mod Naming
@@ -9,3 +10,4 @@ pub mod Taken
 pub mod TreeRuns
 pub mod Giving
 pub mod Following
+pub mod Failing

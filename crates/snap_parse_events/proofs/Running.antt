@@ -1,7 +1,7 @@
 -- Runs of a parser, and what is loaded on them.
 use Rattle.snap_parse_events.proofs.Prelude.{◌≡◌, List, [], ◌∷◌, ◌++◌, Option, None, Some, Bool, true, false, not, ◌&&◌, refl, option_and_then, sym, ◌∙◌, ap, subst, append_assoc, append-nil, list_all, Event, Meaning, ahead, ended, after, after_all, is_stream_end, Passed, Parsing, meaning, forgetting, Steps, Run, run_start, run_more, passed_of, stops, goes, GetsMore, HandsOn, Passing, LoadsUpTo, TellsStream, and_parts}
-use Rattle.snap_event.specs.declared.event.Event.TheVariants as e
-use Rattle.snap_event.specs.Streams.{HasNoEnd, IsStream}
+use Rattle.snap_parse_events.specs.declared.event.Event.TheVariants as e
+use Rattle.snap_parse_events.specs.Streams.{HasNoEnd, IsStream}
 use Rattle.snap_parse_events.specs.declared.load.Passed.TheVariants as w
 use Rattle.snap_parse_events.proofs.Endings.{event-behind, end-ends, last-is-end, going-no-end}
 

@@ -1,7 +1,8 @@
 -- Errors of loading.
-use Rattle.std.specs.Prelude.{List, ℕ}
+use Rattle.std.specs.Prelude.{List, ℕ, codes}
 use Rattle.snap_scan_tokens.specs.declared.info.ScanError.{ScanError}
 use Rattle.snap_scan_tokens.specs.declared.info.ScanError.TheVariants as c
+use Rattle.snap_scan_tokens.specs.Info.{error_text}
 use Rattle.snap_scan.specs.Sound.{IsFounded}
 use Rattle.snap_parse_events.specs.declared.error.LoadError.{LoadError}
 use Rattle.snap_parse_events.specs.declared.error.LoadError.TheVariants as l
@@ -17,3 +18,9 @@ IsLoadFounded source (l.Scan (c.Syntax mark info)) = IsFounded source (c.Syntax 
 IsLoadFounded source (l.Scan c.OutOfMemory) = ⊥
 IsLoadFounded source l.InsideDocument = Unit {0}
 IsLoadFounded source l.OutOfMemory = Unit {0}
+
+-- what an error is printed as
+abbrev pub load_error_text : LoadError → List ℕ
+load_error_text (l.Scan e) = error_text e
+load_error_text l.InsideDocument = codes "InsideDocument"
+load_error_text l.OutOfMemory = codes "OutOfMemory"

@@ -1,3 +1,6 @@
+pub mod Meaning
+pub mod Nodes
+pub mod Streams
 pub mod Feed
 pub mod Names
 pub mod Place
@@ -5,6 +8,8 @@ pub mod Machine
 pub mod Parsing
 pub mod Runs
 pub mod Errors
+pub mod Context
+pub mod Properties
 pub mod Ends
 pub mod Taking
 pub mod Twin

@@ -1,15 +1,17 @@
 -- What the contracts of the states see of a parser.
-use Rattle.std.specs.Prelude.{◌≡◌, ℕ, ◌+◌, ◌*◌, ◌≤◌, List, Bool, true, All, Some, Result, Ok, Err, IfOk, OnOk, OnErr, if◌then◌else◌}
+use Rattle.std.specs.Prelude.{◌≡◌, ℕ, ◌+◌, ◌*◌, ◌≤◌, List, true, All, Some, Result, Ok, Err, IfOk, OnOk, OnErr, if◌then◌else◌}
 use Rattle.snap_scan_tokens.specs.declared.info.ScanError.{ScanError}
 use Rattle.snap_scan.specs.Sound.{Holds}
 use Rattle.snap_scan_tokens.specs.Mark.{Mark}
-use Rattle.snap_event.specs.declared.event.Event.{Event}
-use Rattle.snap_event.specs.Meaning.{Open, Meaning, open_in, given_in, after}
+use Rattle.snap_parse_events.specs.declared.event.Event.{Event}
+use Rattle.snap_parse_events.specs.Meaning.{Open, Meaning, open_in, given_in, after}
 use Rattle.snap_parse_events.specs.declared.machine.Machine.{Machine}
+use Rattle.snap_parse_events.specs.declared.state.Context.{Context}
 use Rattle.snap_parse_events.specs.declared.state.State.{State}
 use Rattle.snap_parse_events.specs.declared.state.Stage.{Stage}
 use Rattle.snap_parse_events.specs.declared.state.Stage.TheVariants as g
 use Rattle.snap_parse_events.specs.declared.tokens.Tokens.{Tokens}
+use Rattle.snap_parse_events.specs.Context.{takes_indentless}
 use Rattle.snap_parse_events.specs.Feed.{source_of, tokens_left, starts, Feeds, Failed}
 use Rattle.snap_parse_events.specs.Names.{Naming}
 use Rattle.snap_parse_events.specs.Place.{Spot, opened, below, meaning_of, weighed, weight_below, pending, signs_of}
@@ -91,5 +93,5 @@ abbrev pub events_before : ℕ → State → Machine → ℕ
 events_before n y m = 4 * n + weighed y (weight_below m.outer.items)
 
 -- a sequence without a start of its own takes no token
-abbrev pub if_indentless : Bool → ℕ
-if_indentless i = if i then 3 else 0
+abbrev pub if_indentless : Context → ℕ
+if_indentless c = if takes_indentless c then 3 else 0

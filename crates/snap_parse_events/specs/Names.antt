@@ -4,8 +4,8 @@ use Rattle.std.specs.Ordering.{nat_cmp}
 use Rattle.std.specs.Cmp.Lexicographic.{slice_cmp}
 use Rattle.std.specs.Map.{lookup}
 use Rattle.std.specs.BTreeMap.{is_at}
-use Rattle.snap_event.specs.declared.event.Event.{Event}
-use Rattle.snap_event.specs.declared.event.Event.TheVariants as e
+use Rattle.snap_parse_events.specs.declared.event.Event.{Event}
+use Rattle.snap_parse_events.specs.declared.event.Event.TheVariants as e
 
 -- the names with the number that each has now, and the next number
 pub record Names : Type 0 where

@@ -1,10 +1,11 @@
 -- What a parser is seen as.
 use Rattle.std.specs.Prelude.{◌≡◌, ℕ, List, ◌∷◌, Option, None, Some, Result, Ok, Err}
 use Rattle.snap_scan_tokens.specs.declared.info.ScanError.{ScanError}
+use Rattle.snap_scan_tokens.specs.declared.info.ScanError.TheVariants.{OutOfMemory}
 use Rattle.snap_scan_tokens.specs.declared.token.TokenType.{TokenType}
 use Rattle.snap_scan.specs.Sound.{IsFounded}
-use Rattle.snap_event.specs.declared.event.Event.{Event}
-use Rattle.snap_event.specs.Meaning.{Meaning, after}
+use Rattle.snap_parse_events.specs.declared.event.Event.{Event}
+use Rattle.snap_parse_events.specs.Meaning.{Meaning, after}
 use Rattle.snap_parse_events.specs.declared.tokens.Tokens.{Tokens}
 use Rattle.snap_parse_events.specs.Feed.{source_of, start_tokens}
 use Rattle.snap_parse_events.specs.Names.{Names, no_names, Naming}
@@ -53,6 +54,13 @@ pub record IsNext (event : Event) (old new : Parsing) : Type 0 where
   pub allowed : after event (meaning old) ≡ Some (meaning new)
   pub names : Naming event old.names new.names
   pub goes_on : GoesOn event old new
+
+-- what a parser promises of an error that it fails with: it keeps it for good, and stands where it stood; where its events are known
+-- only memory can be wanting
+pub record Fails (why : ScanError) (old new : Parsing) : Type 0 where
+  pub kept : new.error ≡ Some why
+  pub stays : new.spot ≡ old.spot
+  pub known : (events : List Event) → WillGive old events → why ≡ OutOfMemory
 
 -- the error that the call answers is kept
 abbrev pub KeepsError : {T : Type 0} → Result T ScanError → Parsing → Type 0

@@ -2,7 +2,7 @@
 use Rattle.std.specs.Prelude.{ℕ, ◌+◌, List, [], ◌∷◌}
 use Rattle.snap_scan_tokens.specs.Causes.{Need, nothing, needed}
 use Rattle.snap_scan_tokens.specs.declared.info.ScanInfo.TheVariants as i
-use Rattle.snap_event.specs.Meaning.{Open, due, given, sequence, key, value, Meaning, ahead, open_in, ended}
+use Rattle.snap_parse_events.specs.Meaning.{Open, due, given, sequence, key, value, Meaning, ahead, open_in, ended}
 use Rattle.snap_parse_events.specs.declared.state.State.{State}
 use Rattle.snap_parse_events.specs.declared.state.State.TheVariants as s
 use Rattle.snap_parse_events.specs.declared.state.Stage.{Stage}

@@ -1,13 +1,18 @@
 -- The events that a parser hands on, one after the other.
-use Rattle.std.specs.Prelude.{◌≡◌, Bool, true, false, not, List, [], ◌∷◌, ◌++◌}
+use Rattle.std.specs.Prelude.{◌≡◌, ◌⊎◌, Bool, true, false, not, List, [], ◌∷◌, ◌++◌, None, Some}
 use Rattle.std.specs.List.{list_all}
-use Rattle.snap_event.specs.declared.event.Event.{Event}
-use Rattle.snap_event.specs.declared.event.Event.TheVariants as e
-use Rattle.snap_event.specs.Streams.{IsStream}
+use Rattle.snap_scan_tokens.specs.declared.info.ScanError.{ScanError}
+use Rattle.snap_scan_tokens.specs.declared.info.ScanError.TheVariants.{OutOfMemory}
+use Rattle.snap_parse_events.specs.declared.error.LoadError.{LoadError}
+use Rattle.snap_parse_events.specs.declared.error.LoadError.TheVariants as l
+use Rattle.snap_parse_events.specs.Errors.{load_error}
+use Rattle.snap_parse_events.specs.declared.event.Event.{Event}
+use Rattle.snap_parse_events.specs.declared.event.Event.TheVariants as e
+use Rattle.snap_parse_events.specs.Streams.{IsStream}
 use Rattle.snap_parse_events.specs.declared.load.Passed.{Passed}
 use Rattle.snap_parse_events.specs.declared.load.Passed.TheVariants as w
 use Rattle.snap_parse_events.specs.Names.{forgotten}
-use Rattle.snap_parse_events.specs.Parsing.{Parsing, IsNext}
+use Rattle.snap_parse_events.specs.Parsing.{Parsing, IsNext, Fails}
 
 -- at a document's start all names are forgotten
 abbrev pub forgetting : Event → Parsing → Parsing
@@ -68,10 +73,35 @@ pub record LoadsUpTo {R : Type 0} (tells : R → List Event → Type 0) (multi :
   pub steps : Steps last between q
   pub gets : GetsMore tells old new (events ++ last ∷ [])
 
--- the receiver got some first of the parser's events
-pub record LoadsPart {R : Type 0} (tells : R → List Event → Type 0) (multi : Bool) (old new : R) (p : Parsing) : Type 0 where
+-- the parser fails, for good
+pub record Refuses (e : LoadError) (p q : Parsing) : Type 0 where
+  pub why : ScanError
+  pub told : e ≡ load_error why
+  pub fails : Fails why p q
+
+-- the receiver has no memory for an event, and the parser goes on after it
+pub record Loses (e : LoadError) (p q : Parsing) : Type 0 where
+  pub memory : e ≡ l.OutOfMemory
+  pub event : Event
+  pub steps : Steps event p q
+  pub well : q.error ≡ None
+
+-- why no event is handed on
+abbrev pub Breaks : LoadError → Parsing → Parsing → Type 0
+Breaks e p q = Refuses e p q ⊎ Loses e p q
+
+-- the receiver got the events before the error, and no others, while the parser went from p to q
+pub record LoadsPart {R : Type 0} (tells : R → List Event → Type 0) (multi : Bool) (e : LoadError) (old new : R) (p q : Parsing) : Type 0 where
   pub to : Parsing
   pub part : Passing tells multi old new p to
+  pub breaks : Breaks e to q
+
+-- the error that a parser has after that one: a refusal of the text for good; its own out of memory, or none where the receiver had no
+-- memory
+abbrev pub Leaves : LoadError → Parsing → Parsing → Type 0
+Leaves (l.Scan why) p q = q.error ≡ Some why
+Leaves l.InsideDocument p q = q ≡ p
+Leaves l.OutOfMemory p q = (q.error ≡ None) ⊎ (q.error ≡ Some OutOfMemory)
 
 -- the receiver got the events of a whole stream
 pub record TellsStream {R : Type 0} (tells : R → List Event → Type 0) (old new : R) : Type 0 where

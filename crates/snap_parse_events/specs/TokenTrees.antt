@@ -4,8 +4,8 @@ use Rattle.snap_scan_tokens.specs.declared.token.TokenType.{TokenType}
 use Rattle.snap_scan_tokens.specs.declared.token.TokenType.TheVariants as k
 use Rattle.snap_scan_tokens.specs.declared.token.TScalarStyle.{TScalarStyle}
 use Rattle.snap_scan_tokens.specs.declared.token.TEncoding.TheVariants.{Utf8}
-use Rattle.snap_event.specs.declared.event.Event.{Event}
-use Rattle.snap_event.specs.declared.event.Event.TheVariants as e
+use Rattle.snap_parse_events.specs.declared.event.Event.{Event}
+use Rattle.snap_parse_events.specs.declared.event.Event.TheVariants as e
 
 -- a scalar, a list or a dict in blocks or in flow, or a list at the column of its dict
 mutual

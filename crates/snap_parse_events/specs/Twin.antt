@@ -1,6 +1,6 @@
 -- What a parser makes of the tokens that it takes, where that is what trees need: no anchors, tags, directives or `...`, and no
 -- missing key or value.
-use Rattle.std.specs.Prelude.{codes, ◌≡◌, Bool, true, false, if◌then◌else◌, List, [], ◌∷◌, Option, None, Some, Result, Ok, Err}
+use Rattle.std.specs.Prelude.{codes, ◌≡◌, if◌then◌else◌, List, [], ◌∷◌, Option, None, Some, Result, Ok, Err}
 use Rattle.std.specs.Str.{chars}
 use Rattle.snap_scan_tokens.specs.Mark.{Mark}
 use Rattle.snap_scan_tokens.specs.declared.info.ScanError.{ScanError}
@@ -8,9 +8,11 @@ use Rattle.snap_scan_tokens.specs.declared.info.ScanError.TheVariants.{OutOfMemo
 use Rattle.snap_scan_tokens.specs.declared.token.TokenType.{TokenType}
 use Rattle.snap_scan_tokens.specs.declared.token.TokenType.TheVariants as k
 use Rattle.snap_scan_tokens.specs.declared.token.TScalarStyle.TheVariants as style
-use Rattle.snap_event.specs.declared.event.Event.{Event}
-use Rattle.snap_event.specs.declared.event.Event.TheVariants as e
+use Rattle.snap_parse_events.specs.declared.event.Event.{Event}
+use Rattle.snap_parse_events.specs.declared.event.Event.TheVariants as e
 use Rattle.snap_parse_events.specs.declared.machine.Machine.{Machine}
+use Rattle.snap_parse_events.specs.declared.state.Context.{Context}
+use Rattle.snap_parse_events.specs.declared.state.Context.TheVariants as x
 use Rattle.snap_parse_events.specs.declared.state.Ends.{Ends}
 use Rattle.snap_parse_events.specs.declared.state.Ends.TheVariants as n
 use Rattle.snap_parse_events.specs.declared.state.Stage.{Stage}
@@ -18,6 +20,7 @@ use Rattle.snap_parse_events.specs.declared.state.Stage.TheVariants as g
 use Rattle.snap_parse_events.specs.declared.state.State.{State}
 use Rattle.snap_parse_events.specs.declared.state.State.TheVariants as s
 use Rattle.snap_parse_events.specs.declared.tokens.Tokens.{Tokens}
+use Rattle.snap_parse_events.specs.Context.{takes_blocks, takes_indentless}
 use Rattle.snap_parse_events.specs.Ends.{ends_at}
 use Rattle.snap_parse_events.specs.Machine.{spot_of}
 use Rattle.snap_parse_events.specs.Place.{Spot}
@@ -44,45 +47,45 @@ parsed event spot rest = Some (record { event = event; spot = spot; rest = rest 
 abbrev pub at : State → List State → Spot
 at y ys = record { stage = g.Open y; outer = ys }
 
--- the event of a node, behind which the parser goes on at y; b tells whether block collections may come, i a sequence without a start
-abbrev pub node_step : Bool → Bool → State → List State → List TokenType → Option Parsed
-node_step b i y ys (k.Scalar style text ∷ ts) = parsed (e.Scalar text style 0 None) (at y ys) ts
-node_step b i y ys (k.BlockSequenceStart ∷ ts) = (if b then parsed (e.SequenceStart 0) (at s.BlockSequenceEntry (y ∷ ys)) ts else None)
-node_step b i y ys (k.BlockMappingStart ∷ ts) = (if b then parsed (e.MappingStart 0) (at s.BlockMappingKey (y ∷ ys)) ts else None)
-node_step b i y ys (k.FlowSequenceStart ∷ ts) = parsed (e.SequenceStart 0) (at s.FlowSequenceFirstEntry (y ∷ ys)) ts
-node_step b i y ys (k.FlowMappingStart ∷ ts) = parsed (e.MappingStart 0) (at s.FlowMappingFirstKey (y ∷ ys)) ts
-node_step b i y ys (k.BlockEntry ∷ ts) = (if i then parsed (e.SequenceStart 0) (at s.IndentlessSequenceEntry (y ∷ ys)) (k.BlockEntry ∷ ts) else None)
-node_step b i y ys _ = None
+-- the event of a node in its context, behind which the parser goes on at y
+abbrev pub node_step : Context → State → List State → List TokenType → Option Parsed
+node_step c y ys (k.Scalar style text ∷ ts) = parsed (e.Scalar text style 0 None) (at y ys) ts
+node_step c y ys (k.BlockSequenceStart ∷ ts) = (if takes_blocks c then parsed (e.SequenceStart 0) (at s.BlockSequenceEntry (y ∷ ys)) ts else None)
+node_step c y ys (k.BlockMappingStart ∷ ts) = (if takes_blocks c then parsed (e.MappingStart 0) (at s.BlockMappingKey (y ∷ ys)) ts else None)
+node_step c y ys (k.FlowSequenceStart ∷ ts) = parsed (e.SequenceStart 0) (at s.FlowSequenceFirstEntry (y ∷ ys)) ts
+node_step c y ys (k.FlowMappingStart ∷ ts) = parsed (e.MappingStart 0) (at s.FlowMappingFirstKey (y ∷ ys)) ts
+node_step c y ys (k.BlockEntry ∷ ts) = (if takes_indentless c then parsed (e.SequenceStart 0) (at s.IndentlessSequenceEntry (y ∷ ys)) (k.BlockEntry ∷ ts) else None)
+node_step c y ys _ = None
 
 -- the same, but where the node is empty
-abbrev pub filled_step : Ends → Bool → Bool → State → List State → List TokenType → Option Parsed
-filled_step n b i y ys [] = None
-filled_step n b i y ys (t ∷ ts) = (if ends_at n t then parsed empty_scalar (at y ys) (t ∷ ts) else node_step b i y ys (t ∷ ts))
+abbrev pub filled_step : Ends → Context → State → List State → List TokenType → Option Parsed
+filled_step n c y ys [] = None
+filled_step n c y ys (t ∷ ts) = (if ends_at n t then parsed empty_scalar (at y ys) (t ∷ ts) else node_step c y ys (t ∷ ts))
 
 abbrev pub entry_step : List State → List TokenType → Option Parsed
-entry_step ys (k.BlockEntry ∷ ts) = filled_step n.BlockEntry true false s.BlockSequenceEntry ys ts
+entry_step ys (k.BlockEntry ∷ ts) = filled_step n.BlockEntry x.Block s.BlockSequenceEntry ys ts
 entry_step ys (k.BlockEnd ∷ ts) = parsed e.SequenceEnd (left_spot ys) ts
 entry_step ys _ = None
 
 abbrev pub indentless_step : List State → List TokenType → Option Parsed
-indentless_step ys (k.BlockEntry ∷ ts) = filled_step n.IndentlessEntry true false s.IndentlessSequenceEntry ys ts
+indentless_step ys (k.BlockEntry ∷ ts) = filled_step n.IndentlessEntry x.Block s.IndentlessSequenceEntry ys ts
 indentless_step ys (k.Key ∷ ts) = parsed e.SequenceEnd (left_spot ys) (k.Key ∷ ts)
 indentless_step ys (k.Value ∷ ts) = parsed e.SequenceEnd (left_spot ys) (k.Value ∷ ts)
 indentless_step ys (k.BlockEnd ∷ ts) = parsed e.SequenceEnd (left_spot ys) (k.BlockEnd ∷ ts)
 indentless_step ys _ = None
 
 abbrev pub key_step : List State → List TokenType → Option Parsed
-key_step ys (k.Key ∷ ts) = filled_step n.BlockPair true true s.BlockMappingValue ys ts
+key_step ys (k.Key ∷ ts) = filled_step n.BlockPair x.Indentless s.BlockMappingValue ys ts
 key_step ys (k.BlockEnd ∷ ts) = parsed e.MappingEnd (left_spot ys) ts
 key_step ys _ = None
 
 abbrev pub value_step : List State → List TokenType → Option Parsed
-value_step ys (k.Value ∷ ts) = filled_step n.BlockPair true true s.BlockMappingKey ys ts
+value_step ys (k.Value ∷ ts) = filled_step n.BlockPair x.Indentless s.BlockMappingKey ys ts
 value_step ys _ = None
 
 abbrev pub flow_first_step : List State → List TokenType → Option Parsed
 flow_first_step ys (k.FlowSequenceEnd ∷ ts) = parsed e.SequenceEnd (left_spot ys) ts
-flow_first_step ys ts = node_step false false s.FlowSequenceEntry ys ts
+flow_first_step ys ts = node_step x.Flow s.FlowSequenceEntry ys ts
 
 abbrev pub flow_entry_step : List State → List TokenType → Option Parsed
 flow_entry_step ys (k.FlowSequenceEnd ∷ ts) = parsed e.SequenceEnd (left_spot ys) ts
@@ -91,7 +94,7 @@ flow_entry_step ys _ = None
 
 abbrev pub flow_first_key_step : List State → List TokenType → Option Parsed
 flow_first_key_step ys (k.FlowMappingEnd ∷ ts) = parsed e.MappingEnd (left_spot ys) ts
-flow_first_key_step ys (k.Key ∷ ts) = filled_step n.FlowKey false false s.FlowMappingValue ys ts
+flow_first_key_step ys (k.Key ∷ ts) = filled_step n.FlowKey x.Flow s.FlowMappingValue ys ts
 flow_first_key_step ys _ = None
 
 abbrev pub flow_key_step : List State → List TokenType → Option Parsed
@@ -100,7 +103,7 @@ flow_key_step ys (k.FlowEntry ∷ ts) = flow_first_key_step ys ts
 flow_key_step ys _ = None
 
 abbrev pub flow_value_step : List State → List TokenType → Option Parsed
-flow_value_step ys (k.Value ∷ ts) = filled_step n.FlowValue false false s.FlowMappingKey ys ts
+flow_value_step ys (k.Value ∷ ts) = filled_step n.FlowValue x.Flow s.FlowMappingKey ys ts
 flow_value_step ys _ = None
 
 -- a document's start that is written
@@ -138,8 +141,8 @@ stream_step ys _ = None
 abbrev pub state_step : State → List State → List TokenType → Option Parsed
 state_step s.ImplicitDocumentStart ys ts = first_document_step ys ts
 state_step s.DocumentStart ys ts = document_step ys ts
-state_step s.DocumentContent ys ts = filled_step n.Document true false s.DocumentEnd ys ts
-state_step s.BlockNode ys ts = node_step true false s.DocumentEnd ys ts
+state_step s.DocumentContent ys ts = filled_step n.Document x.Block s.DocumentEnd ys ts
+state_step s.BlockNode ys ts = node_step x.Block s.DocumentEnd ys ts
 state_step s.DocumentEnd ys ts = document_end_step ys ts
 state_step s.BlockSequenceEntry ys ts = entry_step ys ts
 state_step s.IndentlessSequenceEntry ys ts = indentless_step ys ts

@@ -1,7 +1,7 @@
 //! The names of anchors, with their numbers.
-ghost use Rattle.std.specs.Prelude.{◌≡◌, IfOk, IfErr, MatchOption, ⊤};
+ghost use Rattle.std.specs.Prelude.{◌≡◌, IfOk, IfErr, OnOk, MatchOption, ⊤};
 ghost use Rattle.snap_scan_tokens.specs.declared.info.ScanError.TheVariants.{OutOfMemory as WantOfMemory};
-ghost use Rattle.snap_parse_events.specs.Names.{no_names, forgotten, IsAnchored, IsKnown};
+ghost use Rattle.snap_parse_events.specs.Names.{no_names, forgotten, id_of, IsAnchored, IsKnown, Registers};
 
 use snap_content::Text;
 use snap_scan_tokens::ScanError;
@@ -40,6 +40,8 @@ impl Anchors {
     /// Gives a name the next number, whether it had one or not.
     pub(crate) fn register(&mut self, name: Text) -> Result<usize, ScanError>
         ensures ok { IfOk result (λ id. IsAnchored id self.old self.new) }
+        ensures id { IfOk result (λ id. id ≡ self.old.next) }
+        ensures named { OnOk result (Registers name self.old self.new) }
         ensures memory { IfErr result (λ e. e ≡ WantOfMemory) }
     {
         let id = self.next;
@@ -53,7 +55,8 @@ impl Anchors {
 
     /// The number that a name has.
     pub(crate) fn id_of(&self, name: &Text) -> Option<usize>
-        ensures { MatchOption result ⊤ (λ id. IsKnown id self.now) }
+        ensures id { result ≡ id_of name.now self.now }
+        ensures known { MatchOption result ⊤ (λ id. IsKnown id self.now) }
     {
         self.ids.get(name).copied()
     }

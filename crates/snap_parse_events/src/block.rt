@@ -1,10 +1,10 @@
 //! Sequences and mappings in blocks.
 ghost use Rattle.std.specs.Prelude.{true};
 
+use crate::event::Event;
 use crate::machine::{Machine, ParseResult};
-use crate::state::{Ends, Stage, State};
+use crate::state::{Context, Ends, Stage, State};
 use crate::tokens::unexpected;
-use snap_event::Event;
 use snap_scan_tokens::{ScanInfo, Token, TokenType};
 
 impl<'a> Machine<'a> {
@@ -25,7 +25,7 @@ impl<'a> Machine<'a> {
                 Ok((Event::SequenceEnd, mark))
             }
             Token(_, TokenType::BlockEntry) => {
-                self.parse_filled(Ends::BlockEntry, true, false, State::BlockSequenceEntry)
+                self.parse_filled(Ends::BlockEntry, Context::Block, State::BlockSequenceEntry)
             }
             token => Err(unexpected(token, ScanInfo::P8)),
         }
@@ -44,8 +44,7 @@ impl<'a> Machine<'a> {
             Token(_, TokenType::BlockEntry) => {
                 self.parse_filled(
                     Ends::IndentlessEntry,
-                    true,
-                    false,
+                    Context::Block,
                     State::IndentlessSequenceEntry,
                 )
             }
@@ -72,7 +71,11 @@ impl<'a> Machine<'a> {
                 Ok((Event::MappingEnd, mark))
             }
             Token(_, TokenType::Key) => {
-                self.parse_filled(Ends::BlockPair, true, true, State::BlockMappingValue)
+                self.parse_filled(
+                    Ends::BlockPair,
+                    Context::Indentless,
+                    State::BlockMappingValue,
+                )
             }
             Token(mark, TokenType::Value) => self.give_empty(mark, State::BlockMappingContent),
             token => Err(unexpected(token, ScanInfo::P5)),
@@ -104,9 +107,9 @@ impl<'a> Machine<'a> {
         ensures names { KeepsNames result self.old self.new }
         ensures same { StaysOnError result self.old self.new }
         ensures sound { KeepsSoundIn State.BlockMappingContent result self.old self.new }
-        ensures twin { Follows (filled_step Ends.BlockPair true true State.BlockMappingKey self.old.outer.items)
+        ensures twin { Follows (filled_step Ends.BlockPair Context.Indentless State.BlockMappingKey self.old.outer.items)
             result self.old self.new }
     {
-        self.parse_filled(Ends::BlockPair, true, true, State::BlockMappingKey)
+        self.parse_filled(Ends::BlockPair, Context::Indentless, State::BlockMappingKey)
     }
 }

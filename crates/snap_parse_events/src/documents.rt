@@ -1,12 +1,12 @@
 //! The stream and its documents.
 ghost use Rattle.std.specs.Prelude.{◌≡◌, ◌+◌, ◌*◌, ◌≤◌, ℕ, List, [], IfOk, OnOk, Some, true};
-ghost use Rattle.snap_event.specs.Meaning.{ahead, open_in, after};
+ghost use Rattle.snap_parse_events.specs.Meaning.{ahead, open_in, after};
 ghost use Rattle.snap_parse_events.specs.Feed.{tokens_left, starts};
 
+use crate::event::Event;
 use crate::machine::{Machine, ParseResult};
-use crate::state::{Ends, Stage, State};
+use crate::state::{Context, Ends, Stage, State};
 use crate::tokens::unexpected;
-use snap_event::Event;
 use snap_scan_tokens::{ScanInfo, Token, TokenType};
 
 impl<'a> Machine<'a> {
@@ -111,7 +111,7 @@ impl<'a> Machine<'a> {
         ensures twin { Follows (state_step State.DocumentContent self.old.outer.items)
             result self.old self.new }
     {
-        self.parse_filled(Ends::Document, true, false, State::DocumentEnd)
+        self.parse_filled(Ends::Document, Context::Block, State::DocumentEnd)
     }
 
     /// The end of a document, which may be written.

@@ -3,20 +3,36 @@ ghost use Rattle.std.specs.Prelude.{◌≡◌};
 
 use snap_content::OutOfMemory;
 use snap_scan_tokens::ScanError;
-use thiserror::Error;
+use std::error::Error;
+use std::fmt;
 
 /// Why events aren't handed on.
-#[derive(Clone, Copy, Debug, PartialEq, Eq, Error)]
+#[derive(Clone, Copy, Debug, PartialEq, Eq)]
 pub enum LoadError {
-    /// The text is no YAML. Never want of memory.
-    #[error("{0}")]
+    /// The text is no YAML. Never out of memory.
     Scan(ScanError),
     /// A document has begun whose end is to come.
-    #[error("InsideDocument")]
     InsideDocument,
-    #[error("OutOfMemory")]
     OutOfMemory,
 }
+
+/// What is wrong with the text, and where; else the error's name.
+impl fmt::Display for LoadError {
+    ghost use Rattle.std.specs.Prelude.{Some};
+    ghost use Rattle.snap_parse_events.specs.Errors.{load_error_text};
+
+    ghost output = { λ error. Some (load_error_text error) };
+
+    fn fmt<W: fmt::Write>(&self, f: &mut fmt::Formatter<W>) -> fmt::Result {
+        match self {
+            LoadError::Scan(error) => error.fmt(f),
+            LoadError::InsideDocument => f.write_str("InsideDocument"),
+            LoadError::OutOfMemory => f.write_str("OutOfMemory"),
+        }
+    }
+}
+
+impl Error for LoadError {}
 
 impl From<ScanError> for LoadError {
     ghost use Rattle.std.specs.Prelude.{◌≡◌};

@@ -2,10 +2,10 @@
 ghost use Rattle.std.specs.Prelude.{◌+◌, ◌≤◌, false, OnOk};
 ghost use Rattle.snap_parse_events.specs.Feed.{tokens_left};
 
+use crate::event::Event;
 use crate::machine::{Machine, ParseResult};
-use crate::state::{Ends, Stage, State};
+use crate::state::{Context, Ends, Stage, State};
 use crate::tokens::unexpected;
-use snap_event::Event;
 use snap_scan_tokens::{Marker, ScanInfo, Token, TokenType};
 
 impl<'a> Machine<'a> {
@@ -32,7 +32,7 @@ impl<'a> Machine<'a> {
             }
             token => {
                 self.tokens.put_back(token);
-                self.parse_node(false, false, State::FlowSequenceEntry)
+                self.parse_node(Context::Flow, State::FlowSequenceEntry)
             }
         }
     }
@@ -75,7 +75,7 @@ impl<'a> Machine<'a> {
             }
             token => {
                 self.tokens.put_back(token);
-                self.parse_node(false, false, State::FlowSequenceEntryMappingValue)
+                self.parse_node(Context::Flow, State::FlowSequenceEntryMappingValue)
             }
         }
     }
@@ -91,8 +91,7 @@ impl<'a> Machine<'a> {
             Token(_, TokenType::Value) => {
                 self.parse_filled(
                     Ends::FlowPairValue,
-                    false,
-                    false,
+                    Context::Flow,
                     State::FlowSequenceEntryMappingEnd,
                 )
             }
@@ -131,7 +130,7 @@ impl<'a> Machine<'a> {
                 Ok((Event::MappingEnd, comma.unwrap_or(mark)))
             }
             Token(_, TokenType::Key) => {
-                self.parse_filled(Ends::FlowKey, false, false, State::FlowMappingValue)
+                self.parse_filled(Ends::FlowKey, Context::Flow, State::FlowMappingValue)
             }
             Token(mark, TokenType::Value) => {
                 self.tokens.put_back(Token(mark, TokenType::Value));
@@ -139,7 +138,7 @@ impl<'a> Machine<'a> {
             }
             token => {
                 self.tokens.put_back(token);
-                self.parse_node(false, false, State::FlowMappingEmptyValue)
+                self.parse_node(Context::Flow, State::FlowMappingEmptyValue)
             }
         }
     }
@@ -190,12 +189,12 @@ impl<'a> Machine<'a> {
         ensures same { StaysOnError result self.old self.new }
         ensures sound { KeepsSoundIn State.FlowMappingKey result self.old self.new }
         ensures twin { Follows
-            (filled_step Ends.FlowValue false false State.FlowMappingKey self.old.outer.items)
+            (filled_step Ends.FlowValue Context.Flow State.FlowMappingKey self.old.outer.items)
             result self.old self.new }
     {
         let token = self.tokens.take()?;
         if !Ends::FlowValue.has(&token.1) {
-            return self.parse_node_from(token, false, false, State::FlowMappingKey);
+            return self.parse_node_from(token, Context::Flow, State::FlowMappingKey);
         }
         self.tokens.put_back(token);
         self.give_empty(mark, State::FlowMappingKey)

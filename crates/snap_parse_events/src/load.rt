@@ -1,14 +1,16 @@
 //! Events handed on to a receiver.
 ghost use Rattle.std.specs.Prelude.{◌≡◌, ◌≢◌, ◌<◌, List, ◌∷◌, Err, None, Some, IfOk, OnOk, OnErr, IfErr, true, false};
-ghost use Rattle.snap_event.specs.declared.event.Event.{Event as EventSeen};
-ghost use Rattle.snap_event.specs.Meaning.{ahead, is_inside, is_stream_end};
-ghost use Rattle.snap_parse_events.specs.Errors.{IsLoadFounded};
+ghost use Rattle.snap_parse_events.specs.declared.event.Event.{Event as EventSeen};
+ghost use Rattle.snap_parse_events.specs.Meaning.{ahead, is_inside, is_stream_end};
+ghost use Rattle.snap_scan_tokens.specs.declared.info.ScanError.{ScanError as ScanErrorSeen};
+ghost use Rattle.snap_parse_events.specs.Errors.{load_error, IsLoadFounded};
 ghost use Rattle.snap_parse_events.specs.Parsing.{source, meaning, events_left, WillGive};
-ghost use Rattle.snap_parse_events.specs.Runs.{Steps, passed_of, stops, GetsMore, HandsOn, LoadsUpTo, LoadsPart, TellsStream};
+ghost use Rattle.snap_parse_events.specs.Runs.{Steps, passed_of, stops, GetsMore, HandsOn, LoadsUpTo, LoadsPart, TellsStream, Refuses, Breaks, Leaves};
 
 use crate::error::LoadError;
+use crate::event::Event;
 use crate::parser::Parser;
-use snap_event::{Event, MarkedEventReceiver};
+use crate::receiver::MarkedEventReceiver;
 use snap_scan_tokens::Marker;
 
 /// What kind of event was handed on, as far as loading has to know.
@@ -53,6 +55,10 @@ impl<'a> Parser<'a> {
             → IfErr result (λ e. e ≡ LoadError.OutOfMemory) }
         ensures cause { IfErr result (λ e. IsLoadFounded (source self.old) e) }
         ensures source { source self.new ≡ source self.old }
+        ensures well { OnOk result (self.new.error ≡ None) }
+        ensures fails { IfErr result (λ e. Refuses e self.old self.new) }
+        ensures sticky { (why : ScanErrorSeen) → self.old.error ≡ Some why
+            → (result ≡ Err (load_error why)) × (self.new ≡ self.old) }
     {
         let (event, mark) = self.next()?;
         if let Event::DocumentStart = event {
@@ -74,6 +80,11 @@ impl<'a> Parser<'a> {
             → IfErr result (λ e. e ≡ LoadError.OutOfMemory) }
         ensures cause { IfErr result (λ e. IsLoadFounded (source self.old) e) }
         ensures source { source self.new ≡ source self.old }
+        ensures well { OnOk result (self.new.error ≡ None) }
+        ensures breaks { IfErr result (λ e. Breaks e self.old self.new) }
+        ensures sticky { (why : ScanErrorSeen) → self.old.error ≡ Some why
+            → (result ≡ Err (load_error why)) × (self.new ≡ self.old)
+            × (receiver.new ≡ receiver.old) }
     {
         let (event, mark) = self.next_forgetting()?;
         let passed = Passed::of(&event);
@@ -83,6 +94,9 @@ impl<'a> Parser<'a> {
 
     /// Hands events on, each document without the names of the one before: with `multi` all that are to come, else those of
     /// one document, or StreamEnd where none is left. Inside a document it does nothing.
+    ///
+    /// After `Scan` the receiver has got the events before the error, which each later call returns again. After `OutOfMemory`
+    /// the same is so where the parser had no memory; where the receiver had none for an event, a later call goes on after it.
     pub fn load<R: MarkedEventReceiver>(
         &mut self,
         receiver: &mut R,
@@ -100,8 +114,13 @@ impl<'a> Parser<'a> {
             → WillGive self.old (event ∷ events)
             → OnOk result (GetsMore R.told receiver.old receiver.new (event ∷ events)) }
         ensures closed { OnOk result (is_inside (meaning self.new) ≡ false) }
-        ensures err { is_inside (meaning self.old) ≡ false
-            → OnErr result (LoadsPart R.told multi receiver.old receiver.new self.old) }
+        ensures err { is_inside (meaning self.old) ≡ false → IfErr result (λ e.
+            LoadsPart R.told multi e receiver.old receiver.new self.old self.new) }
+        ensures well { OnOk result (self.new.error ≡ None) }
+        ensures leaves { IfErr result (λ e. Leaves e self.old self.new) }
+        ensures sticky { (why : ScanErrorSeen) → is_inside (meaning self.old) ≡ false
+            → self.old.error ≡ Some why → (result ≡ Err (load_error why))
+            × (self.new ≡ self.old) × (receiver.new ≡ receiver.old) }
         ensures memory { (events : List EventSeen) → is_inside (meaning self.old) ≡ false
             → WillGive self.old events → IfErr result (λ e. e ≡ LoadError.OutOfMemory) }
         ensures cause { IfErr result (λ e. IsLoadFounded (source self.old) e) }

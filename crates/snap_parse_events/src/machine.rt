@@ -2,16 +2,16 @@
 ghost use Rattle.std.specs.Prelude.{◌≡◌, ◌≢◌, ◌+◌, ◌≤◌, ℕ, List, [], ◌∷◌, IfOk, OnOk, OnErr, IfErr, IsOkAnd, Some, All};
 ghost use Rattle.std.specs.Str.{chars};
 ghost use Rattle.snap_scan_tokens.specs.Place.{before_nul, mark_of};
-ghost use Rattle.snap_event.specs.Meaning.{open_in, after, is_inside};
+ghost use Rattle.snap_parse_events.specs.Meaning.{open_in, after, is_inside};
 ghost use Rattle.snap_parse_events.specs.Feed.{start_tokens, Feeds};
 ghost use Rattle.snap_parse_events.specs.Names.{no_names, Naming};
 ghost use Rattle.snap_parse_events.specs.Place.{below, weight_below, pending, start_spot};
 
 use crate::anchors::Anchors;
-use crate::state::{Stage, State};
+use crate::event::Event;
+use crate::state::{Context, Stage, State};
 use crate::tokens::Tokens;
 use snap_content::{Lent, Text};
-use snap_event::Event;
 use snap_scan_tokens::{Marker, ScanError, TScalarStyle};
 use std::alloc::Global;
 use std::collections::VecDeque;
@@ -108,7 +108,7 @@ impl<'a> Machine<'a> {
             State::ImplicitDocumentStart => self.implicit_document_start(),
             State::DocumentStart => self.document_start(),
             State::DocumentContent => self.document_content(),
-            State::BlockNode => self.parse_node(true, false, State::DocumentEnd),
+            State::BlockNode => self.parse_node(Context::Block, State::DocumentEnd),
             State::DocumentEnd => self.document_end(),
             State::BlockSequenceEntry => self.block_sequence_entry(),
             State::IndentlessSequenceEntry => self.indentless_sequence_entry(),

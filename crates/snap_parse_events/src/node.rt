@@ -1,53 +1,49 @@
 //! Nodes, with their anchors and tags.
-ghost use Rattle.std.specs.Prelude.{◌≡◌, ◌+◌, ◌*◌, ◌≤◌, ℕ, List, IfOk, OnOk, All, None, false, ◌∷◌, Some};
+ghost use Rattle.std.specs.Prelude.{◌≡◌, ◌+◌, ◌*◌, ◌≤◌, ℕ, List, IfOk, OnOk, All, None, false, ◌∷◌, Some, Ok, Err};
 ghost use Rattle.snap_scan.specs.Sound.{IsFounded};
 ghost use Rattle.snap_parse_events.specs.Feed.{tokens_left, Took};
-ghost use Rattle.snap_parse_events.specs.Names.{Names, Naming, IsAnchored};
+ghost use Rattle.snap_parse_events.specs.Names.{Names, Naming, id_of, IsAnchored, Registers};
 
+use crate::event::{Event, Tag};
 use crate::machine::{Machine, ParseResult};
-use crate::state::{Ends, Stage, State};
+use crate::state::{Context, Ends, Stage, State};
 use snap_content::{Lent, Text};
-use snap_event::{Event, Tag};
 use snap_scan_tokens::{Marker, ScanError, ScanInfo, TScalarStyle, Token, TokenType};
 
 impl<'a> Machine<'a> {
     ghost use Rattle.snap_scan_tokens.specs.declared.token.TokenType.{TokenType as Kind};
+    ghost use Rattle.snap_parse_events.specs.Context.{takes_indentless};
+    ghost use Rattle.snap_parse_events.specs.Properties.{content_event, empty_text, is_anchor, is_property, is_tag, HasAnchor, HasTag};
     ghost use Rattle.snap_parse_events.specs.Taking.{WillTake};
     ghost use Rattle.snap_parse_events.specs.Machine.{spot_of, meaning_now, events_now, events_before, if_indentless, HasSigns, StaysSound, KeepsSoundIn, KeepsSoundFrom, GivesNode, KeepsNames, StaysOnError};
     ghost use Rattle.snap_parse_events.specs.Twin.{Parsed, Parses, Follows, filled_step, node_step};
 
     /// A node: its anchor and its tag, in either order, and what they stand before; or an alias.
-    pub(crate) fn parse_node(
-        &mut self,
-        is_block: bool,
-        is_indentless: bool,
-        behind: State,
-    ) -> ParseResult<'a>
+    pub(crate) fn parse_node(&mut self, context: Context, behind: State) -> ParseResult<'a>
         ensures event { GivesNode behind result self.old self.new }
         ensures left { OnOk result (events_now self.new + 2
-            ≤ events_before (tokens_left self.old.tokens) behind self.old + if_indentless is_indentless) }
+            ≤ events_before (tokens_left self.old.tokens) behind self.old + if_indentless context) }
         ensures names { KeepsNames result self.old self.new }
         ensures same { StaysOnError result self.old self.new }
         ensures sound { KeepsSoundIn behind result self.old self.new }
-        ensures twin { Follows (node_step is_block is_indentless behind self.old.outer.items)
+        ensures twin { Follows (node_step context behind self.old.outer.items)
             result self.old self.new }
     {
         let token = self.tokens.take()?;
-        self.parse_node_from(token, is_block, is_indentless, behind)
+        self.parse_node_from(token, context, behind)
     }
 
     /// The node that a token begins, which was taken.
     pub(crate) fn parse_node_from(
         &mut self,
         token: Token<'a>,
-        is_block: bool,
-        is_indentless: bool,
+        context: Context,
         behind: State,
     ) -> ParseResult<'a>
         ensures event { GivesNode behind result self.old self.new }
         ensures left { OnOk result (events_now self.new
             ≤ events_before (tokens_left self.old.tokens) behind self.old
-            + (2 + if_indentless is_indentless)) }
+            + (2 + if_indentless context)) }
         ensures names { KeepsNames result self.old self.new }
         ensures same { StaysOnError result self.old self.new }
         ensures sound { (source : List ℕ) → Took source token.entry self.old.tokens
@@ -55,20 +51,38 @@ impl<'a> Machine<'a> {
             → StaysSound source result self.new.tokens (spot_of self.new) }
         ensures twin { (rest : List Kind) (found : Parsed) → WillTake self.old.tokens rest
             → self.old.tokens.held ≡ None
-            → node_step is_block is_indentless behind self.old.outer.items (token.entry.1 ∷ rest)
+            → node_step context behind self.old.outer.items (token.entry.1 ∷ rest)
             ≡ Some found
             → Parses result (spot_of self.new) self.new.tokens found }
+        ensures alias { (name : List ℕ) (id : ℕ) → token.entry.1 ≡ Kind.Alias name
+            → id_of name self.old.anchors ≡ Some id
+            → result ≡ Ok (Event.Alias id, token.entry.0) }
+        ensures unknown { (name : List ℕ) → token.entry.1 ≡ Kind.Alias name
+            → id_of name self.old.anchors ≡ None
+            → result ≡ Err (ScanError.Syntax token.entry.0 ScanInfo.P3) }
+        ensures anchor { (name : List ℕ) → token.entry.1 ≡ Kind.Anchor name
+            → IfOk result (λ given. HasAnchor self.old.anchors.next given.0) }
+        ensures named { (name : List ℕ) → token.entry.1 ≡ Kind.Anchor name
+            → OnOk result (Registers name self.old.anchors self.new.anchors) }
+        ensures tag { (handle suffix : List ℕ) → token.entry.1 ≡ Kind.Tag handle suffix → IfOk
+            result (λ given. HasTag (Some (record { handle = handle; suffix = suffix })) given.0) }
+        ensures content { is_property token.entry.1 ≡ false → IfOk result (λ given.
+            given.0 ≡ content_event context 0 None token.entry.1) }
+        ensures mark { is_property token.entry.1 ≡ false
+            → IfOk result (λ given. given.1 ≡ token.entry.0) }
     {
         match token {
             Token(mark, TokenType::Alias(name)) => self.parse_alias(mark, &name, behind),
             Token(_, TokenType::Anchor(name)) => {
                 let anchor = self.anchors.register(name)?;
-                self.parse_anchored(anchor, is_block, is_indentless, behind)
+                let token = self.tokens.take()?;
+                self.parse_anchored(token, anchor, context, behind)
             }
             Token(_, TokenType::Tag(handle, suffix)) => {
-                self.parse_tagged(Tag { handle, suffix }, is_block, is_indentless, behind)
+                let token = self.tokens.take()?;
+                self.parse_tagged(token, Tag { handle, suffix }, context, behind)
             }
-            token => self.parse_content(token, 0, None, is_block, is_indentless, behind),
+            token => self.parse_content(token, 0, None, context, behind),
         }
     }
 
@@ -81,6 +95,10 @@ impl<'a> Machine<'a> {
         ensures same { StaysOnError result self.old self.new }
         ensures sound { (source : List ℕ) → IsFounded source (ScanError.Syntax mark ScanInfo.P3)
             → KeepsSoundFrom source behind result self.old self.new }
+        ensures found { (id : ℕ) → id_of name.now self.old.anchors ≡ Some id
+            → result ≡ Ok (Event.Alias id, mark) }
+        ensures unknown { id_of name.now self.old.anchors ≡ None
+            → result ≡ Err (ScanError.Syntax mark ScanInfo.P3) }
     {
         match self.anchors.id_of(name) {
             None => Err(ScanError::Syntax(mark, ScanInfo::P3)),
@@ -91,54 +109,75 @@ impl<'a> Machine<'a> {
         }
     }
 
-    /// A node behind its anchor.
+    /// A node after its anchor, of which this token was taken.
     fn parse_anchored(
         &mut self,
+        token: Token<'a>,
         anchor: usize,
-        is_block: bool,
-        is_indentless: bool,
+        context: Context,
         behind: State,
     ) -> ParseResult<'a>
         ensures event { GivesNode behind result self.old self.new }
         ensures left { OnOk result (events_now self.new
-            ≤ events_before (tokens_left self.old.tokens) behind self.old + 1) }
+            ≤ events_before (tokens_left self.old.tokens) behind self.old + 5) }
         ensures names { (old : Names) → IsAnchored anchor old self.old.anchors
             → IfOk result (λ given. Naming given.0 old self.new.anchors) }
         ensures same { StaysOnError result self.old self.new }
-        ensures sound { KeepsSoundIn behind result self.old self.new }
+        ensures sound { (source : List ℕ) → Took source token.entry self.old.tokens
+            → HasSigns source behind → All (HasSigns source) self.old.outer.items
+            → StaysSound source result self.new.tokens (spot_of self.new) }
+        ensures kept { self.new.anchors ≡ self.old.anchors }
+        ensures anchor { IfOk result (λ given. HasAnchor anchor given.0) }
+        ensures tag { (handle suffix : List ℕ) → token.entry.1 ≡ Kind.Tag handle suffix → IfOk
+            result (λ given. HasTag (Some (record { handle = handle; suffix = suffix })) given.0) }
+        ensures content { is_tag token.entry.1 ≡ false → IfOk result (λ given.
+            given.0 ≡ content_event context anchor None token.entry.1) }
+        ensures mark { is_tag token.entry.1 ≡ false
+            → IfOk result (λ given. given.1 ≡ token.entry.0) }
     {
-        match self.tokens.take()? {
+        match token {
             Token(_, TokenType::Tag(handle, suffix)) => {
                 let token = self.tokens.take()?;
                 let tag = Some(Tag { handle, suffix });
-                self.parse_content(token, anchor, tag, is_block, is_indentless, behind)
+                self.parse_content(token, anchor, tag, context, behind)
             }
-            token => self.parse_content(token, anchor, None, is_block, is_indentless, behind),
+            token => self.parse_content(token, anchor, None, context, behind),
         }
     }
 
-    /// A node behind its tag.
+    /// A node after its tag, of which this token was taken.
     fn parse_tagged(
         &mut self,
+        token: Token<'a>,
         tag: Tag,
-        is_block: bool,
-        is_indentless: bool,
+        context: Context,
         behind: State,
     ) -> ParseResult<'a>
         ensures event { GivesNode behind result self.old self.new }
         ensures left { OnOk result (events_now self.new
-            ≤ events_before (tokens_left self.old.tokens) behind self.old + 1) }
+            ≤ events_before (tokens_left self.old.tokens) behind self.old + 5) }
         ensures names { KeepsNames result self.old self.new }
         ensures same { StaysOnError result self.old self.new }
-        ensures sound { KeepsSoundIn behind result self.old self.new }
+        ensures sound { (source : List ℕ) → Took source token.entry self.old.tokens
+            → HasSigns source behind → All (HasSigns source) self.old.outer.items
+            → StaysSound source result self.new.tokens (spot_of self.new) }
+        ensures tag { IfOk result (λ given. HasTag (Some tag) given.0) }
+        ensures anchor { (name : List ℕ) → token.entry.1 ≡ Kind.Anchor name
+            → IfOk result (λ given. HasAnchor self.old.anchors.next given.0) }
+        ensures named { (name : List ℕ) → token.entry.1 ≡ Kind.Anchor name
+            → OnOk result (Registers name self.old.anchors self.new.anchors) }
+        ensures content { is_anchor token.entry.1 ≡ false → IfOk result (λ given.
+            given.0 ≡ content_event context 0 (Some tag) token.entry.1) }
+        ensures mark { is_anchor token.entry.1 ≡ false
+            → IfOk result (λ given. given.1 ≡ token.entry.0) }
     {
-        match self.tokens.take()? {
+        match token {
             Token(_, TokenType::Anchor(name)) => {
                 let anchor = self.anchors.register(name)?;
                 let token = self.tokens.take()?;
-                self.parse_content(token, anchor, Some(tag), is_block, is_indentless, behind)
+                self.parse_content(token, anchor, Some(tag), context, behind)
             }
-            token => self.parse_content(token, 0, Some(tag), is_block, is_indentless, behind),
+            token => self.parse_content(token, 0, Some(tag), context, behind),
         }
     }
 
@@ -148,14 +187,13 @@ impl<'a> Machine<'a> {
         token: Token<'a>,
         anchor: usize,
         tag: Option<Tag>,
-        is_block: bool,
-        is_indentless: bool,
+        context: Context,
         behind: State,
     ) -> ParseResult<'a>
         ensures event { GivesNode behind result self.old self.new }
         ensures left { OnOk result (events_now self.new
             ≤ events_before (tokens_left self.old.tokens) behind self.old + 5) }
-        ensures bare { anchor ≡ 0 → tag ≡ None → is_indentless ≡ false
+        ensures bare { anchor ≡ 0 → tag ≡ None → takes_indentless context ≡ false
             → OnOk result (events_now self.new
             ≤ events_before (tokens_left self.old.tokens) behind self.old + 2) }
         ensures names { (old : Names) → IsAnchored anchor old self.old.anchors
@@ -166,10 +204,18 @@ impl<'a> Machine<'a> {
             → StaysSound source result self.new.tokens (spot_of self.new) }
         ensures twin { (rest : List Kind) (found : Parsed) → anchor ≡ 0 → tag ≡ None
             → WillTake self.old.tokens rest → self.old.tokens.held ≡ None
-            → node_step is_block is_indentless behind self.old.outer.items (token.entry.1 ∷ rest)
+            → node_step context behind self.old.outer.items (token.entry.1 ∷ rest)
             ≡ Some found
             → Parses result (spot_of self.new) self.new.tokens found }
+        ensures kept { self.new.anchors ≡ self.old.anchors }
+        ensures content { IfOk result (λ given.
+            given.0 ≡ content_event context anchor tag token.entry.1) }
+        ensures anchor { IfOk result (λ given. HasAnchor anchor given.0) }
+        ensures tag { IfOk result (λ given. HasTag tag given.0) }
+        ensures mark { IfOk result (λ given. given.1 ≡ token.entry.0) }
     {
+        let is_block = context.takes_blocks();
+        let is_indentless = context.takes_indentless();
         match token {
             Token(mark, TokenType::Scalar(style, text)) => {
                 self.stage = Stage::Open(behind);
@@ -219,6 +265,9 @@ impl<'a> Machine<'a> {
         ensures sound { (source : List ℕ) → Took source token.entry self.old.tokens
             → HasSigns source behind → All (HasSigns source) self.old.outer.items
             → StaysSound source result self.new.tokens (spot_of self.new) }
+        ensures kept { self.new.anchors ≡ self.old.anchors }
+        ensures text { IfOk result (λ given. given.0 ≡ empty_text anchor tag) }
+        ensures mark { IfOk result (λ given. given.1 ≡ token.entry.0) }
     {
         let mark = token.0;
         if anchor == 0 && tag.is_none() {
@@ -234,8 +283,7 @@ impl<'a> Machine<'a> {
     pub(crate) fn parse_filled(
         &mut self,
         ends: Ends,
-        is_block: bool,
-        is_indentless: bool,
+        context: Context,
         behind: State,
     ) -> ParseResult<'a>
         ensures event { GivesNode behind result self.old self.new }
@@ -244,12 +292,12 @@ impl<'a> Machine<'a> {
         ensures names { KeepsNames result self.old self.new }
         ensures same { StaysOnError result self.old self.new }
         ensures sound { KeepsSoundIn behind result self.old self.new }
-        ensures twin { Follows (filled_step ends is_block is_indentless behind self.old.outer.items)
+        ensures twin { Follows (filled_step ends context behind self.old.outer.items)
             result self.old self.new }
     {
         let token = self.tokens.take()?;
         if !ends.has(&token.1) {
-            return self.parse_node_from(token, is_block, is_indentless, behind);
+            return self.parse_node_from(token, context, behind);
         }
         let mark = token.0;
         self.tokens.put_back(token);

@@ -7,22 +7,22 @@ ghost use Rattle.snap_scan_tokens.specs.declared.token.TokenType.{TokenType as K
 ghost use Rattle.snap_scan.specs.Owed.{Owes};
 ghost use Rattle.snap_scan.specs.Scan.{start_scan};
 ghost use Rattle.snap_scan.specs.Sound.{IsFounded};
-ghost use Rattle.snap_event.specs.declared.event.Event.{Event as EventSeen};
-ghost use Rattle.snap_event.specs.Meaning.{ended, is_inside, is_stream_end};
+ghost use Rattle.snap_parse_events.specs.declared.event.Event.{Event as EventSeen};
+ghost use Rattle.snap_parse_events.specs.Meaning.{ended, is_inside, is_stream_end};
 ghost use Rattle.snap_parse_events.specs.Names.{forgotten};
-ghost use Rattle.snap_parse_events.specs.Parsing.{start_parsing, source, meaning, events_left, WillGive, IsNext, KeepsError};
+ghost use Rattle.snap_parse_events.specs.Parsing.{start_parsing, source, meaning, events_left, WillGive, IsNext, Fails, KeepsError};
 ghost use Rattle.snap_parse_events.specs.Place.{start_spot};
 ghost use Rattle.snap_parse_events.specs.Twin.{Yields};
 
+use crate::event::Event;
 use crate::machine::Machine;
 pub use crate::machine::ParseResult;
-use snap_event::Event;
 use snap_scan_tokens::ScanError;
 use std::alloc::Global;
 use std::marker::Model;
 
 /// A parser: the events of a text, one by one. The text ends at its first NUL.
-/// After its first failure each call answers the same error for good, want of memory too.
+/// After its first failure each call returns the same error for good, out of memory too.
 #[derive(Debug, Drop)]
 pub struct Parser<'a> {
     pub(crate) machine: Machine<'a>,
@@ -70,6 +70,7 @@ impl<'a> Parser<'a> {
         ensures sticky { (e : ScanError) → self.old.error ≡ Some e
             → (result ≡ Err e) × (self.new ≡ self.old) }
         ensures kept { KeepsError result self.new }
+        ensures fails { IfErr result (λ e. Fails e self.old self.new) }
         ensures same { OnErr result (meaning self.new ≡ meaning self.old) }
         ensures memory { (events : List EventSeen) → WillGive self.old events
             → IfErr result (λ e. e ≡ ScanError.OutOfMemory) }

@@ -37,6 +37,36 @@ pub enum Stage {
     Ended,
 }
 
+/// Which collections may begin where a node stands.
+#[derive(Clone, Copy, Debug, PartialEq, Eq)]
+pub enum Context {
+    /// Those in flow alone.
+    Flow,
+    /// Those in blocks too.
+    Block,
+    /// Those in blocks too, and a sequence that has no indentation of its own.
+    Indentless,
+}
+
+impl Context {
+    ghost use Rattle.std.specs.Prelude.{◌≡◌};
+    ghost use Rattle.snap_parse_events.specs.Context.{takes_blocks, takes_indentless};
+
+    /// Whether a collection in blocks may begin.
+    pub(crate) fn takes_blocks(self) -> bool
+        ensures { result ≡ takes_blocks self }
+    {
+        matches!(self, Context::Block | Context::Indentless)
+    }
+
+    /// Whether a sequence may begin that has no indentation of its own.
+    pub(crate) fn takes_indentless(self) -> bool
+        ensures { result ≡ takes_indentless self }
+    {
+        matches!(self, Context::Indentless)
+    }
+}
+
 /// Where a node may be empty: the tokens that stand behind it there.
 #[derive(Clone, Copy, Debug, PartialEq, Eq)]
 pub enum Ends {

@@ -2,9 +2,9 @@
 use Rattle.snap_parse_laws_json.proofs.Prelude.{◌≡◌, Bool, true, false, List, [], ◌∷◌, ◌++◌, refl, sym, ◌∙◌, ap, subst, append_assoc, ◌||◌, TokenType, Utf8, is_refused, has_refused, items_refused, entries_refused, json_tokens, item_tokens, entry_tokens, key_tokens, json_stream_tokens, or_parts}
 use Rattle.snap_content.specs.Plain as p
 use Rattle.snap_scan_tokens.specs.declared.token.TokenType.TheVariants as k
-use Rattle.snap_event.specs.declared.event.Event.{Event}
-use Rattle.snap_event.specs.declared.event.Event.TheVariants as e
-use Rattle.snap_event.specs.Nodes.{node_onto, nodes_onto, pairs_onto, stream_events}
+use Rattle.snap_parse_events.specs.declared.event.Event.{Event}
+use Rattle.snap_parse_events.specs.declared.event.Event.TheVariants as e
+use Rattle.snap_parse_events.specs.Nodes.{node_onto, nodes_onto, pairs_onto, stream_events}
 use Rattle.snap_parse_events.specs.Place.{start_spot}
 use Rattle.snap_parse_events.specs.TokenTrees.{IsFit, AreFit, FitEntries, tokens_onto, flow_items_onto, flow_entries_onto, events_onto, item_events_onto, entry_events_onto, bare_tokens}
 use Rattle.snap_parse_events.specs.Twin.{Yields}

@@ -4,7 +4,7 @@ ghost use Rattle.snap_content.specs.Plain.{Plain};
 ghost use Rattle.snap_scan_tokens.specs.Place.{before_nul};
 ghost use Rattle.snap_scan.specs.Owed.{Owes};
 ghost use Rattle.snap_scan.specs.Scan.{start_scan};
-ghost use Rattle.snap_event.specs.Nodes.{stream_events};
+ghost use Rattle.snap_parse_events.specs.Nodes.{stream_events};
 ghost use Rattle.snap_parse_events.specs.Place.{start_spot};
 ghost use Rattle.snap_parse_events.specs.Twin.{Yields};
 ghost use Rattle.snap_json.specs.JsonText.{text_at, has_refused};

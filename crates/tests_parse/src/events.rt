@@ -1,6 +1,5 @@
 //! Events one by one: what ends a stream comes again.
-use snap_event::Event;
-use snap_parse_events::Parser;
+use snap_parse_events::{Event, Parser};
 
 #[test]
 fn an_error_comes_again(rt: HostRuntime) {

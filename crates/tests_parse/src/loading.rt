@@ -1,9 +1,8 @@
 //! Events handed on to receivers.
 use snap_content::{OutOfMemory, Text};
-use snap_event::{Event, EventReceiver, MarkedEventReceiver};
-use snap_parse_events::{LoadError, Parser};
+use snap_parse_events::{Event, EventReceiver, LoadError, MarkedEventReceiver, Parser};
 use snap_scan_tokens::{Marker, ScanError, ScanInfo};
-use std::alloc::Global;
+use std::alloc::{AllocError, Global};
 use std::process::Abort;
 use std::test::Fail;
 
@@ -146,6 +145,32 @@ fn names_are_forgotten_between_documents(rt: HostRuntime) {
         _ => assert!(rt; false),
     }
     assert_eq!(rt; receiver.count, 5);
+}
+
+#[test]
+fn a_refusal_is_printed_with_its_place(rt: HostRuntime) -> Result<(), AllocError> {
+    let mut parser = Parser::new(rt.alloc(), ALIAS_BEHIND);
+    let mut receiver = up_to(100);
+    match parser.load(&mut receiver, true) {
+        Err(error) => {
+            let shown = format!(in rt.alloc(); "{error}")?;
+            let wanted = "while parsing node, found unknown anchor at line 2 column 5";
+            assert_eq!(rt; shown.as_str(), wanted);
+        }
+        Ok(()) => assert!(rt; false),
+    }
+    Ok(())
+}
+
+#[test]
+fn a_refusal_is_kept_for_good(rt: HostRuntime) {
+    let mut parser = Parser::new(rt.alloc(), "a: b: c");
+    let mut receiver = up_to(100);
+    let first = parser.load(&mut receiver, true);
+    assert!(rt; matches!(first, Err(LoadError::Scan(_))));
+    let count = receiver.count;
+    assert!(rt; parser.next().is_err());
+    assert_eq!(rt; receiver.count, count);
 }
 
 #[test]

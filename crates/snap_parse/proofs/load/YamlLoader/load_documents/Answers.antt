@@ -1,5 +1,5 @@
 use Rattle.snap_parse.proofs.Prelude.{◌≡◌, [], Bool, ap, ◌∙◌, refl, Parsing, meaning, stream_events, scan_error}
-use Rattle.snap_event.specs.Meaning.{ahead, is_inside}
+use Rattle.snap_parse_events.specs.Meaning.{ahead, is_inside}
 use Rattle.snap_parse_events.specs.declared.error.LoadError.TheVariants.{OutOfMemory}
 use Rattle.snap_parse.proofs.Loading.{made, made-nodes}
 use Rattle.snap_parse.proofs.load.YamlLoader.load_documents.Goals as goal

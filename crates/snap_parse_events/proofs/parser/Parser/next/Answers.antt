@@ -1,5 +1,5 @@
 use Rattle.snap_parse_events.proofs.Prelude.{◌≡◌, None, ◌∙◌, rules}
-use Rattle.snap_parse_events.proofs.Giving.{next-event, next-refused}
+use Rattle.snap_parse_events.proofs.Giving.{next-event, next-refused, next-fails}
 use Rattle.snap_parse_events.proofs.parser.Parser.next.Goals as goal
 
 pub returns-in-Ok-clause-next : goal.returns-in-Ok-clause-next
@@ -14,3 +14,11 @@ returns-in-Err-clause-memory c =
     c.keep.ensures.result
     ∙ next-refused c.in-Err.error c.args.self.now c.self.inside.machine c.self.inside.error c.self.view_is (λ at. absurd (c.in-Err.ensures.ended at))
     (λ ts found takes step. c.in-Err.ensures.twin ts found takes step) events will
+
+pub returns-in-Err-clause-fails : goal.returns-in-Err-clause-fails
+returns-in-Err-clause-fails c =
+    next-fails c.keep.result c.args.self.now c.self.inside.machine c.next.new.self c.self.inside.error c.keep.new.kept c.self.view_is (search rules) c.in-Err.ensures.same
+    (λ events will.
+    c.keep.ensures.result
+    ∙ next-refused c.in-Err.error c.args.self.now c.self.inside.machine c.self.inside.error c.self.view_is (λ at. absurd (c.in-Err.ensures.ended at))
+    (λ ts found takes step. c.in-Err.ensures.twin ts found takes step) events will)

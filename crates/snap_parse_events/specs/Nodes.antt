@@ -1,9 +1,9 @@
 -- Documents as trees, with anchors and aliases, and their events.
 use Rattle.std.specs.Prelude.{ℕ, List, [], ◌∷◌, Option}
 use Rattle.snap_scan_tokens.specs.declared.token.TScalarStyle.{TScalarStyle}
-use Rattle.snap_event.specs.declared.event.Tag.{Tag}
-use Rattle.snap_event.specs.declared.event.Event.{Event}
-use Rattle.snap_event.specs.declared.event.Event.TheVariants as e
+use Rattle.snap_parse_events.specs.declared.event.Tag.{Tag}
+use Rattle.snap_parse_events.specs.declared.event.Event.{Event}
+use Rattle.snap_parse_events.specs.declared.event.Event.TheVariants as e
 
 -- a node of a document: an alias by its number, a scalar, a list of nodes, or a dict of pairs of nodes, with anchors
 mutual

@@ -1,6 +1,6 @@
 //! What gets events, one by one.
 ghost use Rattle.std.specs.Prelude.{List, [], ◌∷◌, ◌++◌, OnOk, OnErr};
-ghost use Rattle.snap_event.specs.declared.event.Event.{Event as EventSeen};
+ghost use Rattle.snap_parse_events.specs.declared.event.Event.{Event as EventSeen};
 
 use crate::event::Event;
 use snap_content::OutOfMemory;
@@ -11,7 +11,7 @@ pub trait MarkedEventReceiver {
     /// These are the events that it got. A receiver that doesn't tell them leaves this as it is.
     ghost told: { Self → List EventSeen → Type 0 } = { λ _ _. Unit {0} };
 
-    /// Takes one event more. After want of memory it is as if the event hadn't come.
+    /// Takes one event more. After out of memory it is as if the event hadn't come.
     fn on_event(&mut self, ev: Event<'_>, mark: Marker) -> Result<(), OutOfMemory>
         ensures ok { (events : List EventSeen) → told self.old events
             → OnOk result (told self.new (events ++ ev.entry ∷ [])) }
@@ -24,7 +24,7 @@ pub trait EventReceiver {
     /// These are the events that it got. A receiver that doesn't tell them leaves this as it is.
     ghost told: { Self → List EventSeen → Type 0 } = { λ _ _. Unit {0} };
 
-    /// Takes one event more. After want of memory it is as if the event hadn't come.
+    /// Takes one event more. After out of memory it is as if the event hadn't come.
     fn on_event(&mut self, ev: Event<'_>) -> Result<(), OutOfMemory>
         ensures ok { (events : List EventSeen) → told self.old events
             → OnOk result (told self.new (events ++ ev.entry ∷ [])) }

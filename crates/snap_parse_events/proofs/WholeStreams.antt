@@ -1,12 +1,8 @@
 -- Events that may come, up to a stream's end, are those of documents.
-use Rattle.std.proofs.Common.{◌≡◌, ◌&&◌, Bool, true, false, Option, None, Some, List, [], ◌∷◌, ◌++◌, refl, sym, ◌∙◌, ap, subst, not, option_and_then}
-use Rattle.std.specs.List.{list_all}
-use Rattle.snap_event.specs.declared.event.Event.{Event}
-use Rattle.snap_event.specs.declared.event.Event.TheVariants as e
-use Rattle.snap_event.specs.Meaning.{Open, due, given, sequence, key, value, Meaning, ahead, open_in, ended, given_in, leaf, start, after, after_all, is_stream_end}
-use Rattle.snap_event.specs.Nodes.{Node, alias, scalar, list, dict, Nodes, no_nodes, node, Pairs, no_pairs, pair, node_onto, nodes_onto, pairs_onto, documents_onto}
-use Rattle.snap_event.specs.Streams.{HasNoEnd, IsStream, AreDocuments}
-use Rattle.std.proofs.lemmas.Bool.{and_parts}
+use Rattle.snap_parse_events.proofs.Prelude.{◌≡◌, true, Option, None, Some, List, [], ◌∷◌, ◌++◌, refl, sym, ◌∙◌, ap, subst, not, option_and_then, list_all, and_parts, Event, Open, due, given, sequence, key, value, Meaning, ahead, open_in, ended, given_in, leaf, start, after, after_all, is_stream_end}
+use Rattle.snap_parse_events.specs.declared.event.Event.TheVariants as e
+use Rattle.snap_parse_events.specs.Nodes.{stream_events, Node, alias, scalar, list, dict, Nodes, no_nodes, node, Pairs, no_pairs, pair, node_onto, nodes_onto, pairs_onto, documents_onto}
+use Rattle.snap_parse_events.specs.Streams.{HasNoEnd, IsStream, AreDocuments, AreFront}
 
 -- these events end what is open, and the stream
 abbrev Completes : List Open → List Event → Type 0
@@ -130,3 +126,54 @@ whole-streams events s =
     let f : List Event → Option Meaning = λ v. after_all v ahead in
     let d = whole s.front ended s.first (ap f (sym s.split) ∙ s.allowed) in
     (d.0, s.split ∙ d.1)
+
+-- whatever is open can be ended
+ending : (os : List Open) → (es : List Event) × Completes os es
+ending [] = (e.StreamEnd ∷ [], ([], refl))
+ending (due ∷ os) = let k = ending os in (node_onto (alias 0) (e.DocumentEnd ∷ k.0), (alias 0, k.0, refl, k.1))
+ending (given ∷ os) = let k = ending os in (e.DocumentEnd ∷ k.0, (k.0, refl, k.1))
+ending (sequence ∷ os) = let k = ending os in (e.SequenceEnd ∷ k.0, (no_nodes, k.0, refl, k.1))
+ending (key ∷ os) = let k = ending os in (e.MappingEnd ∷ k.0, (no_pairs, k.0, refl, k.1))
+ending (value ∷ os) = let k = ending os in (node_onto (alias 0) (e.MappingEnd ∷ k.0), (alias 0, no_pairs, k.0, refl, k.1))
+
+abbrev Front : List Open → List Event → Type 0
+Front os front = (rest : List Event) × Completes os (front ++ rest)
+
+-- one event in front, behind which something is open
+step-front : (x : Event) (os : List Open) (front : List Event) (m : Option Meaning) (n : Meaning) → not (is_stream_end x) ≡ true → after x (open_in os) ≡ m
+    → ((ps : List Open) → after_all front (open_in ps) ≡ Some n → Front ps front) → option_and_then (after_all front) m ≡ Some n → Front os (x ∷ front)
+step-front x os front None n go is f h = absurd (cc)
+step-front x os front (Some ahead) n go is f h =
+    let P : Option Meaning → Type 0 = λ v. CompletesIn v (front ++ []) in
+    ([], step-completes x os (front ++ []) go (subst P (sym is) tt))
+step-front x os front (Some (open_in ps)) n go is f h =
+    let k = f ps h in
+    let P : Option Meaning → Type 0 = λ v. CompletesIn v (front ++ k.0) in
+    (k.0, step-completes x os (front ++ k.0) go (subst P (sym is) k.1))
+step-front x os front (Some ended) n go is f h =
+    let P : Option Meaning → Type 0 = λ v. CompletesIn v (front ++ []) in
+    ([], step-completes x os (front ++ []) go (subst P (sym is) tt))
+
+fronts : (front : List Event) (os : List Open) (n : Meaning) → HasNoEnd front → after_all front (open_in os) ≡ Some n → Front os front
+fronts [] os n go h = ending os
+fronts (x ∷ front) os n go h =
+    let k = and_parts (not (is_stream_end x)) (list_all (λ event. not (is_stream_end event)) front) go in
+    step-front x os front (after x (open_in os)) n k.0 refl (λ ps hp. fronts front ps n k.1 hp) h
+
+-- what may come from the stream's start is the front of a stream of documents
+pub whole-fronts : (events : List Event) (n : Meaning) → HasNoEnd events → after_all events ahead ≡ Some n → AreFront events
+whole-fronts [] n go h = (stream_events [], ([], refl))
+whole-fronts (e.StreamStart ∷ front) n go h =
+    let k = and_parts true (list_all (λ event. not (is_stream_end event)) front) go in
+    let c = fronts front [] n k.1 h in
+    let f : List Event → List Event = λ v. e.StreamStart ∷ v in
+    (c.0, (c.1.0, ap f c.1.1))
+whole-fronts (e.StreamEnd ∷ front) n go h = absurd (cc)
+whole-fronts (e.DocumentStart ∷ front) n go h = absurd (cc)
+whole-fronts (e.DocumentEnd ∷ front) n go h = absurd (cc)
+whole-fronts ((e.Alias id) ∷ front) n go h = absurd (cc)
+whole-fronts ((e.Scalar text style id tag) ∷ front) n go h = absurd (cc)
+whole-fronts ((e.SequenceStart id) ∷ front) n go h = absurd (cc)
+whole-fronts (e.SequenceEnd ∷ front) n go h = absurd (cc)
+whole-fronts ((e.MappingStart id) ∷ front) n go h = absurd (cc)
+whole-fronts (e.MappingEnd ∷ front) n go h = absurd (cc)
