@@ -17,7 +17,7 @@ ghost use Rattle.snap_parse_events.specs.Twin.{Yields};
 use crate::event::Event;
 use crate::machine::Machine;
 pub use crate::machine::ParseResult;
-use snap_scan_tokens::ScanError;
+use snap_scan_tokens::{ScanError, keep};
 use std::alloc::Global;
 use std::marker::Model;
 
@@ -99,13 +99,4 @@ impl<'a> Parser<'a> {
     {
         self.machine.anchors.forget();
     }
-}
-
-/// Keeps an error for good.
-fn keep(kept: &mut Option<ScanError>, error: &ScanError) -> ScanError
-    ensures result { result ≡ error.now }
-    ensures kept { kept.new ≡ Some error.now }
-{
-    *kept = Some(*error);
-    *error
 }
