@@ -97,10 +97,10 @@ clean-joined (c ∷ cs) h = by (c == 10) refl
         ∙ ap (λ t. c ∷ t) (clean-joined cs both.1)
     by false is =
         let p = piece cs in
-        let open : is_end (c ∷ p.first ∷ p.more) ≡ false = p.lead c ∙ not_true (c == 13 && begins 10 rest) both.0 in
+        let inside : is_end (c ∷ p.first ∷ p.more) ≡ false = p.lead c ∙ not_true (c == 13 && begins 10 rest) both.0 in
         ap (λ v. lines_text (cond v ((c ∷ []) ∷ ended_lines rest) (onto c (ended_lines rest)))) is
         ∙ ap (λ ps. lines_text (onto c ps)) p.is
-        ∙ ap (λ v. joined_lines (cond v [] (c ∷ line_of (p.first ∷ p.more)) ∷ map line_of p.others)) open
+        ∙ ap (λ v. joined_lines (cond v [] (c ∷ line_of (p.first ∷ p.more)) ∷ map line_of p.others)) inside
         ∙ joined-onto c (line_of (p.first ∷ p.more)) (map line_of p.others)
         ∙ ap (λ ps. c ∷ lines_text ps) (sym p.is)
         ∙ ap (λ t. c ∷ t) (clean-joined cs both.1)
