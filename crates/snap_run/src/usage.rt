@@ -42,6 +42,9 @@ REQUESTS are YAML documents on standard input, each headed by ---, with the keys
     put          what stands there in place of the value
     sort         true: the list that stands there is put in order
   sort           may be left out; true: maps are sorted by their keys
+A document with a float or with an alias, as *a, is no request: hand floats over
+as texts, and have no aliases written (PyYAML: ignore_aliases; js-yaml: noRefs),
+or hand over JSON.
 
 Each answer is a line: passed, updated, pending or rejected, and the snapshot's path.
 
