@@ -15,7 +15,7 @@ pub use Rattle.snap_scan_tokens.specs.Mark.{Mark}
 pub use Rattle.snap_scan_tokens.specs.Pieces.{Piece, before, EndsIn}
 pub use Rattle.snap_scan_tokens.specs.Place.{Place, skipped, before_nul, passed, skipped_while, mark_of, behind, Later, next, here, skip_from, Travels}
 pub use Rattle.snap_scan_tokens.specs.Plain.{Plain, plain, plain_end, ends_plain, is_bad_tab, plain_from, ReadsPlain}
-pub use Rattle.snap_scan_tokens.specs.Quoted.{Quoted, double, escape, digits, hexadecimal, escaped, further_digits, ReadsQuoted, Continues, quoted_end, are_digits, escape_fault, double_at, single, single_at, double_from, single_from, sign_of, ends_quoted, quoted_from, quoted_at, IsInside}
+pub use Rattle.snap_scan_tokens.specs.Quoted.{Quoted, double, escape, digits, hexadecimal, escaped, further_digits, ReadsQuoted, Continues, quoted_end, are_digits, double_at, single, single_at, sign_of, ends_quoted, quoted_from, quoted_at}
 pub use Rattle.snap_scan_tokens.specs.declared.quoted.Quotes.{Quotes}
 pub use Rattle.snap_scan_tokens.specs.declared.characters.Kind.TheVariants.{DoubleQuoted, Word, SingleQuoted}
 pub use Rattle.snap_scan_tokens.specs.declared.folding.Gap.{Gap}
