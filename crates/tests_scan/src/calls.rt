@@ -126,6 +126,7 @@ fn a_scanner_tells_when_its_stream_starts_and_ends(rt: HostRuntime) -> Result<()
         let token = scanner.next_token()?;
         assert!(rt; is_of_a(&token, place), "{place}");
     }
+    fetch_twice(&mut scanner)?;
     assert!(rt; scanner.stream_ended() && scanner.next_token()?.is_none());
     Ok(())
 }
@@ -156,6 +157,7 @@ fn each_call_answers_the_first_failure_for_good(rt: HostRuntime) -> Result<(), F
     for call in [0, 1, 2, 0, 1, 2] {
         assert_eq!(rt; error_of(&mut scanner, call), failure, "{call}");
         assert!(rt; scanner.next().is_none() && scanner.get_error() == failure);
+        assert_eq!(rt; scanner.mark(), mark, "{call}");
     }
     Ok(())
 }
