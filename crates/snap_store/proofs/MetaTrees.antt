@@ -1,5 +1,5 @@
 -- Metadata are read from the tree that they are made as.
-use Rattle.snap_store.proofs.Prelude.{◌≡◌, ℕ, ◌^◌, ◌<◌, Bool, true, false, not, ◌&&◌, List, Option, None, Some, refl, ap, sym, ◌∙◌, lt-ltb, option_or, IfSome, codes, option_and_then, if◌then◌else◌, is_text, binary_kind, Meta, text_pair, line_pair, info_pair, kind_pairs, meta_pairs, meta_tree, filled_info, without_nil_info, TellsFields, tree_text, tree_line, is_key, is_nil, last_by, last_in, last_filled_in, text_at, line_at, kind_told, fields_told, SnapshotKind, Text, Binary}
+use Rattle.snap_store.proofs.Prelude.{◌≡◌, ℕ, ◌^◌, ◌<◌, Bool, true, false, not, ◌&&◌, nat_lt, List, Option, None, Some, refl, ap, sym, ◌∙◌, lt-ltb, option_or, IfSome, codes, option_and_then, if◌then◌else◌, is_text, binary_kind, Meta, text_pair, line_pair, info_pair, kind_pairs, meta_pairs, meta_tree, filled_info, without_nil_info, TellsFields, tree_text, tree_line, is_key, is_nil, last_by, last_in, last_filled_in, text_at, line_at, kind_told, fields_told, SnapshotKind, Text, Binary}
 use Rattle.snap_content.specs.Tree.{Tree, string, u32, map, TreePairs, no_pairs, pair}
 use Rattle.snap_store.proofs.Lookups.{named, filled}
 use Rattle.snap_store.proofs.TreesMade.{same_meta}

@@ -4,9 +4,8 @@ use Rattle.std.specs.Char.{is_whitespace}
 use Rattle.snap_content.specs.Front.{begins}
 use Rattle.snap_content.specs.Quotes.{ends_badly}
 use Rattle.snap_content.proofs.Booleans.{not_true, and_nothing}
-use Rattle.snap_text.proofs.Trimming.{well-trimmed}
+use Rattle.snap_text.proofs.Trimming.{well-trimmed, ends-unreturned}
 use Rattle.snap_text.specs.Normal.{trimmed, unreturned, normal}
-use Rattle.snap_text_literals.proofs.Returns.{ends-unreturned}
 
 -- no return stands in front of a line's end
 abbrev is_paired : List ℕ → Bool
@@ -20,11 +19,11 @@ is_clean (c ∷ cs) = not (c == 13 && begins 10 (cs ++ 10 ∷ [])) && is_clean c
 
 paired-unreturned : (text : List ℕ) → is_paired (unreturned text) ≡ true
 paired-unreturned [] = refl
-paired-unreturned (c ∷ cs) = by (c == 13 && begins 10 (unreturned cs)) refl
+paired-unreturned (c ∷ cs) = by (c == 13 && begins 10 (unreturned cs)) refl (paired-unreturned cs)
   where
-    by : (b : Bool) → (c == 13 && begins 10 (unreturned cs)) ≡ b → is_paired (cond b (unreturned cs) (c ∷ unreturned cs)) ≡ true
-    by true is = paired-unreturned cs
-    by false is = ap (λ v. not v && is_paired (unreturned cs)) is ∙ paired-unreturned cs
+    by : (b : Bool) → (c == 13 && begins 10 (unreturned cs)) ≡ b → is_paired (unreturned cs) ≡ true → is_paired (cond b (unreturned cs) (c ∷ unreturned cs)) ≡ true
+    by true is rest = rest
+    by false is rest = ap (λ v. not v && is_paired (unreturned cs)) is ∙ rest
 
 clean : (text : List ℕ) → ends_badly text ≡ false → is_paired text ≡ true → is_clean text ≡ true
 clean [] h p = refl
@@ -50,22 +49,23 @@ record Piece (text : List ℕ) : Type 0 where
 
 piece : (cs : List ℕ) → Piece (cs ++ 10 ∷ [])
 piece [] = record { first = 10; more = []; others = []; is = refl; lead = λ c. refl }
-piece (d ∷ ds) = by (d == 10) refl
+piece (d ∷ ds) = by (d == 10) refl (piece ds)
   where
-    rest : List ℕ
-    rest = ds ++ 10 ∷ []
-
-    by : (b : Bool) → (d == 10) ≡ b → Piece (d ∷ rest)
-    by true is = record { first = d; more = []; others = ended_lines rest; is = ap (λ v. cond v ((d ∷ []) ∷ ended_lines rest) (onto d (ended_lines rest))) is; lead = λ c. refl }
-    by false is =
-        let p = piece ds in
-        record {
-          first = d;
-          more = p.first ∷ p.more;
-          others = p.others;
-          is = ap (λ v. cond v ((d ∷ []) ∷ ended_lines rest) (onto d (ended_lines rest))) is ∙ ap (onto d) p.is;
-          lead = λ c. sym (ap (λ v. c == 13 && v) is ∙ and_nothing (c == 13));
-        }
+    by : (b : Bool) → (d == 10) ≡ b → Piece (ds ++ 10 ∷ []) → Piece (d ∷ (ds ++ 10 ∷ []))
+    by true is p = record {
+      first = d;
+      more = [];
+      others = ended_lines (ds ++ 10 ∷ []);
+      is = ap (λ v. cond v ((d ∷ []) ∷ ended_lines (ds ++ 10 ∷ [])) (onto d (ended_lines (ds ++ 10 ∷ [])))) is;
+      lead = λ c. refl;
+    }
+    by false is p = record {
+      first = d;
+      more = p.first ∷ p.more;
+      others = p.others;
+      is = ap (λ v. cond v ((d ∷ []) ∷ ended_lines (ds ++ 10 ∷ [])) (onto d (ended_lines (ds ++ 10 ∷ [])))) is ∙ ap (onto d) p.is;
+      lead = λ c. sym (ap (λ v. c == 13 && v) is ∙ and_nothing (c == 13));
+    }
 
 -- a character in front of the first line
 joined-onto : (c : ℕ) (line : List ℕ) (lines : List (List ℕ)) → joined_lines ((c ∷ line) ∷ lines) ≡ c ∷ joined_lines (line ∷ lines)
@@ -77,33 +77,33 @@ joined-empty : (pieces : List (List ℕ)) (first : List ℕ) (others : List (Lis
 joined-empty pieces first others is =
     ap (λ ps. joined_lines ([] ∷ map line_of ps)) is ∙ ap (λ ps. 10 ∷ lines_text ps) (sym is)
 
+-- one character in front of a text
+joined-cons : (c : ℕ) (cs : List ℕ) (b : Bool) → (c == 10) ≡ b → not (c == 13 && begins 10 (cs ++ 10 ∷ [])) ≡ true → lines_text (ended_lines (cs ++ 10 ∷ [])) ≡ cs
+    → lines_text (ended_lines (c ∷ (cs ++ 10 ∷ []))) ≡ c ∷ cs
+joined-cons c cs true is apart same =
+    let rest : List ℕ = cs ++ 10 ∷ [] in
+    let p = piece cs in
+    ap (λ v. lines_text (cond v ((c ∷ []) ∷ ended_lines rest) (onto c (ended_lines rest)))) is
+    ∙ ap (λ v. joined_lines (cond v [] (c ∷ []) ∷ map line_of (ended_lines rest))) is
+    ∙ joined-empty (ended_lines rest) (p.first ∷ p.more) p.others p.is
+    ∙ ap (λ v. v ∷ lines_text (ended_lines rest)) (sym (true-eqb c 10 (sym is)))
+    ∙ ap (λ t. c ∷ t) same
+joined-cons c cs false is apart same =
+    let rest : List ℕ = cs ++ 10 ∷ [] in
+    let p = piece cs in
+    let inside : is_end (c ∷ p.first ∷ p.more) ≡ false = p.lead c ∙ not_true (c == 13 && begins 10 rest) apart in
+    ap (λ v. lines_text (cond v ((c ∷ []) ∷ ended_lines rest) (onto c (ended_lines rest)))) is
+    ∙ ap (λ ps. lines_text (onto c ps)) p.is
+    ∙ ap (λ v. joined_lines (cond v [] (c ∷ line_of (p.first ∷ p.more)) ∷ map line_of p.others)) inside
+    ∙ joined-onto c (line_of (p.first ∷ p.more)) (map line_of p.others)
+    ∙ ap (λ ps. c ∷ lines_text ps) (sym p.is)
+    ∙ ap (λ t. c ∷ t) same
+
 clean-joined : (text : List ℕ) → is_clean text ≡ true → lines_text (ended_lines (text ++ 10 ∷ [])) ≡ text
 clean-joined [] h = refl
-clean-joined (c ∷ cs) h = by (c == 10) refl
-  where
-    rest : List ℕ
-    rest = cs ++ 10 ∷ []
-
-    both : (not (c == 13 && begins 10 rest) ≡ true) × (is_clean cs ≡ true)
-    both = and_parts (not (c == 13 && begins 10 rest)) (is_clean cs) h
-
-    by : (b : Bool) → (c == 10) ≡ b → lines_text (cond (c == 10) ((c ∷ []) ∷ ended_lines rest) (onto c (ended_lines rest))) ≡ c ∷ cs
-    by true is =
-        let p = piece cs in
-        ap (λ v. lines_text (cond v ((c ∷ []) ∷ ended_lines rest) (onto c (ended_lines rest)))) is
-        ∙ ap (λ v. joined_lines (cond v [] (c ∷ []) ∷ map line_of (ended_lines rest))) is
-        ∙ joined-empty (ended_lines rest) (p.first ∷ p.more) p.others p.is
-        ∙ ap (λ v. v ∷ lines_text (ended_lines rest)) (sym (true-eqb c 10 (sym is)))
-        ∙ ap (λ t. c ∷ t) (clean-joined cs both.1)
-    by false is =
-        let p = piece cs in
-        let inside : is_end (c ∷ p.first ∷ p.more) ≡ false = p.lead c ∙ not_true (c == 13 && begins 10 rest) both.0 in
-        ap (λ v. lines_text (cond v ((c ∷ []) ∷ ended_lines rest) (onto c (ended_lines rest)))) is
-        ∙ ap (λ ps. lines_text (onto c ps)) p.is
-        ∙ ap (λ v. joined_lines (cond v [] (c ∷ line_of (p.first ∷ p.more)) ∷ map line_of p.others)) inside
-        ∙ joined-onto c (line_of (p.first ∷ p.more)) (map line_of p.others)
-        ∙ ap (λ ps. c ∷ lines_text ps) (sym p.is)
-        ∙ ap (λ t. c ∷ t) (clean-joined cs both.1)
+clean-joined (c ∷ cs) h =
+    let both = and_parts (not (c == 13 && begins 10 (cs ++ 10 ∷ []))) (is_clean cs) h in
+    joined-cons c cs (c == 10) refl both.0 (clean-joined cs both.1)
 
 pub normal-body : (raw : List ℕ) → lines_text (ended_lines (normal raw ++ 10 ∷ [])) ≡ normal raw
 normal-body raw = clean-joined (normal raw) (clean-normal raw)

@@ -1,11 +1,11 @@
 -- A saved text snapshot is read back.
-use Rattle.snap_store.proofs.Prelude.{◌≡◌, ◌<◌, ◌^◌, ◌⊎◌, inl, inr, ℕ, pos, Bool, true, false, cond, List, [], ◌∷◌, ◌++◌, Option, None, Some, refl, sym, ap, ◌∙◌, subst, append_assoc, codes, IfSome, option_map, nat_lt, if◌then◌else◌, Plain, plain, content_of, text, int, dict, Entries, entry, IsWithin, document_of, lines_of, body_of, is_headed, kind_in, fields, Meta, text_field, line_field, info_field, kind_fields, header_tree, text_pair, info_pair, kind_pairs, kind_told, fields_told, meta_in, contents_in, legacy_in, number_text_in, SnapshotContents, SnapshotKind, Error}
+use Rattle.snap_store.proofs.Prelude.{◌≡◌, ◌<◌, ◌^◌, inl, inr, ℕ, pos, Bool, true, false, List, [], ◌∷◌, ◌++◌, Option, None, Some, refl, sym, ap, ◌∙◌, subst, append_assoc, codes, IfSome, option_map, plain, content_of, int, dict, Entries, IsWithin, document_of, lines_of, body_of, is_headed, kind_in, fields, Meta, text_field, line_field, info_field, kind_fields, header_tree, text_pair, info_pair, kind_pairs, meta_in, contents_in, legacy_in, SnapshotKind, Error}
+use Rattle.std.proofs.Common.{◌⊎◌, arith}
 use Rattle.snap_content.specs.Plain.{number_tree, pairs_made}
 use Rattle.snap_content.specs.Readable.{AreEntriesWithin}
 use Rattle.snap_content.specs.Tree as t
 use Rattle.snap_content.specs.declared.error.Error.TheVariants.{FailedParsingYaml, UnexpectedDataType, MissingField, FileIo, FloatText, JsonKey, NotText, NoFile, OutOfMemory}
-use Rattle.snap_content.proofs.Booleans.{some_same}
-use Rattle.snap_emit.specs.Spelled.{IsHeaderOf, IsPrintedOf}
+use Rattle.snap_emit.specs.Spelled.{IsPrintedOf}
 use Rattle.snap_print.specs.Blocks.{off}
 use Rattle.snap_print.proofs.Rows.{printed-rows}
 use Rattle.snap_text.specs.Normal.{normal}
@@ -13,7 +13,7 @@ use Rattle.snap_store.specs.FileSplit.{header_of}
 use Rattle.snap_store.specs.Image.{text_under}
 use Rattle.snap_store.specs.Meta.{header_entries}
 use Rattle.snap_store.specs.ReadBack.{IsOfText, IsReadBack, read_meta}
-use Rattle.snap_store.specs.Reading.{IsTextFile, HasHeader, HeaderTells, LinesTell, Tells, HoldsBody, IsReadAs, IsRefused}
+use Rattle.snap_store.specs.Reading.{IsTextFile, HasHeader, Tells, HoldsBody, IsReadAs, IsRefused}
 use Rattle.snap_store.specs.declared.metadata.SnapshotKind.TheVariants as kind
 use Rattle.snap_store.specs.declared.snapshot.Snapshot.{Snapshot}
 use Rattle.snap_store.proofs.MetaTrees.{IsLine, line_by, pairs_by, fields_read, kind_read}
@@ -24,7 +24,7 @@ use Rattle.snap_store.proofs.TreesMade.{line_made, kind-made, fields-made}
 
 -- the pairs that a reader makes of a header's entries are those of the metadata that are read
 
-line_tree : ℕ → t.Tree
+abbrev line_tree : ℕ → t.Tree
 line_tree n = number_tree (pos n)
 
 reads_line : IsLine line_tree

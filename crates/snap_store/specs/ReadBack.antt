@@ -1,5 +1,5 @@
 -- What a text snapshot that was saved is read back as.
-use Rattle.std.specs.Prelude.{◌≡◌, ◌<◌, ◌^◌, ℕ, List, Option, false, IfSome, option_map}
+use Rattle.std.specs.Prelude.{◌≡◌, ◌<◌, ◌^◌, ℕ, List, false, IfSome, option_map}
 use Rattle.snap_content.specs.Plain.{plain, content_of}
 use Rattle.snap_content.specs.Readable.{IsWithin}
 use Rattle.snap_text.specs.Normal.{normal}
