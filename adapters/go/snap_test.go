@@ -7,6 +7,7 @@ import (
 	"math/big"
 	"net/netip"
 	"os"
+	"os/exec"
 	"path/filepath"
 	"strings"
 	"testing"
@@ -282,4 +283,53 @@ func TestProgramThatIsNotThere(t *testing.T) {
 	one := &fake{name: "TestGone"}
 	Match(one, 1)
 	wants(t, one.told, "/nowhere/snap is not there: put snap on the path, or name it in SNAP")
+}
+
+// Go keeps the result of a test that passed: here it must see that the snapshot changed, and that it was taken away.
+func TestGoSeesAChangedSnapshot(t *testing.T) {
+	top := t.TempDir()
+	source, err := os.ReadFile("snap.go")
+	if err != nil {
+		t.Fatal(err)
+	}
+	write := func(name, text string) {
+		path := filepath.Join(top, name)
+		// Go keeps no result where a file that the test looked at is younger than two seconds.
+		old := time.Now().Add(-time.Hour)
+		if os.MkdirAll(filepath.Dir(path), 0o700) != nil || os.WriteFile(path, []byte(text), 0o600) != nil || os.Chtimes(path, old, old) != nil {
+			t.Fatal(path)
+		}
+	}
+	write("go.mod", "module example.com/shop\n\ngo 1.19\n")
+	write("snap/snap.go", string(source))
+	write("shop_test.go", `package shop
+
+import (
+	"testing"
+
+	"example.com/shop/snap"
+)
+
+func TestOrder(t *testing.T) { snap.Match(t, 1) }
+`)
+	try := func(mode, wanted string) {
+		t.Helper()
+		command := exec.Command("go", "test", ".")
+		command.Dir = top
+		command.Env = append(os.Environ(), "SNAP_MODE="+mode, "GOFLAGS=", "GOWORK=off")
+		if out, _ := command.CombinedOutput(); !strings.Contains(string(out), wanted) {
+			t.Errorf("%s, but wanted %s", out, wanted)
+		}
+	}
+	write("snapshots/shop_test__TestOrder.snap", "---\nsource: shop_test.go\n---\n1\n")
+	try("no", "ok")
+	try("no", "(cached)")
+	write("snapshots/shop_test__TestOrder.snap", "---\nsource: shop_test.go\n---\n22\n")
+	try("no", "the value changed")
+	write("snapshots/shop_test__TestOrder.snap", "---\nsource: shop_test.go\n---\n1\n")
+	try("no", "ok")
+	if err := os.Remove(filepath.Join(top, "snapshots", "shop_test__TestOrder.snap")); err != nil {
+		t.Fatal(err)
+	}
+	try("no", "no value is stored yet")
 }

@@ -42,7 +42,7 @@ def build_wheel(
     """Writes the wheel into the folder, and returns its name."""
     folder = f"{STEM}.dist-info"
     files = list(sources(PACKAGE))
-    files.append((f"{folder}/LICENSE", license_text()))
+    files += license_at(f"{folder}/LICENSE")
     files.append((f"{folder}/METADATA", metadata()))
     files.append((f"{folder}/WHEEL", WHEEL.encode()))
     files.append((f"{folder}/entry_points.txt", ENTRY_POINTS.encode()))
@@ -60,7 +60,7 @@ def build_wheel(
 def build_sdist(sdist_directory: str, config_settings: Optional[Dict[str, Any]] = None) -> str:
     """Writes the archive of the sources into the folder, and returns its name."""
     files = [(name, (HERE / name).read_bytes()) for name in ("README.md", "benchmark.py", "build_backend.py", "pyproject.toml")]
-    files += [*sources(PACKAGE), *sources("tests"), ("LICENSE", license_text()), ("PKG-INFO", metadata())]
+    files += [*sources(PACKAGE), *sources("tests"), *license_at("LICENSE"), ("PKG-INFO", metadata())]
     name = f"{STEM}.tar.gz"
     with tarfile.open(os.path.join(sdist_directory, name), "w:gz", format=tarfile.PAX_FORMAT) as archive:
         for path, data in files:
@@ -81,10 +81,11 @@ def metadata() -> bytes:
     return METADATA.encode() + (HERE / "README.md").read_bytes()
 
 
-def license_text() -> bytes:
-    """The license: beside this module in an archive of the sources, and two folders above in the repository."""
-    beside = HERE / "LICENSE"
-    return (beside if beside.exists() else HERE.parent.parent / "LICENSE").read_bytes()
+def license_at(name: str) -> Files:
+    """The license under this name: beside this module in an archive of the sources, and two folders above in the repository
+    and in snap's own package. A copy of this folder alone has none, and is built without it."""
+    found = [place for place in (HERE / "LICENSE", HERE.parent.parent / "LICENSE") if place.exists()]
+    return [(name, place.read_bytes()) for place in found[:1]]
 
 
 def record(files: Files, own: str) -> bytes:

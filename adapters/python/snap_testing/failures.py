@@ -21,7 +21,7 @@ def explain(verdict: Verdict, request: Request, literal: bool) -> str:
         told = [f"{verdict.word} {path}: a first snapshot, nothing is approved yet. The value is:", *(new or [])]
     else:
         told = [f"{verdict.word} {path}: the value is not the approved one", *compared(approved, new or [], path)]
-    told.append("To approve it, run the test with SNAP_MODE=inplace (in pytest with --snap-update)")
+    told.append("To approve it, run the test with SNAP_UPDATE=1 (in pytest with --snap-update)")
     if verdict.word == "pending":
         told[-1] += f", or move {shown(pending)} over {path}"
     return "\n".join(told)

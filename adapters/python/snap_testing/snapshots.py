@@ -107,8 +107,10 @@ def path_of(test: Test, module: str, name: str) -> str:
 
 
 def mode() -> str:
-    """The mode of a run: what the runner was told, else `SNAP_MODE`, else `no` where `CI` is set, and `new` elsewhere."""
-    chosen = mode_of_runner or os.environ.get("SNAP_MODE") or ("no" if is_set("CI", "") else "new")
+    """The mode of a run: what the runner was told, else `SNAP_MODE`, else `inplace` where `SNAP_UPDATE` is `1`, else `no` where
+    `CI` is set, and `new` elsewhere."""
+    updates = os.environ.get("SNAP_UPDATE") == "1"
+    chosen = mode_of_runner or os.environ.get("SNAP_MODE") or ("inplace" if updates else "no" if is_set("CI", "") else "new")
     if chosen not in MODES:
         raise ProgramError(f"SNAP_MODE is {chosen!r}, and the modes are inplace, new and no")
     return chosen

@@ -4,6 +4,7 @@ import base64
 import csv
 import hashlib
 import os
+import shutil
 import subprocess
 import sys
 import tarfile
@@ -65,6 +66,13 @@ class Builds(unittest.TestCase):
         wheel = build(PACKAGE, "build_wheel", first)
         build(self.made / "snap_testing-0.1.0", "build_wheel", second)
         self.assertEqual((first / wheel).read_bytes(), (second / wheel).read_bytes())
+
+    def test_a_folder_that_was_copied_alone(self) -> None:
+        alone = self.made / "far" / "away" / "python"
+        shutil.copytree(PACKAGE, alone, ignore=shutil.ignore_patterns("__pycache__", "LICENSE"))
+        with zipfile.ZipFile(self.made / build(alone, "build_wheel", self.made)) as wheel:
+            self.assertIn("snap_testing/snapshots.py", wheel.namelist())
+            self.assertNotIn(f"{INFORMATION}/LICENSE", wheel.namelist())
 
 
 class Installs(ProjectCase):

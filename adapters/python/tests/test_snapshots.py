@@ -110,9 +110,11 @@ class Settings(UnittestCase):
         # What is set, and what becomes of a first value.
         rows = [({}, "pending"), ({"CI": ""}, "pending"), ({"CI": "false"}, "pending"), ({"CI": "1"}, "rejected")]
         rows += [({"CI": "1", "SNAP_MODE": "new"}, "pending"), ({"SNAP_MODE": "no"}, "rejected")]
+        rows += [({"SNAP_UPDATE": "1", "SNAP_MODE": "no"}, "rejected"), ({"SNAP_UPDATE": "0"}, "pending")]
         for variables, wanted in rows:
             with self.subTest(variables=variables):
                 self.assertIn(f"AssertionError: {wanted} ", self.run_tests(**variables))
+        self.assertIn("\nOK", self.run_tests(SNAP_UPDATE="1", CI="1"))
 
     def test_no_mode(self) -> None:
         self.assertIn("ProgramError: SNAP_MODE is 'update', and the modes are inplace, new and no", self.run_tests(SNAP_MODE="update"))
