@@ -173,7 +173,7 @@ func bodyOf(text string) string {
 	return ""
 }
 
-// modeOf is SNAP_MODE, else inplace where SNAP_UPDATE is 1, else no where CI is set and not empty, else new.
+// modeOf is SNAP_MODE, else inplace where SNAP_UPDATE is 1, else no where CI says yes, else new.
 func modeOf(environment func(string) string) (string, error) {
 	switch mode := environment("SNAP_MODE"); mode {
 	case "":
@@ -185,10 +185,19 @@ func modeOf(environment func(string) string) (string, error) {
 	if environment("SNAP_UPDATE") == "1" {
 		return "inplace", nil
 	}
-	if environment("CI") != "" {
+	if saysYes(environment("CI")) {
 		return "no", nil
 	}
 	return "new", nil
+}
+
+// saysYes is whether a variable is set to anything but nothing, 0, no and false, in any case.
+func saysYes(text string) bool {
+	switch strings.ToLower(text) {
+	case "", "0", "no", "false":
+		return false
+	}
+	return true
 }
 
 // runProgram judges one document and returns the program's line. Status 1 is a verdict and no error.

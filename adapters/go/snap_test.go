@@ -266,7 +266,7 @@ func TestWhatIsRefusedFailsAlone(t *testing.T) {
 func TestMode(t *testing.T) {
 	rows := []struct{ mode, update, ci, wanted string }{
 		{"", "", "", "new"}, {"", "", "true", "no"}, {"", "1", "true", "inplace"}, {"new", "1", "true", "new"},
-		{"no", "1", "", "no"}, {"", "0", "", "new"}, {"yes", "", "", ""},
+		{"no", "1", "", "no"}, {"", "0", "", "new"}, {"yes", "", "", ""}, {"", "", "False", "new"}, {"", "", "0", "new"},
 	}
 	for _, row := range rows {
 		environment := map[string]string{"SNAP_MODE": row.mode, "SNAP_UPDATE": row.update, "CI": row.ci}

@@ -183,14 +183,19 @@ function workspaceOf(file) {
   }
 }
 
-/** SNAP_MODE, else inplace where SNAP_UPDATE is 1, else no where CI is set and not empty, else new. */
+/** SNAP_MODE, else inplace where SNAP_UPDATE is 1, else no where CI says yes, else new. */
 function modeOf({ SNAP_MODE, SNAP_UPDATE, CI }) {
   if (SNAP_MODE) {
     if (MODES.includes(SNAP_MODE)) return SNAP_MODE;
     throw new TypeError(`SNAP_MODE is ${SNAP_MODE}, and none of ${MODES.join(', ')}`);
   }
   if (SNAP_UPDATE === '1') return 'inplace';
-  return CI ? 'no' : 'new';
+  return saysYes(CI) ? 'no' : 'new';
+}
+
+/** Whether a variable is set to anything but nothing, `0`, `no` and `false`, in any case. */
+function saysYes(text = '') {
+  return !['', '0', 'no', 'false'].includes(text.toLowerCase());
 }
 
 /** Runs the program over the documents. Returns its lines, its status and what it said on standard error. */

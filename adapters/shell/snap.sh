@@ -49,11 +49,18 @@ snapshot() (
   exit "$status"
 )
 
-# Prints the mode: SNAP_MODE, else inplace where SNAP_UPDATE is 1, else no where CI is set and not empty, else new.
+# Whether a variable's text is anything but nothing, `0`, `no` and `false`, in any case.
+snap_says_yes() {
+  case $1 in
+    '' | 0 | [Nn][Oo] | [Ff][Aa][Ll][Ss][Ee]) return 1 ;;
+  esac
+}
+
+# Prints the mode: SNAP_MODE, else inplace where SNAP_UPDATE is 1, else no where CI says yes, else new.
 snap_mode() {
   case ${SNAP_MODE-} in
     inplace | new | no) echo "$SNAP_MODE" ;;
-    '') if [ "${SNAP_UPDATE-}" = 1 ]; then echo inplace; elif [ -n "${CI-}" ]; then echo no; else echo new; fi ;;
+    '') if [ "${SNAP_UPDATE-}" = 1 ]; then echo inplace; elif snap_says_yes "${CI-}"; then echo no; else echo new; fi ;;
     *)
       echo "snapshot: SNAP_MODE is $SNAP_MODE, and none of inplace, new, no" >&2
       return 1

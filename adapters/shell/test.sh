@@ -100,10 +100,10 @@ text: |
   SNAP_MODE=yes run 'x' 'mode'
   expect "$shell: a wrong mode" "2 snapshot: SNAP_MODE is yes, and none of inplace, new, no" "$status $words"
   # Scripts ask for it too, for their JSON lines.
-  words=$(for set in A=1 CI= CI=1 SNAP_UPDATE=0 'CI=1 SNAP_UPDATE=1' 'SNAP_UPDATE=1 SNAP_MODE=new'; do
+  words=$(for set in A=1 CI= CI=0 CI=False CI=1 SNAP_UPDATE=0 'CI=1 SNAP_UPDATE=1' 'SNAP_UPDATE=1 SNAP_MODE=new'; do
     env $set "$shell" -c ". '$here/snap.sh'; snap_mode"
   done)
-  expect "$shell: modes" "new new no new inplace new" "$(echo $words)"
+  expect "$shell: modes" "new new new new no new inplace new" "$(echo $words)"
   mkdir "$shots/report__folder.snap"
   SNAP_MODE=inplace run 'x' 'folder'
   expect "$shell: a fault" "5 snapshot folder: t/report.sh:$line: snap: document 1: file fault at t/snapshots/report__folder.snap" "$status $words"

@@ -146,7 +146,7 @@ test('modes', (t) => {
   assert.match(shop.run({ SNAP_MODE: 'yes' }).out, /SNAP_MODE is yes, and none of inplace, new, no/);
   assert.match(shop.run({ SNAP_MODE: 'no', SNAP_UPDATE: '1' }).out, /rejected/);
   assert.deepStrictEqual(shop.names(), []);
-  assert.match(shop.run({ CI: '' }).out, /pending/);
+  for (const CI of ['', '0', 'False']) assert.match(shop.run({ CI }).out, /pending/);
   assert.strictEqual(shop.run({ CI: '1', SNAP_UPDATE: '1' }).status, 0);
 });
 
