@@ -1,5 +1,5 @@
 -- What reading a file comes to, exit by exit.
-use Rattle.snap_store.proofs.Prelude.{◌≡◌, ℕ, Bool, false, List, Option, Some, Result, Ok, Err, refl, ap, sym, ◌∙◌, subst, IsErrAnd, Plain, plain, dict, Entries, content_of, tree, Error, headed_body, is_headed, body_of, FieldsEnd, HasFields, Meta, meta_of, meta_in, contents_in, legacy_in, number_text_in, SnapshotContents, SnapshotKind}
+use Rattle.snap_store.proofs.Prelude.{◌≡◌, ℕ, Bool, false, List, Option, Some, Result, Ok, Err, refl, ap, sym, ◌∙◌, subst, IsErrAnd, Plain, plain, dict, Entries, content_of, tree, Error, headed_body, body_of, FieldsEnd, HasFields, Meta, meta_of, meta_in, contents_in, legacy_in, number_text_in, SnapshotContents, SnapshotKind}
 use Rattle.snap_content.specs.declared.error.Error.TheVariants.{FailedParsingYaml, UnexpectedDataType, MissingField, FileIo, FloatText, JsonKey, NotText, NoFile, OutOfMemory}
 use Rattle.snap_emit.specs.Parsed.{IsHeaderReadFrom, MayBeHeaderOf, HeaderRefusalEnd}
 use Rattle.snap_emit.specs.Readings.{IsHeaderTreeOf, IsOnly, IsOfStream}
