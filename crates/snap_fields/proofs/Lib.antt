@@ -1,0 +1,3 @@
+mod Prelude
+pub mod Lookups
+pub mod Made
