@@ -1,10 +1,11 @@
 //! Redacted trees.
-ghost use Rattle.std.specs.Prelude.{◌≡◌, ◌≢◌, ℕ, List, [], ◌∷◌, ◌++◌, length, map, codes, IfOk, OnOk};
+ghost use Rattle.std.specs.Prelude.{◌≡◌, ◌≢◌, false, ℕ, List, [], ◌∷◌, ◌++◌, length, map, codes, IfOk, OnOk};
 ghost use Rattle.snap_content.specs.View.{tree, item_list, item_trees, pair_list, pair_trees, field_list, field_trees};
 ghost use Rattle.snap_select.specs.Matching.{step_of, lent_step, to_item, into_field, under_key};
 ghost use Rattle.snap_select.specs.Positions.{count_of};
 ghost use Rattle.snap_select.specs.Put.{Puts};
 ghost use Rattle.snap_select.specs.Redacting.{RedactedAt, Inside, ItemsRedacted, PairsRedacted, FieldsRedacted, IsRedacted};
+ghost use Rattle.snap_select.specs.Reaching.{opens};
 ghost use Rattle.snap_select.specs.Selectors.{parts_of};
 
 use crate::path_item::PathItem;
@@ -301,23 +302,35 @@ fn redact_pairs<P: Put>(
     ensures path { OnOk result (path.new.items ≡ path.old.items) }
 {
     let mut name = key_name(alloc)?;
+    let keys = selector.opens(path.len(), StepRef::Field(name.as_str()));
     for index in 0..pairs.len() {
-        redact_pair(&mut pairs[index], &mut name, selector, put, alloc, path)?;
+        redact_pair(
+            &mut pairs[index],
+            keys,
+            &mut name,
+            selector,
+            put,
+            alloc,
+            path,
+        )?;
     }
     Ok(())
 }
 
-/// First the value, so that its step has the key as it was; then the key behind the field of that name.
+/// First the value, so that its step has the key as it was; then the key behind the field of that name, where a match may lie there.
 #[cycle(redact)]
 fn redact_pair<P: Put>(
     pair: &mut (Content, Content),
+    keys: bool,
     name: &mut Text,
     selector: &Selector<'_>,
     put: &P,
     alloc: Global,
     path: &mut Vec<PathItem>,
 ) -> Result<(), OutOfMemory>
-    requires { P.can_put put.now }
+    requires put { P.can_put put.now }
+    requires keys { keys ≡ false → opens (parts_of selector.now) (length path.old.items)
+        (into_field name.old) ≡ false }
     ensures key { OnOk result (RedactedAt (parts_of selector.now) (P.puts put.now)
         (map step_of path.old.items ++ into_field name.old ∷ []) (tree pair.old.0)
         (tree pair.new.0)) }
@@ -328,6 +341,9 @@ fn redact_pair<P: Put>(
     ensures path { OnOk result (path.new.items ≡ path.old.items) }
 {
     redact_value(pair, selector, put, alloc, path)?;
+    if !keys {
+        return Ok(());
+    }
     redact_named(&mut pair.0, name, selector, put, alloc, path)
 }
 

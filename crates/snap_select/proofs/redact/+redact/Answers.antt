@@ -1,4 +1,4 @@
-use Rattle.snap_select.proofs.Prelude.{opens, under_key, to_item, get_or, rules, ◌≡◌, ◌≤◌, ◌+◌, map, ap, sym, ◌∙◌, refl, arith, length, length-set, count, count_items, count_pairs, count_fields, tree, item_trees, pair_trees, field_trees, left_turn, count_left, count_pairs_left, count_fields_left, step_of, into_field, path_match, reaches, parts_of}
+use Rattle.snap_select.proofs.Prelude.{opens, under_key, to_item, get_or, rules, ◌≡◌, ◌≤◌, ◌+◌, map, ap, sym, ◌∙◌, refl, arith, length, length-set, count, count_items, count_pairs, count_fields, tree, item_trees, pair_trees, field_trees, left_turn, count_left, count_pairs_left, count_fields_left, step_of, into_field, path_match, reaches, parts_of, codes, false}
 use Rattle.snap_select.proofs.Reached.{stays, closed_stays}
 use Rattle.snap_select.proofs.RedactedLists.{items_turn, items_end, pairs_turn, pairs_end, fields_turn, fields_end}
 use Rattle.snap_select.proofs.redact.+redact.Goals as goal
@@ -47,8 +47,23 @@ pub redact_items-returns-clause-ok : goal.redact_items-returns-clause-ok
 redact_items-returns-clause-ok g t c =
     items_end (parts_of c.args.selector.now) (g.P.Put.puts c.args.put.now) _ c.args.items.now c.loop-index.items c.loop-index.index c.loop-index.invariant.so_far (omega (arith, c.loop-index.invariant.same_length))
 
+pub redact_pairs-loop-index-init : goal.redact_pairs-loop-index-init
+redact_pairs-loop-index-init g t c = record {
+  path = refl;
+  name = c.in_ok-name.ensures;
+  keys = λ shut. (
+      let e : c.len.result ≡ length c.args.path.now.items = search rules in
+      ap (λ n. opens (parts_of c.args.selector.now) n (into_field (codes "$key"))) (sym e)
+      ∙ ap (λ n. opens (parts_of c.args.selector.now) c.len.result (into_field n)) (sym (c.as_str.ensures ∙ c.in_ok-name.ensures)) ∙ sym c.opens-keys.ensures ∙ shut);
+  left = refl;
+  same_length = refl;
+  so_far = λ rest done. done;
+}
+
 pub redact_pairs-redact_pair-requires : goal.redact_pairs-redact_pair-requires
 redact_pairs-redact_pair-requires g t c κs within =
+    let keys : c.opens-keys.result ≡ false → opens (parts_of c.args.selector.now) (length c.loop-index.path.items) (into_field c.loop-index.name) ≡ false
+    = (λ shut. rw (c.loop-index.invariant.path, c.loop-index.invariant.name) (c.loop-index.invariant.keys shut)) in
     let x = get_or c.loop-index.pairs c.loop-index.index c.index-pairs-index.result in
     let k : count (tree x.0) + count (tree x.1) ≤ count_pairs (pair_trees c.args.pairs.now)
     = count_pairs_left c.args.pairs.now c.loop-index.pairs c.loop-index.index _ c.loop-index.invariant.left (omega (arith, c.loop-index.invariant.same_length)) (ap (λ r. get_or c.loop-index.pairs c.loop-index.index r) c.index-pairs-index.is) in search rules
@@ -57,6 +72,7 @@ pub redact_pairs-loop-index-preserved : goal.redact_pairs-loop-index-preserved
 redact_pairs-loop-index-preserved g t c = record {
   path = c.in_ok-redact_pair.ensures.path ∙ c.loop-index.invariant.path;
   name = c.in_ok-redact_pair.ensures.name ∙ c.loop-index.invariant.name;
+  keys = c.loop-index.invariant.keys;
   left = left_turn _ c.loop-index.pairs c.loop-index.index c.redact_pair.new.pair c.loop-index.invariant.left;
   same_length = length-set c.loop-index.pairs c.loop-index.index c.redact_pair.new.pair ∙ c.loop-index.invariant.same_length;
   so_far = pairs_turn (parts_of c.args.selector.now) (g.P.Put.puts c.args.put.now) _ _ c.args.pairs.now c.loop-index.pairs c.loop-index.index _ c.redact_pair.new.pair _
@@ -87,3 +103,9 @@ redact_fields-loop-index-preserved g t c = record {
 pub redact_fields-returns-clause-ok : goal.redact_fields-returns-clause-ok
 redact_fields-returns-clause-ok g t c =
     fields_end (parts_of c.args.selector.now) (g.P.Put.puts c.args.put.now) _ c.args.fields.now c.loop-index.fields c.loop-index.index c.loop-index.invariant.so_far (omega (arith, c.loop-index.invariant.same_length))
+
+pub redact_pair-returns-then-not-keys-clause-key : goal.redact_pair-returns-then-not-keys-clause-key
+redact_pair-returns-then-not-keys-clause-key g t c =
+    rw c.in_ok-redact_value.ensures.key
+    (closed_stays (parts_of c.args.selector.now) (g.P.Put.puts c.args.put.now) c.args.path.now.items (into_field c.args.name.now) (tree c.args.pair.now.0) (length c.args.path.now.items) refl
+    (c.requires.keys c.if-not-keys.true))

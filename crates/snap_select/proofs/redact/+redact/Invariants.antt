@@ -1,4 +1,4 @@
-use Rattle.snap_select.proofs.Prelude.{◌≡◌, ◌+◌, ◌*◌, map, codes, drop, length, count, count_items, count_pairs, count_fields, tree, item_list, item_trees, pair_list, pair_trees, field_list, field_trees, step_of, parts_of}
+use Rattle.snap_select.proofs.Prelude.{◌≡◌, ◌+◌, ◌*◌, map, codes, drop, length, count, count_items, count_pairs, count_fields, tree, item_list, item_trees, pair_list, pair_trees, field_list, field_trees, step_of, into_field, parts_of, false, opens}
 use Rattle.snap_select.proofs.RedactedLists.{ItemsSoFar, PairsSoFar, FieldsSoFar}
 use Rattle.snap_select.proofs.redact.+redact.Given as goal
 
@@ -61,6 +61,7 @@ abbrev pub invariant-redact_pairs-loop-index : goal.invariant-redact_pairs-loop-
 invariant-redact_pairs-loop-index g l = record {
   path : l.path.items ≡ l.fn.path.items;
   name : l.name ≡ codes "$key";
+  keys : l.keys ≡ false → opens (parts_of l.selector) (length l.fn.path.items) (into_field (codes "$key")) ≡ false;
   left : drop l.index l.pairs ≡ drop l.index l.fn.pairs;
   same_length : length l.pairs ≡ length l.fn.pairs;
   so_far : PairsSoFar (parts_of l.selector) (g.P.Put.puts l.put) (map step_of l.fn.path.items) l.fn.pairs l.index l.pairs;
