@@ -1,5 +1,6 @@
 -- Below a path that no match lies below a tree stays as it is.
-use Rattle.snap_select.proofs.Prelude.{◌≡◌, ℕ, suc, ◌+◌, ◌≤◌, Bool, true, false, MatchBool, ◌&&◌, ◌||◌, nat_lt, List, [], ◌∷◌, ◌++◌, length, take, Option, None, Some, refl, sym, ap, ◌∙◌, append_assoc, append-nil, length-append, arith, option_map_or, position, drop, min, codes, ne_eqb, ltb-false, and_right, is_deep, Step, to_item, into_field, under_key, fits_step, fit_each, matches_whole, last_of, matches_ends, segments_match, path_match, Parts, count_of, Allowed, segments_reach, reaches, Inside, ItemsRedacted, PairsRedacted, FieldsRedacted, RedactedAt, Segment, Child, children, wrapped, item_children, pair_children, field_children, slice_get, subst}
+use Rattle.snap_select.proofs.Prelude.{◌≡◌, ℕ, suc, ◌+◌, ◌≤◌, Bool, true, false, MatchBool, ◌&&◌, ◌||◌, nat_lt, List, [], ◌∷◌, ◌++◌, length, take, Option, None, Some, refl, sym, ap, ◌∙◌, append_assoc, append-nil, length-append, arith, option_map_or, option_map, list_any, position, position-Some, segments_open, opens, has_deep, ◌<◌, ◌⊎◌, inl, inr, Key, Index, Range, Wildcard, DeepWildcard, drop, min, codes, ne_eqb, ltb-false, and_right, is_deep, Step, to_item, into_field, under_key, fits_step, fit_each, matches_whole, last_of, matches_ends, segments_match, path_match, Parts, count_of, Allowed, segments_reach, reaches, Inside, ItemsRedacted, PairsRedacted, FieldsRedacted, RedactedAt, PathItem, step_of, map, length-map, Segment, Child, children, wrapped, item_children, pair_children, field_children, slice_get, subst}
+use Rattle.std.proofs.lemmas.Bool.Decides.{nat_tests}
 use Rattle.snap_content.specs.Tree as t
 
 no_more : (a b c : Bool) → (b ≡ false → c ≡ false) → (a && b) ≡ false → (a && c) ≡ false
@@ -121,3 +122,102 @@ pub stays : (ss : Parts) (allows : Allowed) (path : List Step) (c : t.Tree) → 
 stays ss allows path c here below =
     same_redacted ss allows (λ p c. IsCalm ss p) (λ p c quiet. ap (path_match ss) (sym (append-nil p)) ∙ quiet [])
     (λ p c quiet k child e. calm_below ss p child.steps quiet) path c (calm ss path here below)
+
+-- where no segment may match a path that has this step behind so many, a deep wildcard comes later, or a segment doesn't fit
+abbrev Shut : List Segment → List Step → Step → Option ℕ → Type 0
+Shut ss path step None = (length ss ≤ length path) ⊎ (fit_each ss (path ++ step ∷ []) ≡ false)
+Shut ss path step (Some at) = (length path < at) × (at ≤ length ss) × (fit_each (take at ss) (path ++ step ∷ []) ≡ false)
+
+none_of : (a b : Bool) → (a || b) ≡ false → (a ≡ false) × (b ≡ false)
+none_of true b e = absurd (cc)
+none_of false b e = (refl, e)
+
+no_deep : (s : Segment) (step : Step) → fits_step s step ≡ false → is_deep s ≡ false
+no_deep (Key name) step e = refl
+no_deep (Index number) step e = refl
+no_deep (Range from to) step e = refl
+no_deep Wildcard step e = absurd (cc)
+no_deep DeepWildcard step e = absurd (cc)
+
+shut_first : (s : Segment) (ss : List Segment) (step : Step) → fits_step s step ≡ false → (o : Option ℕ) → position is_deep ss ≡ o → Shut (s ∷ ss) [] step (option_map suc o)
+shut_first s ss step e None p = inr (ap (λ b. b && fit_each ss []) e)
+shut_first s ss step e (Some at) p =
+    let small = position-Some is_deep ss at s p in (omega arith, omega (arith, small.0), ap (λ b. b && fit_each (take at ss) []) e)
+
+shut_later : (s : Segment) (ss : List Segment) (x : Step) (path : List Step) (step : Step) → (o : Option ℕ) → Shut ss path step o → Shut (s ∷ ss) (x ∷ path) step (option_map suc o)
+shut_later s ss x path step None (inl short) = inl (omega (arith, short))
+shut_later s ss x path step None (inr e) = inr (and_right (fits_step s x) (fit_each ss (path ++ step ∷ [])) e)
+shut_later s ss x path step (Some at) shut =
+    (omega (arith, shut.0), omega (arith, shut.1), and_right (fits_step s x) (fit_each (take at ss) (path ++ step ∷ [])) shut.2)
+
+position_later : (s : Segment) (ss : List Segment) → is_deep s ≡ false → position is_deep (s ∷ ss) ≡ option_map suc (position is_deep ss)
+position_later s ss e = rw e (grind (arith, nat_tests))
+
+by_position : (s : Segment) (ss : List Segment) (path : List Step) (step : Step) → is_deep s ≡ false → Shut (s ∷ ss) path step (option_map suc (position is_deep ss))
+    → Shut (s ∷ ss) path step (position is_deep (s ∷ ss))
+by_position s ss path step e shut = subst (Shut (s ∷ ss) path step) (sym (position_later s ss e)) shut
+
+shut : (ss : List Segment) (path : List Step) (step : Step) → segments_open ss (length path) step ≡ false → Shut ss path step (position is_deep ss)
+shut [] path step e = inl (omega arith)
+shut (s ∷ ss) [] step e =
+    let misfit : fits_step s step ≡ false = (none_of (fits_step s step) false e).0 in
+    by_position s ss [] step (no_deep s step misfit) (shut_first s ss step misfit (position is_deep ss) refl)
+shut (s ∷ ss) (x ∷ path) step e =
+    let parts = none_of (option_map_or (λ s. fits_step s step) (slice_get ss (length path)) false) (is_deep s || has_deep (take (length path) ss)) e in
+    let deeps = none_of (is_deep s) (has_deep (take (length path) ss)) parts.1 in
+    let now_open : segments_open ss (length path) step ≡ false
+    = ap (λ b. b || has_deep (take (length path) ss)) parts.0 ∙ deeps.1 in
+    by_position s ss (x ∷ path) step deeps.0 (shut_later s ss x path step (position is_deep ss) (shut ss path step now_open))
+
+closed_match : (ss : List Segment) (path : List Step) (step : Step) → segments_open ss (length path) step ≡ false → segments_match ss (path ++ step ∷ []) ≡ false
+closed_match ss path step e = by (position is_deep ss) (shut ss path step e)
+  where
+    longer : length (path ++ step ∷ []) ≡ length path + 1
+    longer = length-append path (step ∷ [])
+
+    later : ℕ → Bool
+    later at =
+        let after = drop (suc at) ss in
+        let count = min (length after) (length (path ++ step ∷ [])) in fit_each (last_of count after) (last_of count (path ++ step ∷ []))
+
+    by : (o : Option ℕ) → Shut ss path step o
+        → option_map_or (λ at. matches_ends (take at ss) (drop (suc at) ss) (path ++ step ∷ [])) o (matches_whole ss (path ++ step ∷ [])) ≡ false
+    by None (inl short) =
+        ap (λ b. b && fit_each ss (path ++ step ∷ [])) (ne_eqb (length ss) (length (path ++ step ∷ [])) (λ same. absurd (omega (arith, longer, short, same))))
+    by None (inr e) = and_right _ _ e
+    by (Some at) closed =
+        ap (λ b. b && later at)
+        (and_right (nat_lt (length (take at ss)) (length (path ++ step ∷ []))) (fit_each (take at ss) (path ++ step ∷ [])) closed.2)
+
+short_of : (ss : List Segment) (path : List Step) → length ss ≤ length path → nat_lt (length path) (length ss) ≡ false
+short_of ss path short = grind (arith, nat_tests)
+
+closed_reach : (ss : List Segment) (path : List Step) (step : Step) → segments_open ss (length path) step ≡ false → segments_reach ss (path ++ step ∷ []) ≡ false
+closed_reach ss path step e = by (position is_deep ss) (shut ss path step e)
+  where
+    longer : length (path ++ step ∷ []) ≡ length path + 1
+    longer = length-append path (step ∷ [])
+
+    by : (o : Option ℕ) → Shut ss path step o
+        → option_map_or (λ at. fit_each (take at ss) (path ++ step ∷ [])) o (nat_lt (length (path ++ step ∷ [])) (length ss) && fit_each ss (path ++ step ∷ [])) ≡ false
+    by None (inl short) =
+        ap (λ b. b && fit_each ss (path ++ step ∷ [])) (short_of ss (path ++ step ∷ []) (omega (arith, longer, short)))
+    by None (inr e) = and_right _ _ e
+    by (Some at) closed = closed.2
+
+closed_parts : (R : List Segment → List Step → Bool) (path : List Step) (step : Step)
+    → ((ss : List Segment) → segments_open ss (length path) step ≡ false → R ss (path ++ step ∷ []) ≡ false)
+    → (ps : Parts) → opens ps (length path) step ≡ false → list_any (λ ss. R ss (path ++ step ∷ [])) ps ≡ false
+closed_parts R path step one [] e = refl
+closed_parts R path step one (ss ∷ ps) e =
+    let parts = none_of (segments_open ss (length path) step) (opens ps (length path) step) e in
+    ap (λ b. b || list_any (λ ss. R ss (path ++ step ∷ [])) ps) (one ss parts.0) ∙ closed_parts R path step one ps parts.1
+
+-- where no part may match a path with this step behind the others, the tree there stays as it is
+pub closed_stays : (ps : Parts) (allows : Allowed) (items : List PathItem) (step : Step) (c : t.Tree) (count : ℕ) → count ≡ length items → opens ps count step ≡ false
+    → RedactedAt ps allows (map step_of items ++ step ∷ []) c c
+closed_stays ps allows items step c count same e =
+    let path = map step_of items in
+    let closed : opens ps (length path) step ≡ false = ap (λ n. opens ps n step) (length-map items step_of ∙ sym same) ∙ e in
+    stays ps allows (path ++ step ∷ []) c (closed_parts segments_match path step (λ ss. closed_match ss path step) ps closed)
+    (closed_parts segments_reach path step (λ ss. closed_reach ss path step) ps closed)

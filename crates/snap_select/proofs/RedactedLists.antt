@@ -36,19 +36,19 @@ module _ (ss : Parts) (allows : Allowed) where
   abbrev pub FieldsSoFar : List Step → List (List ℕ × Content) → ℕ → List (List ℕ × Content) → Type 0
   FieldsSoFar path = SoFar field_trees joined_fields (λ _. FieldsRedacted ss allows path)
 
-  pub items_turn : (was path : List PathItem) (all now : List Content) (i total : ℕ) (step : PathItem) (x y : Content)
-      → ItemsSoFar (map step_of was) all i now → path ≡ was → step_of step ≡ to_item i total → total ≡ length all → i < length now → x ≡ get_or now i x
-      → RedactedAt ss allows (map step_of path ++ step_of step ∷ []) (tree x) (tree y) → ItemsSoFar (map step_of was) all (i + 1) (set now i y)
-  items_turn was path all now i total step x y so_far same place count small is new =
-      let here = rw (same, place, count, count_is all) at new in
+  pub items_turn : (was path : List PathItem) (all now : List Content) (i total : ℕ) (x y : Content)
+      → ItemsSoFar (map step_of was) all i now → path ≡ was → total ≡ length all → i < length now → x ≡ get_or now i x
+      → RedactedAt ss allows (map step_of path ++ to_item i total ∷ []) (tree x) (tree y) → ItemsSoFar (map step_of was) all (i + 1) (set now i y)
+  items_turn was path all now i total x y so_far same count small is new =
+      let here = rw (same, count, count_is all) at new in
       turn item_trees joined (ItemsRedacted ss allows (map step_of was) (count_of (item_trees all))) all now i x y (t.tree (tree y)) so_far small is
       (λ later rest next. (tree y, rest, refl, here, next)) (λ xs rest. joined-push xs y rest)
 
-  pub items_end : (path : List Step) (all now out : List Content) (i : ℕ) → ItemsSoFar path all i now → length now ≤ i → out ≡ now
-      → ItemsRedacted ss allows path (count_of (item_trees all)) 0 (item_trees all) (item_trees out)
-  items_end path all now out i so_far done same =
+  pub items_end : (path : List Step) (all now : List Content) (i : ℕ) → ItemsSoFar path all i now → length now ≤ i
+      → ItemsRedacted ss allows path (count_of (item_trees all)) 0 (item_trees all) (item_trees now)
+  items_end path all now i so_far done =
       let R : ℕ → t.Trees → t.Trees → Type 0 = ItemsRedacted ss allows path (count_of (item_trees all)) in
-      subst (R 0 (item_trees all)) (joined-end now ∙ ap item_trees (sym same)) (end item_trees joined R all now i t.no_trees so_far done refl)
+      subst (R 0 (item_trees all)) (joined-end now) (end item_trees joined R all now i t.no_trees so_far done refl)
 
   pub pairs_turn : (was path : List PathItem) (all now : List (Content × Content)) (i : ℕ) (x y : Content × Content) (name : List ℕ)
       → PairsSoFar (map step_of was) all i now → path ≡ was → name ≡ codes "$key" → i < length now → x ≡ get_or now i x
@@ -60,10 +60,10 @@ module _ (ss : Parts) (allows : Allowed) where
       turn pair_trees joined_pairs (λ _. PairsRedacted ss allows (map step_of was)) all now i x y (t.pair (tree y.0) (tree y.1)) so_far small is
       (λ later rest next. (tree y.0, tree y.1, rest, refl, first, second, next)) (λ xs rest. joined_pairs-push xs y rest)
 
-  pub pairs_end : (path : List Step) (all now out : List (Content × Content)) (i : ℕ) → PairsSoFar path all i now → length now ≤ i → out ≡ now
-      → PairsRedacted ss allows path (pair_trees all) (pair_trees out)
-  pairs_end path all now out i so_far done same =
-      subst (PairsRedacted ss allows path (pair_trees all)) (joined_pairs-end now ∙ ap pair_trees (sym same))
+  pub pairs_end : (path : List Step) (all now : List (Content × Content)) (i : ℕ) → PairsSoFar path all i now → length now ≤ i
+      → PairsRedacted ss allows path (pair_trees all) (pair_trees now)
+  pairs_end path all now i so_far done =
+      subst (PairsRedacted ss allows path (pair_trees all)) (joined_pairs-end now)
       (end pair_trees joined_pairs (λ _. PairsRedacted ss allows path) all now i t.no_pairs so_far done refl)
 
   pub fields_turn : (was path : List PathItem) (all now : List (List ℕ × Content)) (i : ℕ) (x y : List ℕ × Content)
@@ -74,10 +74,10 @@ module _ (ss : Parts) (allows : Allowed) where
       turn field_trees joined_fields (λ _. FieldsRedacted ss allows (map step_of was)) all now i x y (t.field y.0 (tree y.1)) so_far small is
       (λ later rest next. (tree y.1, rest, ap (λ n. t.field n (tree y.1) rest) name, here, next)) (λ xs rest. joined_fields-push xs y rest)
 
-  pub fields_end : (path : List Step) (all now out : List (List ℕ × Content)) (i : ℕ) → FieldsSoFar path all i now → length now ≤ i → out ≡ now
-      → FieldsRedacted ss allows path (field_trees all) (field_trees out)
-  fields_end path all now out i so_far done same =
-      subst (FieldsRedacted ss allows path (field_trees all)) (joined_fields-end now ∙ ap field_trees (sym same))
+  pub fields_end : (path : List Step) (all now : List (List ℕ × Content)) (i : ℕ) → FieldsSoFar path all i now → length now ≤ i
+      → FieldsRedacted ss allows path (field_trees all) (field_trees now)
+  fields_end path all now i so_far done =
+      subst (FieldsRedacted ss allows path (field_trees all)) (joined_fields-end now)
       (end field_trees joined_fields (λ _. FieldsRedacted ss allows path) all now i t.no_fields so_far done refl)
 
   -- the path of a whole tree is empty

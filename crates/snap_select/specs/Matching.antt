@@ -2,7 +2,7 @@
 use Rattle.std.specs.Prelude.{◌-◌, ◌==◌, ◌&&◌, ℕ, suc, ℤ, pos, negsuc, Bool, true, false, List, [], ◌∷◌, length, take, drop, min, Option, nat_lt, nat_le, position}
 use Rattle.std.specs.List.{list_any}
 use Rattle.std.specs.Option.{option_map_or}
-use Rattle.std.specs.Str.{bytes_eq}
+use Rattle.std.specs.Str.{bytes_eq, chars}
 use Rattle.snap_content.specs.Access.{resolved, text_in, whole_number_in, fitting_u64}
 use Rattle.snap_content.specs.Tree.{Tree}
 use Rattle.snap_content.specs.View.{tree}
@@ -12,6 +12,8 @@ use Rattle.snap_select.specs.declared.path_item.PathItem.{PathItem}
 use Rattle.snap_select.specs.declared.path_item.PathItem.TheVariants as i
 use Rattle.snap_select.specs.declared.segment.Segment.{Segment}
 use Rattle.snap_select.specs.declared.segment.Segment.TheVariants.{DeepWildcard, Wildcard, Key, Index, Range}
+use Rattle.snap_select.specs.declared.step_ref.StepRef.{StepRef}
+use Rattle.snap_select.specs.declared.step_ref.StepRef.TheVariants as r
 
 -- a step into a tree: under a key, into a field, or to the item at a position, with how many there are
 pub data Step : Type 0 where
@@ -24,6 +26,12 @@ abbrev pub step_of : PathItem → Step
 step_of (i.Content key) = under_key (tree key)
 step_of (i.Field name) = into_field name
 step_of (i.Index index length) = to_item index length
+
+-- the step that is lent
+abbrev pub lent_step : StepRef → Step
+lent_step (r.Key key) = under_key (tree key.now)
+lent_step (r.Field name) = into_field (chars name.now)
+lent_step (r.Item index length) = to_item index length
 
 -- the field of that name, or a text key that is it
 abbrev pub is_named : List ℕ → Step → Bool

@@ -4,7 +4,7 @@
 //!
 //! In the order in which data flows: `pieces` and `quotes` (blanks, names, numbers and keys at the front of a text), `reading`,
 //! `deep`, `parts` and `stop` (segments and parts), `segment`, `part` and `selector` (what was read), `fault` (what was not),
-//! `copies`, `path_item` and `matching` (which paths are hit), `content_path` (paths as they are shown), `redaction`, `redactor`,
+//! `copies`, `path_item`, `step_ref` and `matching` (which paths are hit), `content_path` (paths as they are shown), `redaction`, `redactor`,
 //! `fn_redactor`, `replacement` and `in_order` (what stands in place of a value), `put` and `redact` (the new tree), `laws`.
 #![tactic(auto)]
 
@@ -29,6 +29,7 @@ pub mod redactor;
 pub mod replacement;
 pub mod segment;
 pub mod selector;
+mod step_ref;
 pub mod stop;
 
 pub use content_path::ContentPath;

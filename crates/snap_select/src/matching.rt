@@ -1,17 +1,18 @@
 //! Which paths a selector matches.
-ghost use Rattle.std.specs.Prelude.{◌≡◌, ◌≤◌, length, map, position};
-ghost use Rattle.snap_select.specs.Matching.{step_of, fits_step, fit_each, last_of, matches_whole, matches_ends, segments_match, path_match};
-ghost use Rattle.snap_select.specs.Reaching.{segments_reach, reaches};
-ghost use Rattle.snap_select.specs.Deep.{is_deep};
+ghost use Rattle.std.specs.Prelude.{◌≡◌, ◌≤◌, length, map, position, take};
+ghost use Rattle.snap_select.specs.Matching.{step_of, lent_step, fits_step, fit_each, last_of, matches_whole, matches_ends, segments_match, path_match};
+ghost use Rattle.snap_select.specs.Reaching.{segments_reach, reaches, segments_open, opens};
+ghost use Rattle.snap_select.specs.Deep.{is_deep, has_deep};
 
-use crate::deep::is_deep;
+use crate::deep::{has_deep, is_deep};
 use crate::path_item::PathItem;
 use crate::segment::Segment;
 use crate::selector::Selector;
+use crate::step_ref::StepRef;
 
 /// Whether the segment fits the step.
-fn fits_step(segment: &Segment<'_>, step: &PathItem) -> bool
-    ensures { result ≡ fits_step segment.now (step_of step.now) }
+fn fits_step(segment: &Segment<'_>, step: StepRef<'_>) -> bool
+    ensures { result ≡ fits_step segment.now (lent_step step.entry) }
 {
     match segment {
         Segment::DeepWildcard => true,
@@ -31,7 +32,7 @@ fn fit_each(segments: &[Segment<'_>], path: &[PathItem]) -> bool
         match rest {
             [] => return true,
             [step, later @ ..] => {
-                if !fits_step(segment, step) {
+                if !fits_step(segment, step.lent()) {
                     return false;
                 }
                 rest = later;
@@ -97,6 +98,23 @@ fn segments_reach(segments: &[Segment<'_>], path: &[PathItem]) -> bool
     }
 }
 
+/// Whether one of the first segments is a wildcard for any number of steps.
+fn is_deep_before(segments: &[Segment<'_>], count: usize) -> bool
+    ensures { result ≡ has_deep (take count segments.now) }
+{
+    has_deep(&segments[..count.min(segments.len())])
+}
+
+/// Whether the segments may match a path that has this step behind so many, whatever those are.
+fn segments_open(segments: &[Segment<'_>], count: usize, step: StepRef<'_>) -> bool
+    ensures { result ≡ segments_open segments.now count (lent_step step.entry) }
+{
+    match segments.get(count) {
+        Some(segment) if fits_step(segment, step) => true,
+        _ => is_deep_before(segments, count),
+    }
+}
+
 impl Selector<'_> {
     ghost use Rattle.snap_select.specs.Selectors.{parts_of};
 
@@ -120,5 +138,13 @@ impl Selector<'_> {
         self.parts
             .iter()
             .any(|part| segments_reach(part.segments(), path))
+    }
+    /// Whether one of the parts may match a path that has this step behind so many, whatever those are.
+    pub(crate) fn opens(&self, count: usize, step: StepRef<'_>) -> bool
+        ensures { result ≡ opens (parts_of self.now) count (lent_step step.entry) }
+    {
+        self.parts
+            .iter()
+            .any(|part| segments_open(part.segments(), count, step))
     }
 }

@@ -1,10 +1,11 @@
 //! Redacted trees.
-ghost use Rattle.std.specs.Prelude.{◌≡◌, ℕ, List, [], ◌∷◌, ◌++◌, map, codes, IfOk, OnOk};
+ghost use Rattle.std.specs.Prelude.{◌≡◌, ◌≢◌, false, ℕ, List, [], ◌∷◌, ◌++◌, length, map, codes, IfOk, OnOk};
 ghost use Rattle.snap_content.specs.View.{tree, item_list, item_trees, pair_list, pair_trees, field_list, field_trees};
-ghost use Rattle.snap_select.specs.Matching.{step_of, to_item, into_field, under_key};
+ghost use Rattle.snap_select.specs.Matching.{step_of, lent_step, to_item, into_field, under_key};
 ghost use Rattle.snap_select.specs.Positions.{count_of};
 ghost use Rattle.snap_select.specs.Put.{Puts};
 ghost use Rattle.snap_select.specs.Redacting.{RedactedAt, Inside, ItemsRedacted, PairsRedacted, FieldsRedacted, IsRedacted};
+ghost use Rattle.snap_select.specs.Reaching.{opens};
 ghost use Rattle.snap_select.specs.Selectors.{parts_of};
 
 use crate::path_item::PathItem;
@@ -12,6 +13,7 @@ use crate::put::Put;
 use crate::redaction::Redaction;
 use crate::redactor::Redactor;
 use crate::selector::Selector;
+use crate::step_ref::StepRef;
 use snap_content::{Content, Fields, Items, OutOfMemory, Pairs, Text};
 use std::alloc::Global;
 use std::mem;
@@ -21,6 +23,13 @@ fn item_step(place: usize, length: u64) -> PathItem
     ensures { step_of result ≡ to_item place length }
 {
     PathItem::Index(place as u64, length)
+}
+
+/// The same step, lent.
+fn lent_item(place: usize, length: u64) -> StepRef<'static>
+    ensures { lent_step result ≡ to_item place length }
+{
+    StepRef::Item(place as u64, length)
 }
 
 /// The name of the field in which the key of a pair stands.
@@ -56,30 +65,55 @@ fn key_of(step: PathItem) -> Content
     }
 }
 
-/// The tree at a path, redacted. Where no match can lie below, it comes back unseen.
+/// What the redaction puts stands in place of the tree.
+fn put_at<P: Put>(
+    value: &mut Content,
+    put: &P,
+    alloc: Global,
+    path: &[PathItem],
+) -> Result<(), OutOfMemory>
+    requires { P.can_put put.now }
+    ensures { OnOk result (P.puts put.now (tree value.old) (map step_of path.now) (tree value.new)) }
+{
+    let whole = mem::replace(value, Content::Unit);
+    drop(mem::replace(value, put.put(alloc, whole, path)?));
+    Ok(())
+}
+
+/// The last step of the path, which is taken from it.
+fn taken_step(path: &mut Vec<PathItem>) -> PathItem
+    requires { length path.old.items ≢ 0 }
+    ensures { path.old.items ≡ path.new.items ++ result ∷ [] }
+{
+    path.pop().unwrap()
+}
+
+/// The tree at a path, redacted in its place. Where no match can lie below, it isn't seen.
 #[cycle(redact)]
 fn redact_at<P: Put>(
-    value: Content,
+    value: &mut Content,
     selector: &Selector<'_>,
     put: &P,
     alloc: Global,
     path: &mut Vec<PathItem>,
-) -> Result<Content, OutOfMemory>
+) -> Result<(), OutOfMemory>
     requires { P.can_put put.now }
-    ensures ok { IfOk result (λ out. RedactedAt (parts_of selector.now) (P.puts put.now)
-        (map step_of path.old.items) (tree value) (tree out)) }
+    ensures ok { OnOk result (RedactedAt (parts_of selector.now) (P.puts put.now)
+        (map step_of path.old.items) (tree value.old) (tree value.new)) }
     ensures path { OnOk result (path.new.items ≡ path.old.items) }
 {
     if selector.is_match(path.as_slice()) {
-        return put.put(alloc, value, path.as_slice());
+        return put_at(value, put, alloc, path.as_slice());
     }
     if !selector.reaches(path.as_slice()) {
-        return Ok(value);
+        return Ok(());
     }
-    redact_inside(value, selector, put, alloc, path)
+    let whole = mem::replace(value, Content::Unit);
+    drop(mem::replace(value, redact_inside(whole, selector, put, alloc, path)?));
+    Ok(())
 }
 
-/// The same in place, behind one step more, which comes back.
+/// The same behind one step more, which comes back.
 #[cycle(redact)]
 fn redact_behind<P: Put>(
     value: &mut Content,
@@ -96,12 +130,8 @@ fn redact_behind<P: Put>(
     ensures path { OnOk result (path.new.items ≡ path.old.items) }
 {
     path.push(step)?;
-    let whole = mem::replace(value, Content::Unit);
-    drop(mem::replace(value, redact_at(whole, selector, put, alloc, path)?));
-    let Some(step) = path.pop() else {
-        unreachable!()
-    };
-    Ok(step)
+    redact_at(value, selector, put, alloc, path)?;
+    Ok(taken_step(path))
 }
 
 /// The same in a box, behind the same steps.
@@ -118,12 +148,11 @@ fn redact_box<P: Put>(
         (map step_of path.old.items) (tree inner.value) (tree out.value)) }
     ensures path { OnOk result (path.new.items ≡ path.old.items) }
 {
-    let whole = mem::replace(&mut *inner, Content::Unit);
-    drop(mem::replace(&mut *inner, redact_at(whole, selector, put, alloc, path)?));
+    redact_at(&mut inner, selector, put, alloc, path)?;
     Ok(inner)
 }
 
-/// The tree at a path that isn't matched, with its parts redacted.
+/// The tree at a path that isn't matched, with its parts redacted in their places: of the tree itself only the node is moved.
 #[cycle(redact)]
 fn redact_inside<P: Put>(
     value: Content,
@@ -149,29 +178,25 @@ fn redact_inside<P: Put>(
             let inner = redact_box(inner, selector, put, alloc, path)?;
             Ok(Content::NewtypeVariant(name, index, variant, inner))
         }
-        Content::Seq(items) => {
-            Ok(Content::Seq(redact_items(items, selector, put, alloc, path)?))
-        }
+        Content::Seq(items) => { Ok(Content::Seq(redact_list(items, selector, put, alloc, path)?)) }
         Content::Tuple(items) => {
-            Ok(Content::Tuple(redact_items(items, selector, put, alloc, path)?))
+            Ok(Content::Tuple(redact_list(items, selector, put, alloc, path)?))
         }
         Content::TupleStruct(name, items) => {
-            let items = redact_items(items, selector, put, alloc, path)?;
+            let items = redact_list(items, selector, put, alloc, path)?;
             Ok(Content::TupleStruct(name, items))
         }
         Content::TupleVariant(name, index, variant, items) => {
-            let items = redact_items(items, selector, put, alloc, path)?;
+            let items = redact_list(items, selector, put, alloc, path)?;
             Ok(Content::TupleVariant(name, index, variant, items))
         }
-        Content::Map(pairs) => {
-            Ok(Content::Map(redact_pairs(pairs, selector, put, alloc, path)?))
-        }
+        Content::Map(pairs) => { Ok(Content::Map(redact_map(pairs, selector, put, alloc, path)?)) }
         Content::Struct(name, fields) => {
-            let fields = redact_fields(fields, selector, put, alloc, path)?;
+            let fields = redact_struct(fields, selector, put, alloc, path)?;
             Ok(Content::Struct(name, fields))
         }
         Content::StructVariant(name, index, variant, fields) => {
-            let fields = redact_fields(fields, selector, put, alloc, path)?;
+            let fields = redact_struct(fields, selector, put, alloc, path)?;
             Ok(Content::StructVariant(name, index, variant, fields))
         }
         leaf => Ok(leaf),
@@ -180,7 +205,7 @@ fn redact_inside<P: Put>(
 
 /// The items of a list, each redacted behind its place.
 #[cycle(redact)]
-fn redact_items<P: Put>(
+fn redact_list<P: Put>(
     list: Items,
     selector: &Selector<'_>,
     put: &P,
@@ -194,17 +219,59 @@ fn redact_items<P: Put>(
     ensures path { OnOk result (path.new.items ≡ path.old.items) }
 {
     let mut items = list.into_vec();
+    redact_items(items.as_mut_slice(), selector, put, alloc, path)?;
+    Ok(Items::from_vec(items))
+}
+
+#[cycle(redact)]
+fn redact_items<P: Put>(
+    items: &mut [Content],
+    selector: &Selector<'_>,
+    put: &P,
+    alloc: Global,
+    path: &mut Vec<PathItem>,
+) -> Result<(), OutOfMemory>
+    requires { P.can_put put.now }
+    ensures ok { OnOk result (ItemsRedacted (parts_of selector.now) (P.puts put.now)
+        (map step_of path.old.items) (count_of (item_trees items.old)) 0
+        (item_trees items.old) (item_trees items.new)) }
+    ensures path { OnOk result (path.new.items ≡ path.old.items) }
+{
     let length = items.len() as u64;
     for index in 0..items.len() {
-        let step = item_step(index, length);
-        drop(redact_behind(&mut items[index], step, selector, put, alloc, path)?);
+        redact_item(&mut items[index], index, length, selector, put, alloc, path)?;
     }
-    Ok(Items::from_vec(items))
+    Ok(())
+}
+
+/// The item at a place, redacted behind it.
+#[cycle(redact)]
+fn redact_item<P: Put>(
+    item: &mut Content,
+    place: usize,
+    length: u64,
+    selector: &Selector<'_>,
+    put: &P,
+    alloc: Global,
+    path: &mut Vec<PathItem>,
+) -> Result<(), OutOfMemory>
+    requires { P.can_put put.now }
+    ensures ok { OnOk result (RedactedAt (parts_of selector.now) (P.puts put.now)
+        (map step_of path.old.items ++ to_item place length ∷ []) (tree item.old)
+        (tree item.new)) }
+    ensures path { OnOk result (path.new.items ≡ path.old.items) }
+{
+    if !selector.opens(path.len(), lent_item(place, length)) {
+        return Ok(());
+    }
+    let step = item_step(place, length);
+    drop(redact_behind(item, step, selector, put, alloc, path)?);
+    Ok(())
 }
 
 /// The pairs of a map, each key redacted under the field `$key`, and each value under its key as it was.
 #[cycle(redact)]
-fn redact_pairs<P: Put>(
+fn redact_map<P: Put>(
     list: Pairs,
     selector: &Selector<'_>,
     put: &P,
@@ -217,36 +284,67 @@ fn redact_pairs<P: Put>(
     ensures path { OnOk result (path.new.items ≡ path.old.items) }
 {
     let mut pairs = list.into_vec();
-    let mut name = key_name(alloc)?;
-    for index in 0..pairs.len() {
-        name = redact_pair(&mut pairs[index], name, selector, put, alloc, path)?;
-    }
+    redact_pairs(pairs.as_mut_slice(), selector, put, alloc, path)?;
     Ok(Pairs::from_vec(pairs))
 }
 
-/// First the value, so that its step has the key as it was; then the key behind the field of that name, which comes back.
 #[cycle(redact)]
-fn redact_pair<P: Put>(
-    pair: &mut (Content, Content),
-    name: Text,
+fn redact_pairs<P: Put>(
+    pairs: &mut [(Content, Content)],
     selector: &Selector<'_>,
     put: &P,
     alloc: Global,
     path: &mut Vec<PathItem>,
-) -> Result<Text, OutOfMemory>
+) -> Result<(), OutOfMemory>
     requires { P.can_put put.now }
+    ensures ok { OnOk result (PairsRedacted (parts_of selector.now) (P.puts put.now)
+        (map step_of path.old.items) (pair_trees pairs.old) (pair_trees pairs.new)) }
+    ensures path { OnOk result (path.new.items ≡ path.old.items) }
+{
+    let mut name = key_name(alloc)?;
+    let keys = selector.opens(path.len(), StepRef::Field(name.as_str()));
+    for index in 0..pairs.len() {
+        redact_pair(
+            &mut pairs[index],
+            keys,
+            &mut name,
+            selector,
+            put,
+            alloc,
+            path,
+        )?;
+    }
+    Ok(())
+}
+
+/// First the value, so that its step has the key as it was; then the key behind the field of that name, where a match may lie there.
+#[cycle(redact)]
+fn redact_pair<P: Put>(
+    pair: &mut (Content, Content),
+    keys: bool,
+    name: &mut Text,
+    selector: &Selector<'_>,
+    put: &P,
+    alloc: Global,
+    path: &mut Vec<PathItem>,
+) -> Result<(), OutOfMemory>
+    requires put { P.can_put put.now }
+    requires keys { keys ≡ false → opens (parts_of selector.now) (length path.old.items)
+        (into_field name.old) ≡ false }
     ensures key { OnOk result (RedactedAt (parts_of selector.now) (P.puts put.now)
-        (map step_of path.old.items ++ into_field name ∷ []) (tree pair.old.0)
+        (map step_of path.old.items ++ into_field name.old ∷ []) (tree pair.old.0)
         (tree pair.new.0)) }
     ensures value { OnOk result (RedactedAt (parts_of selector.now) (P.puts put.now)
         (map step_of path.old.items ++ under_key (tree pair.old.0) ∷ []) (tree pair.old.1)
         (tree pair.new.1)) }
-    ensures name { IfOk result (λ back. back ≡ name) }
+    ensures name { OnOk result (name.new ≡ name.old) }
     ensures path { OnOk result (path.new.items ≡ path.old.items) }
 {
     redact_value(pair, selector, put, alloc, path)?;
-    let step = PathItem::Field(name);
-    Ok(name_of(redact_behind(&mut pair.0, step, selector, put, alloc, path)?))
+    if !keys {
+        return Ok(());
+    }
+    redact_named(&mut pair.0, name, selector, put, alloc, path)
 }
 
 /// The value of a pair, redacted behind its key.
@@ -265,15 +363,43 @@ fn redact_value<P: Put>(
     ensures key { OnOk result (pair.new.0 ≡ pair.old.0) }
     ensures path { OnOk result (path.new.items ≡ path.old.items) }
 {
+    if !selector.opens(path.len(), StepRef::Key(&pair.0)) {
+        return Ok(());
+    }
     let step = PathItem::Content(mem::replace(&mut pair.0, Content::Unit));
     let step = redact_behind(&mut pair.1, step, selector, put, alloc, path)?;
     drop(mem::replace(&mut pair.0, key_of(step)));
     Ok(())
 }
 
+/// The tree in the field of that name, redacted behind it.
+#[cycle(redact)]
+fn redact_named<P: Put>(
+    value: &mut Content,
+    name: &mut Text,
+    selector: &Selector<'_>,
+    put: &P,
+    alloc: Global,
+    path: &mut Vec<PathItem>,
+) -> Result<(), OutOfMemory>
+    requires { P.can_put put.now }
+    ensures value { OnOk result (RedactedAt (parts_of selector.now) (P.puts put.now)
+        (map step_of path.old.items ++ into_field name.old ∷ []) (tree value.old)
+        (tree value.new)) }
+    ensures name { OnOk result (name.new ≡ name.old) }
+    ensures path { OnOk result (path.new.items ≡ path.old.items) }
+{
+    if !selector.opens(path.len(), StepRef::Field(name.as_str())) {
+        return Ok(());
+    }
+    let step = PathItem::Field(mem::replace(name, Text::empty()));
+    *name = name_of(redact_behind(value, step, selector, put, alloc, path)?);
+    Ok(())
+}
+
 /// The fields of a struct, each redacted behind its name.
 #[cycle(redact)]
-fn redact_fields<P: Put>(
+fn redact_struct<P: Put>(
     list: Fields,
     selector: &Selector<'_>,
     put: &P,
@@ -282,15 +408,31 @@ fn redact_fields<P: Put>(
 ) -> Result<Fields, OutOfMemory>
     requires { P.can_put put.now }
     ensures ok { IfOk result (λ out. FieldsRedacted (parts_of selector.now) (P.puts put.now)
-        (map step_of path.old.items) (field_trees (field_list list))
-        (field_trees (field_list out))) }
+        (map step_of path.old.items) (field_trees (field_list list)) (field_trees (field_list out))) }
     ensures path { OnOk result (path.new.items ≡ path.old.items) }
 {
     let mut fields = list.into_vec();
+    redact_fields(fields.as_mut_slice(), selector, put, alloc, path)?;
+    Ok(Fields::from_vec(fields))
+}
+
+#[cycle(redact)]
+fn redact_fields<P: Put>(
+    fields: &mut [(Text, Content)],
+    selector: &Selector<'_>,
+    put: &P,
+    alloc: Global,
+    path: &mut Vec<PathItem>,
+) -> Result<(), OutOfMemory>
+    requires { P.can_put put.now }
+    ensures ok { OnOk result (FieldsRedacted (parts_of selector.now) (P.puts put.now)
+        (map step_of path.old.items) (field_trees fields.old) (field_trees fields.new)) }
+    ensures path { OnOk result (path.new.items ≡ path.old.items) }
+{
     for index in 0..fields.len() {
         redact_field(&mut fields[index], selector, put, alloc, path)?;
     }
-    Ok(Fields::from_vec(fields))
+    Ok(())
 }
 
 #[cycle(redact)]
@@ -308,14 +450,27 @@ fn redact_field<P: Put>(
     ensures name { OnOk result (field.new.0 ≡ field.old.0) }
     ensures path { OnOk result (path.new.items ≡ path.old.items) }
 {
-    let step = PathItem::Field(mem::replace(&mut field.0, Text::empty()));
-    field.0 = name_of(redact_behind(&mut field.1, step, selector, put, alloc, path)?);
-    Ok(())
+    redact_named(&mut field.1, &mut field.0, selector, put, alloc, path)
 }
 
-/// The whole tree, redacted.
+/// The whole tree, redacted in its place.
 fn redact_tree<P: Put>(
-    value: Content,
+    value: &mut Content,
+    selector: &Selector<'_>,
+    put: &P,
+    alloc: Global,
+) -> Result<(), OutOfMemory>
+    requires { P.can_put put.now }
+    ensures { OnOk result (IsRedacted (parts_of selector.now) (P.puts put.now)
+        (tree value.old) (tree value.new)) }
+{
+    let mut path = Vec::new(alloc);
+    redact_at(value, selector, put, alloc, &mut path)
+}
+
+/// The same of a tree that is handed in and comes back.
+fn redact_whole<P: Put>(
+    mut value: Content,
     selector: &Selector<'_>,
     put: &P,
     alloc: Global,
@@ -324,8 +479,14 @@ fn redact_tree<P: Put>(
     ensures { IfOk result (λ out. IsRedacted (parts_of selector.now) (P.puts put.now)
         (tree value) (tree out)) }
 {
-    let mut path = Vec::new(alloc);
-    redact_at(value, selector, put, alloc, &mut path)
+    let done = redact_tree(&mut value, selector, put, alloc);
+    match done {
+        Ok(()) => Ok(value),
+        Err(error) => {
+            drop(value);
+            Err(error)
+        }
+    }
 }
 
 impl Selector<'_> {
@@ -355,6 +516,6 @@ impl Selector<'_> {
             Content,
             OutOfMemory,
         > { redaction.put(alloc, value, path) };
-        redact_tree(value, self, &put, alloc)
+        redact_whole(value, self, &put, alloc)
     }
 }

@@ -11,6 +11,7 @@ use crate::fault::{SelectError, SelectFault, SelectorParseError};
 use crate::part::Part;
 use crate::parts::read_part;
 use crate::pieces::past_blanks;
+use crate::segment::Segment;
 use crate::stop::Stop;
 use snap_content::OutOfMemory;
 use snap_content::characters::{after_character, split_first};
@@ -79,10 +80,11 @@ fn column(text: &str, rest: &str) -> usize
     characters(text) - characters(rest) + 1
 }
 
-/// Why the text is refused.
+/// Why the text is refused: the fault and its column, or out of memory where the reading stopped for that alone.
 fn refusal(text: &str, stop: Stop<'_>) -> SelectError
     requires { IsStop (outcome (before_part []) (chars text.now)) stop }
-    ensures { IsRefused (chars text.now) result }
+    ensures refused { IsRefused (chars text.now) result }
+    ensures memory { result ≡ SelectError.OutOfMemory → stop.entry ≡ Stop.OutOfMemory }
 {
     match stop {
         Stop::OutOfMemory => SelectError::OutOfMemory,
@@ -93,7 +95,26 @@ fn refusal(text: &str, stop: Stop<'_>) -> SelectError
 }
 
 impl<'a> Selector<'a> {
+    ghost use Rattle.std.specs.Prelude.{Some, slice_get};
     ghost use Rattle.snap_select.specs.Selectors.{parts_of};
+
+    /// How many parts it has.
+    pub fn parts(&self) -> usize
+        ensures { result ≡ length (parts_of self.now) }
+    {
+        self.parts.len()
+    }
+
+    /// The segments of the part at that place, counted from 0; none where there is no such part.
+    pub fn segments(&self, part: usize) -> Option<&[Segment<'a>]>
+        ensures { MatchOption result (length (parts_of self.now) ≤ part)
+            (λ segments. slice_get (parts_of self.now) part ≡ Some segments.now) }
+    {
+        match self.parts.get(part) {
+            Some(part) => Some(part.segments()),
+            None => None,
+        }
+    }
 
     /// The selector that the text spells: parts with commas between them, and blanks or tabs round them. A part is `.` for
     /// the root, or a segment for each step: `.key` or `["key"]`, `[index]`, `.*`, `[from:to]` with both bounds or without,

@@ -1,5 +1,5 @@
 use Rattle.snap_select.proofs.Prelude.{◌∙◌, same_texts}
-use Rattle.snap_select.proofs.path_item.is_same_text.Goals as goal
+use Rattle.snap_select.proofs.step_ref.is_same_text.Goals as goal
 
 pub returns : goal.returns
 returns c = c.eq.ensures ∙ same_texts c.args.left.now c.args.right.now c.utf8.left c.utf8.right
