@@ -1,8 +1,8 @@
 -- The ends of saving, exit by exit.
-use Rattle.snap_pending.proofs.Prelude.{◌≡◌, ℕ, Bool, false, List, Option, Some, Result, Ok, Err, ap, sym, ◌∙◌, subst, OnOk, OnErr, IsErrOf, encodes-chars, encode_utf8_all, IsUtf8, chars, Error, FailedParsingYaml, UnexpectedDataType, MissingField, FileIo, FloatText, JsonKey, NotText, NoFile, OutOfMemory, Files, appended, SaveEnd, SavingEnd}
+use Rattle.snap_pending.proofs.Prelude.{◌≡◌, ℕ, Bool, false, List, Option, Some, Result, Ok, Err, ap, sym, ◌∙◌, subst, OnOk, OnErr, IsErrOf, Error, FailedParsingYaml, UnexpectedDataType, MissingField, FileIo, FloatText, JsonKey, NotText, NoFile, OutOfMemory, CallEnd, SavingEnd}
 
 -- what was printed was written, or failed
-pub saved : {T : Type 0} → (path : List ℕ) (refused : Bool) (result : Result T Error) → refused ≡ false → SaveEnd path result → SavingEnd path refused result
+pub saved : {T : Type 0} → (path : List ℕ) (refused : Bool) (result : Result T Error) → refused ≡ false → CallEnd path result → SavingEnd path refused result
 saved path refused (Ok done) accepted end = accepted
 saved path refused (Err (FileIo named)) accepted end = (end, accepted)
 saved path refused (Err OutOfMemory) accepted end = tt
@@ -15,27 +15,21 @@ saved path refused (Err (NotText named)) accepted end = absurd end
 saved path refused (Err (NoFile named)) accepted end = absurd end
 
 -- a failed write is no `JsonKey`
-no_key_here : {T P : Type 0} → (path : List ℕ) (result : Result T Error) → result ≡ Err JsonKey → SaveEnd path result → P
+no_key_here : {T P : Type 0} → (path : List ℕ) (result : Result T Error) → result ≡ Err JsonKey → CallEnd path result → P
 no_key_here {T} {P} path result is end = absurd (never (subst Q is end))
   where
     Q : Result T Error → Type 0
-    Q = λ r. SaveEnd path r
+    Q = λ r. CallEnd path r
 
-    never : SaveEnd {T = T} path (Err JsonKey) → ⊥
+    never : CallEnd {T = T} path (Err JsonKey) → ⊥
     never h = h
 
-pub no_key : {T P : Type 0} → (path : List ℕ) (result : Result T Error) → SaveEnd path result → IsErrOf result JsonKey → P
+pub no_key : {T P : Type 0} → (path : List ℕ) (result : Result T Error) → CallEnd path result → IsErrOf result JsonKey → P
 no_key path result end key = no_key_here path result key end
 
 pub at_ok : {T P Q : Type 0} → (result : Result T Error) → (P → Q) → OnOk result P → OnOk result Q
 at_ok (Ok value) f p = f p
 at_ok (Err error) f p = tt
-
--- the bytes of a text are those of its characters
-pub text_added : (m : Files) (now : Option Files) (path bytes sent printed text : List ℕ) → IsUtf8 bytes → chars bytes ≡ printed → printed ≡ text → sent ≡ bytes
-    → now ≡ Some (appended m path sent) → now ≡ Some (appended m path (encode_utf8_all text))
-text_added m now path bytes sent printed text u shown is same e =
-    e ∙ ap (λ x. Some (appended m path x)) (same ∙ sym (encodes-chars bytes u) ∙ ap encode_utf8_all (shown ∙ is))
 
 pub at_err : {T P : Type 0} → (result : Result T Error) → P → OnErr result P
 at_err (Ok value) p = tt

@@ -1,12 +1,11 @@
 -- The lines of a file, read one by one.
-use Rattle.snap_pending.proofs.Prelude.{◌≡◌, ℕ, zero, suc, ◌/◌, ◌%◌, ◌==◌, ℤ, pos, negsuc, Bool, true, false, List, [], ◌∷◌, ◌++◌, Option, Result, Ok, Err, ap, sym, ◌∙◌, subst, append_assoc, IsErrAnd, append-nil, if◌then◌else◌, Error, FailedParsingYaml, UnexpectedDataType, MissingField, FileIo, FloatText, JsonKey, NotText, NoFile, OutOfMemory, Pending, Plain, null, bool, int, text, list, dict, no_items, item, no_entries, entry, content_of, plain, Tree, text_at, Condensed, IsJsonOf, tree, LineTells, LineRefused, LineEnd, RecordEnd, MayBeJsonOf, IsNoJson, parsing_refusal, PendingInlineSnapshot, Tell, Refuse, LoadRefused, LoadEnd, lines}
+use Rattle.snap_pending.proofs.Prelude.{◌≡◌, ℕ, zero, suc, ◌/◌, ◌%◌, ◌==◌, ℤ, pos, negsuc, Bool, true, false, List, [], ◌∷◌, ◌++◌, Option, Result, Ok, Err, ap, sym, ◌∙◌, subst, append_assoc, append-nil, if◌then◌else◌, Error, FailedParsingYaml, UnexpectedDataType, MissingField, FileIo, FloatText, JsonKey, NotText, NoFile, OutOfMemory, Pending, Plain, null, bool, int, text, list, dict, no_items, item, no_entries, entry, content_of, plain, Tree, text_at, Condensed, IsJsonOf, tree, LineTells, LineRefused, LineEnd, RecordEnd, MayBeJsonOf, IsNoJson, parsing_refusal, PendingInlineSnapshot, Tell, Refuse, LoadRefused, lines, IsCallError}
 use Rattle.std.proofs.Common.{inl, inr}
 use Rattle.std.specs.Fmt.{decimal, signed_decimal, digits, digits_onto, digit_glyph}
 use Rattle.snap_content.specs.Readable.{IsWithin}
 use Rattle.snap_content.proofs.PlainMade.{plain_made}
 use Rattle.snap_content.specs.declared.content.Content.{Content}
 use Rattle.snap_emit.specs.Parsed.{MayBeReadAs, IsUnspelled, IsReadFrom, RefusalEnd}
-use Rattle.snap_pending.specs.declared.batch.Batch.{Batch}
 
 -- what the lines that are left tell, the whole tells behind what was read
 abbrev pub Told : List (List ℕ) → List (List ℕ) → List Pending → Type 0
@@ -30,9 +29,17 @@ all_told whole rest records none told =
     let Q : List Pending → Type 0 = λ ps. Tell whole ps in
     subst Q (append-nil records) (subst P none told [] tt)
 
-pub no_memory : (path : List ℕ) (file : Option (List ℕ)) (result : Result Batch Error) → IsErrAnd result (λ e. e ≡ OutOfMemory) → LoadEnd path file result
-no_memory path file (Ok batch) is = absurd is
-no_memory path file (Err e) is = let P : Error → Type 0 = λ x. LoadRefused path file x in subst P (sym is) tt
+-- a call on the file that failed refuses it
+pub refused_call : (path : List ℕ) (file : Option (List ℕ)) (e : Error) → IsCallError path e → LoadRefused path file e
+refused_call path file (FileIo named) h = h
+refused_call path file OutOfMemory h = tt
+refused_call path file (FailedParsingYaml named) h = absurd h
+refused_call path file UnexpectedDataType h = absurd h
+refused_call path file MissingField h = absurd h
+refused_call path file (FloatText named) h = absurd h
+refused_call path file JsonKey h = absurd h
+refused_call path file (NotText named) h = absurd h
+refused_call path file (NoFile named) h = absurd h
 
 nothing : (c : ℕ) (rest : List ℕ) → [] ≡ c ∷ rest → ⊥
 nothing c rest e = cc

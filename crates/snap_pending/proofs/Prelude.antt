@@ -22,7 +22,8 @@ pub use Rattle.snap_store.proofs.Written.{same_but, nothing_written}
 pub use Rattle.snap_store.specs.Fields.{is_text, binary_kind, kind_in, fields, last_value, last_filled, text_value, line_value}
 pub use Rattle.snap_store.specs.Meta.{Meta}
 pub use Rattle.snap_store.specs.MetaTree.{text_pair, line_pair, info_pair, kind_pairs, meta_pairs, meta_tree, without_nil_info, TellsFields}
-pub use Rattle.snap_store.specs.Reading.{SaveEnd, IsTextFile}
+pub use Rattle.snap_store.specs.Causes.{CallEnd, IsCallError}
+pub use Rattle.snap_store.specs.Reading.{IsTextFile}
 pub use Rattle.snap_store.specs.Views.{meta_of, text_in}
 pub use Rattle.snap_store.specs.declared.contents.SnapshotContents.{SnapshotContents}
 pub use Rattle.snap_store.specs.declared.metadata.SnapshotKind.{SnapshotKind}

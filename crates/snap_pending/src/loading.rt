@@ -11,7 +11,8 @@ use crate::batch::Batch;
 use crate::lines::read_line;
 use crate::pending::PendingInlineSnapshot;
 use snap_content::{Blob, Error, Text};
-use snap_io::{Store, StoreError};
+use snap_io::Store;
+use snap_store::named;
 use snap_str::lines::next_line;
 use std::alloc::Global;
 use std::str;
@@ -24,26 +25,22 @@ impl PendingInlineSnapshot {
         ensures same { S.files store.new ≡ S.files store.old }
         ensures cause { Counted is_file_fault (S.faults store.old) (S.faults store.new) result }
     {
-        let named = path.try_clone(alloc)?;
-        match store.read(alloc, path) {
-            Ok(found) => batch_of_file(alloc, found, named),
-            Err(StoreError::Failed) => Err(Error::FileIo(named)),
-            Err(StoreError::OutOfMemory) => Err(Error::OutOfMemory),
-        }
+        let found = named::read(alloc, store, path)?;
+        batch_of_file(alloc, found, path)
     }
 }
 
 /// The records that the bytes of a file are, or why there are none.
-fn batch_of_file(alloc: Global, file: Option<Blob>, path: Text) -> Result<Batch, Error>
-    ensures end { LoadEnd path file result }
+fn batch_of_file(alloc: Global, file: Option<Blob>, path: &Text) -> Result<Batch, Error>
+    ensures end { LoadEnd path.now file result }
     ensures no_fault { (count : ℕ) → Counted is_file_fault count count result }
 {
     let Some(bytes) = file else {
-        return Err(Error::NoFile(path));
+        return Err(Error::NoFile(path.try_clone(alloc)?));
     };
     match str::from_utf8(bytes.as_slice()) {
-        Ok(text) => batch_of_text(alloc, text, &path),
-        Err(_) => Err(Error::NotText(path)),
+        Ok(text) => batch_of_text(alloc, text, path),
+        Err(_) => Err(Error::NotText(path.try_clone(alloc)?)),
     }
 }
 

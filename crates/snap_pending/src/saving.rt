@@ -5,8 +5,7 @@ ghost use Rattle.std.specs.List.{list_any};
 ghost use Rattle.snap_content.specs.declared.error.Error.TheVariants.{JsonKey};
 ghost use Rattle.snap_io.specs.Files.{Files, SameBut, appended};
 ghost use Rattle.snap_io.specs.Causes.{Counted};
-ghost use Rattle.snap_store.specs.Causes.{is_file_fault};
-ghost use Rattle.snap_store.specs.Reading.{SaveEnd};
+ghost use Rattle.snap_store.specs.Causes.{is_file_fault, CallEnd};
 ghost use Rattle.snap_pending.specs.Pending.{pending_of};
 ghost use Rattle.snap_pending.specs.Record.{is_refused, record_line};
 ghost use Rattle.snap_pending.specs.Saved.{with_lines, SavingEnd, PrintEnd};
@@ -14,7 +13,8 @@ ghost use Rattle.snap_pending.specs.Saved.{with_lines, SavingEnd, PrintEnd};
 use crate::pending::PendingInlineSnapshot;
 use crate::record::line_text;
 use snap_content::{Error, OutOfMemory, Text};
-use snap_io::{Store, StoreError};
+use snap_io::Store;
+use snap_store::named;
 use std::alloc::Global;
 
 impl PendingInlineSnapshot {
@@ -31,7 +31,7 @@ impl PendingInlineSnapshot {
         ensures cause { Counted is_file_fault (S.faults store.old) (S.faults store.new) result }
     {
         let line = line_text(alloc, self)?;
-        append_line(alloc, store, path, &line)
+        named::append(alloc, store, path, &line)
     }
 
     /// Makes the file at the path the lines of these records, and takes it away where there are none. `JsonKey`, where a key
@@ -90,51 +90,12 @@ fn write_lines<S: Store>(
         → S.files store.new ≡ Some (with_lines m path.now lines.now)) }
     ensures unknown { OnErr result ((m : Files) → S.files store.old ≡ Some m
         → SameBut path.now m (S.files store.new)) }
-    ensures error { SaveEnd path.now result }
+    ensures error { CallEnd path.now result }
     ensures cause { Counted is_file_fault (S.faults store.old) (S.faults store.new) result }
 {
-    remove_file(alloc, store, path)?;
+    named::remove(alloc, store, path)?;
     for line in lines {
-        append_line(alloc, store, path, line)?;
+        named::append(alloc, store, path, line)?;
     }
     Ok(())
-}
-
-/// Takes the file away. After an error it is gone or as it was.
-fn remove_file<S: Store>(alloc: Global, store: &mut S, path: &Text) -> Result<(), Error>
-    ensures removed { OnOk result ((m : Files) → S.files store.old ≡ Some m
-        → S.files store.new ≡ Some (remove m path.now)) }
-    ensures unknown { OnErr result ((m : Files) → S.files store.old ≡ Some m
-        → SameBut path.now m (S.files store.new)) }
-    ensures error { SaveEnd path.now result }
-    ensures cause { Counted is_file_fault (S.faults store.old) (S.faults store.new) result }
-{
-    let named = path.try_clone(alloc)?;
-    match store.remove(path) {
-        Ok(_) => Ok(()),
-        Err(StoreError::Failed) => Err(Error::FileIo(named)),
-        Err(StoreError::OutOfMemory) => Err(Error::OutOfMemory),
-    }
-}
-
-/// Adds the line behind what the file holds. After an error only that file is unknown.
-fn append_line<S: Store>(
-    alloc: Global,
-    store: &mut S,
-    path: &Text,
-    line: &Text,
-) -> Result<(), Error>
-    ensures added { OnOk result ((m : Files) → S.files store.old ≡ Some m
-        → S.files store.new ≡ Some (appended m path.now (encode_utf8_all line.now))) }
-    ensures unknown { OnErr result ((m : Files) → S.files store.old ≡ Some m
-        → SameBut path.now m (S.files store.new)) }
-    ensures error { SaveEnd path.now result }
-    ensures cause { Counted is_file_fault (S.faults store.old) (S.faults store.new) result }
-{
-    let named = path.try_clone(alloc)?;
-    match store.append(path, line.as_str().as_bytes()) {
-        Ok(()) => Ok(()),
-        Err(StoreError::Failed) => Err(Error::FileIo(named)),
-        Err(StoreError::OutOfMemory) => Err(Error::OutOfMemory),
-    }
 }

@@ -4,7 +4,7 @@ use Rattle.snap_content.specs.declared.error.Error.TheVariants.{FailedParsingYam
 use Rattle.snap_emit.specs.Parsed.{IsHeaderReadFrom, MayBeHeaderOf, HeaderRefusalEnd}
 use Rattle.snap_emit.specs.Spelled.{IsHeaderOf, KeepsNumber}
 use Rattle.snap_io.specs.Causes.{CountedIf}
-use Rattle.snap_store.specs.Causes.{is_file_fault}
+use Rattle.snap_store.specs.Causes.{is_file_fault, IsCallError}
 use Rattle.snap_store.specs.Reading.{IsTextFile, ReadsHeader, HoldsBody, KeepsNumberIn, IsRefused, FileEnd, IsReadAs, Tells}
 use Rattle.snap_store.specs.Split.{IsSplit}
 use Rattle.snap_store.specs.declared.metadata.MetaData.{MetaData}
@@ -110,3 +110,15 @@ read_as text body file plain metadata snapshot kind contents there has read kind
 pub no_memory : (path : List ℕ) (file : Option (List ℕ)) (result : Result Snapshot Error) → IsErrAnd result (λ e. e ≡ OutOfMemory) → FileEnd path file result
 no_memory path file (Ok snapshot) is = absurd is
 no_memory path file (Err e) is = let P : Error → Type 0 = λ x. IsRefused path file x in subst P (sym is) tt
+
+-- a call on the file that failed refuses it
+pub refused_call : (path : List ℕ) (file : Option (List ℕ)) (e : Error) → IsCallError path e → IsRefused path file e
+refused_call path file (FileIo named) h = h
+refused_call path file OutOfMemory h = tt
+refused_call path file (FailedParsingYaml named) h = absurd h
+refused_call path file UnexpectedDataType h = absurd h
+refused_call path file MissingField h = absurd h
+refused_call path file (FloatText named) h = absurd h
+refused_call path file JsonKey h = absurd h
+refused_call path file (NotText named) h = absurd h
+refused_call path file (NoFile named) h = absurd h

@@ -3,10 +3,8 @@ use Rattle.snap_store.proofs.Prelude.{◌≡◌, ℕ, List, Option, Some, Result
 use Rattle.std.proofs.lemmas.Str.{encodes-chars}
 
 -- the bytes of a text are those of its characters
-pub text_written : (m : Files) (now : Option Files) (path bytes sent printed text : List ℕ) → IsUtf8 bytes → chars bytes ≡ printed → printed ≡ text → sent ≡ bytes
-    → now ≡ Some (insert m path sent) → now ≡ Some (insert m path (encode_utf8_all text))
-text_written m now path bytes sent printed text u shown is same e =
-    e ∙ ap (λ x. Some (insert m path x)) (same ∙ sym (encodes-chars bytes u) ∙ ap encode_utf8_all (shown ∙ is))
+pub text_sent : (bytes sent printed text : List ℕ) → IsUtf8 bytes → chars bytes ≡ printed → printed ≡ text → sent ≡ bytes → sent ≡ encode_utf8_all text
+text_sent bytes sent printed text u shown is same = same ∙ sym (encodes-chars bytes u) ∙ ap encode_utf8_all (shown ∙ is)
 
 pub same_but : (path : List ℕ) (m : Files) (files : Option Files) → files ≡ Some m → SameBut path m files
 same_but path m files told = record { files = m; told = told; others = λ q other. refl }

@@ -124,10 +124,3 @@ pub record IsReadFrom (path : List ℕ) (files : Option Files) (result : Result 
   pub file : Option (List ℕ)
   pub told : (m : Files) → files ≡ Some m → file ≡ get m path
   pub comes_to : FileEnd path file result
-
--- the only refusals of a save
-abbrev pub SaveEnd : {T : Type 0} → List ℕ → Result T Error → Type 0
-SaveEnd path (Ok value) = Unit {0}
-SaveEnd path (Err (FileIo named)) = named ≡ path
-SaveEnd path (Err OutOfMemory) = Unit {0}
-SaveEnd path (Err _) = ⊥

@@ -4,7 +4,7 @@
 //!
 //! In the order in which data flows: `split` (header and body), `pairs` and `fields` (what pairs of trees tell), `metadata` and
 //! `metadata_tree` (what the header tells, and metadata as a tree), `legacy` (what a file without a header tells), `contents`
-//! (the body), `snapshot` and `reading` (all of it), `header` and `saving` (the way back), `laws`.
+//! (the body), `snapshot` and `reading` (all of it), `header` and `saving` (the way back), `named` (the calls of a store that both make), `laws`.
 #![tactic(auto)]
 
 pub mod contents;
@@ -14,6 +14,7 @@ pub mod laws;
 pub mod legacy;
 pub mod metadata;
 mod metadata_tree;
+pub mod named;
 mod pairs;
 mod reading;
 mod saving;

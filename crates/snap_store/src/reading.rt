@@ -11,11 +11,12 @@ ghost use Rattle.snap_store.specs.Split.{IsSplit};
 use crate::contents::SnapshotContents;
 use crate::legacy::{legacy_metadata, legacy_text};
 use crate::metadata::{MetaData, SnapshotKind};
+use crate::named;
 use crate::snapshot::Snapshot;
 use crate::split::{Headed, split_file};
 use snap_content::{Blob, Error, OutOfMemory, Text};
 use snap_emit::yaml::parse_header;
-use snap_io::{Store, StoreError};
+use snap_io::Store;
 use snap_path::names_of_path;
 use snap_text::{TextSnapshotContents, TextSnapshotKind};
 use std::alloc::Global;
@@ -29,52 +30,48 @@ impl Snapshot {
         ensures same { S.files store.new ≡ S.files store.old }
         ensures cause { Counted is_file_fault (S.faults store.old) (S.faults store.new) result }
     {
-        let named = path.try_clone(alloc)?;
-        match store.read(alloc, path) {
-            Ok(found) => snapshot_of_file(alloc, found, named),
-            Err(StoreError::Failed) => Err(Error::FileIo(named)),
-            Err(StoreError::OutOfMemory) => Err(Error::OutOfMemory),
-        }
+        let found = named::read(alloc, store, path)?;
+        snapshot_of_file(alloc, found, path)
     }
 }
 
 /// The snapshot that the bytes of a file are, or why there is none.
-fn snapshot_of_file(alloc: Global, file: Option<Blob>, path: Text) -> Result<Snapshot, Error>
-    ensures end { FileEnd path file result }
-    ensures names { IfOk result (λ snapshot. HasNames path snapshot) }
+fn snapshot_of_file(alloc: Global, file: Option<Blob>, path: &Text) -> Result<Snapshot, Error>
+    ensures end { FileEnd path.now file result }
+    ensures names { IfOk result (λ snapshot. HasNames path.now snapshot) }
     ensures no_fault { (count : ℕ) → Counted is_file_fault count count result }
 {
     let Some(bytes) = file else {
-        return Err(Error::NoFile(path));
+        return Err(Error::NoFile(path.try_clone(alloc)?));
     };
     match str::from_utf8(bytes.as_slice()) {
         Ok(text) => snapshot_of_text(alloc, text, path),
-        Err(_) => Err(Error::NotText(path)),
+        Err(_) => Err(Error::NotText(path.try_clone(alloc)?)),
     }
 }
 
-fn snapshot_of_text(alloc: Global, text: &str, path: Text) -> Result<Snapshot, Error>
+fn snapshot_of_text(alloc: Global, text: &str, path: &Text) -> Result<Snapshot, Error>
     ensures end { (file : Option (List ℕ)) → IsTextFile file (chars text.now)
-        → FileEnd path file result }
-    ensures names { IfOk result (λ snapshot. HasNames path snapshot) }
+        → FileEnd path.now file result }
+    ensures names { IfOk result (λ snapshot. HasNames path.now snapshot) }
     ensures no_fault { (count : ℕ) → Counted is_file_fault count count result }
 {
     match split_file(alloc, text)? {
         Some(headed) => headed_snapshot(alloc, headed, path),
-        None => Ok(legacy_snapshot(alloc, text, &path)?),
+        None => Ok(legacy_snapshot(alloc, text, path)?),
     }
 }
 
 /// The snapshot of a file with a header.
-fn headed_snapshot(alloc: Global, headed: Headed, path: Text) -> Result<Snapshot, Error>
+fn headed_snapshot(alloc: Global, headed: Headed, path: &Text) -> Result<Snapshot, Error>
     ensures end { (file : Option (List ℕ)) → (text : List ℕ) → IsTextFile file text
-        → IsSplit headed text → FileEnd path file result }
-    ensures names { IfOk result (λ snapshot. HasNames path snapshot) }
+        → IsSplit headed text → FileEnd path.now file result }
+    ensures names { IfOk result (λ snapshot. HasNames path.now snapshot) }
     ensures no_fault { (count : ℕ) → Counted is_file_fault count count result }
 {
-    let (name, module) = names_of_path(alloc, &path)?;
+    let (name, module) = names_of_path(alloc, path)?;
     let Headed { header, body } = headed;
-    let header = parse_header(alloc, header.as_str(), &path)?;
+    let header = parse_header(alloc, header.as_str(), path)?;
     let number_as_text = header.number_as_text;
     let metadata = MetaData::from_content(alloc, &header.content);
     drop(header);
@@ -84,7 +81,7 @@ fn headed_snapshot(alloc: Global, headed: Headed, path: Text) -> Result<Snapshot
     Ok(snapshot.with_number_text(number_as_text))
 }
 
-/// The snapshot of a file without a header. The one error is want of memory.
+/// The snapshot of a file without a header. The one error is out of memory.
 fn legacy_snapshot(alloc: Global, text: &str, path: &Text) -> Result<Snapshot, OutOfMemory>
     ensures read { (file : Option (List ℕ)) → IsTextFile file (chars text.now)
         → is_headed (chars text.now) ≡ false

@@ -3,9 +3,8 @@ ghost use Rattle.std.specs.Prelude.{◌≡◌, List, ℕ, Some, IsSome, IfOk, On
 ghost use Rattle.std.specs.FinMap.{insert};
 ghost use Rattle.snap_io.specs.Files.{Files, SameBut};
 ghost use Rattle.snap_io.specs.Causes.{Counted};
-ghost use Rattle.snap_store.specs.Causes.{is_file_fault};
+ghost use Rattle.snap_store.specs.Causes.{is_file_fault, CallEnd};
 ghost use Rattle.snap_store.specs.Image.{text_under, saved_text, pending_path};
-ghost use Rattle.snap_store.specs.Reading.{SaveEnd};
 ghost use Rattle.snap_store.specs.Meta.{Meta, header_tree};
 ghost use Rattle.snap_store.specs.Views.{meta_in, meta_of, contents_in, text_in};
 ghost use Rattle.snap_print.specs.Blocks.{off};
@@ -14,10 +13,11 @@ ghost use Rattle.snap_print.specs.Lines.{document_of};
 use crate::contents::SnapshotContents;
 use crate::header::header_content;
 use crate::metadata::MetaData;
+use crate::named;
 use crate::snapshot::Snapshot;
 use snap_content::{Error, OutOfMemory, Text};
 use snap_emit::yaml;
-use snap_io::{Store, StoreError};
+use snap_io::Store;
 use std::alloc::Global;
 
 impl Snapshot {
@@ -31,11 +31,11 @@ impl Snapshot {
             (encode_utf8_all (saved_text (meta_in self.now) raw)))) }
         ensures unknown { OnErr result ((m : Files) → S.files store.old ≡ Some m
             → SameBut path.now m (S.files store.new)) }
-        ensures error { SaveEnd path.now result }
+        ensures error { CallEnd path.now result }
         ensures cause { Counted is_file_fault (S.faults store.old) (S.faults store.new) result }
     {
         let text = file_text(alloc, self, None)?;
-        write_text(alloc, store, path, &text)
+        named::write(alloc, store, path, &text)
     }
 
     /// Writes the snapshot, with the line of its assertion, to the file where it waits for a review, and answers
@@ -54,12 +54,12 @@ impl Snapshot {
         ensures path { IfOk result (λ pending. pending ≡ pending_path path.now) }
         ensures unknown { OnErr result ((m : Files) → S.files store.old ≡ Some m
             → SameBut (pending_path path.now) m (S.files store.new)) }
-        ensures error { SaveEnd (pending_path path.now) result }
+        ensures error { CallEnd (pending_path path.now) result }
         ensures cause { Counted is_file_fault (S.faults store.old) (S.faults store.new) result }
     {
         let pending = pending_text(alloc, path)?;
         let text = file_text(alloc, self, self.metadata().assertion_line())?;
-        write_text(alloc, store, &pending, &text)?;
+        named::write(alloc, store, &pending, &text)?;
         Ok(pending)
     }
 }
@@ -71,23 +71,6 @@ fn pending_text(alloc: Global, path: &Text) -> Result<Text, OutOfMemory>
     let mut pending = path.try_clone(alloc)?;
     pending.push_ascii(alloc, ".new")?;
     Ok(pending)
-}
-
-/// Writes the text to the file at the path. After an error only that file is unknown.
-fn write_text<S: Store>(alloc: Global, store: &mut S, path: &Text, text: &Text) -> Result<(), Error>
-    ensures written { OnOk result ((m : Files) → S.files store.old ≡ Some m
-        → S.files store.new ≡ Some (insert m path.now (encode_utf8_all text.now))) }
-    ensures unknown { OnErr result ((m : Files) → S.files store.old ≡ Some m
-        → SameBut path.now m (S.files store.new)) }
-    ensures error { SaveEnd path.now result }
-    ensures cause { Counted is_file_fault (S.faults store.old) (S.faults store.new) result }
-{
-    let named = path.try_clone(alloc)?;
-    match store.write(path, text.as_str().as_bytes()) {
-        Ok(()) => Ok(()),
-        Err(StoreError::Failed) => Err(Error::FileIo(named)),
-        Err(StoreError::OutOfMemory) => Err(Error::OutOfMemory),
-    }
 }
 
 /// The text of the header of these metadata, which has no literal blocks. The line of the assertion is the one given.

@@ -1,21 +1,13 @@
+use Rattle.std.proofs.lemmas.Result.{err_from_is_err_and}
 use Rattle.snap_store.proofs.Told.{file_at}
-use Rattle.snap_store.proofs.Outcomes.{no_memory}
+use Rattle.snap_store.proofs.Outcomes.{refused_call}
 use Rattle.snap_store.proofs.snapshot.Snapshot.from_file.Goals as goal
 
-pub returns-in_err-named-clause-end : goal.returns-in_err-named-clause-end
-returns-in_err-named-clause-end g c =
+pub returns-in_err-found-clause-end : goal.returns-in_err-found-clause-end
+returns-in_err-found-clause-end g c =
     let at = file_at c.args.path.now (g.S.Store.files c.args.store.now) in
-    record { file = at.0; told = at.1; comes_to = no_memory _ _ _ c.from_residual.ensures.1 }
+    let told = err_from_is_err_and c.from_residual.result c.from_residual.ensures.1 in
+    record { file = at.0; told = at.1; comes_to = rw (told.1, told.2) (refused_call c.args.path.now at.0 c.in_err-found.field-0.0 c.in_err-found.ensures.error) }
 
-pub returns-in-Ok-clause-cause : goal.returns-in-Ok-clause-cause
-returns-in-Ok-clause-cause g c = rw c.in-Ok.ensures.cause (c.snapshot_of_file.ensures.no_fault _)
-
-pub returns-in-Err-Failed-clause-end : goal.returns-in-Err-Failed-clause-end
-returns-in-Err-Failed-clause-end g c =
-    let at = file_at c.args.path.now (g.S.Store.files c.args.store.now) in
-    record { file = at.0; told = at.1; comes_to = c.in_ok-named.ensures }
-
-pub returns-in-Err-OutOfMemory-clause-end : goal.returns-in-Err-OutOfMemory-clause-end
-returns-in-Err-OutOfMemory-clause-end g c =
-    let at = file_at c.args.path.now (g.S.Store.files c.args.store.now) in
-    record { file = at.0; told = at.1; comes_to = tt }
+pub returns-clause-cause : goal.returns-clause-cause
+returns-clause-cause g c = rw c.in_ok-found.ensures.cause (c.snapshot_of_file.ensures.no_fault _)

@@ -7,4 +7,4 @@ returns-in_err-text-clause-unknown g c = nothing_written c.from_residual.result 
 
 pub returns-clause-written : goal.returns-clause-written
 returns-clause-written g c =
-    at_ok c.write_text.result (λ written. λ m raw told held. saved_as m _ _ _ _ _ (written m told) refl (c.in_ok-text.ensures raw held)) c.write_text.ensures.written
+    at_ok c.write.result (λ written. λ m raw told held. saved_as m _ _ _ _ _ (written m told) refl (c.in_ok-text.ensures raw held)) c.write.ensures.written

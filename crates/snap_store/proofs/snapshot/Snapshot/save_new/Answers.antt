@@ -8,6 +8,6 @@ returns-in_err-pending-clause-unknown g c = nothing_written c.from_residual.resu
 pub returns-in_err-text-clause-unknown : goal.returns-in_err-text-clause-unknown
 returns-in_err-text-clause-unknown g c = nothing_written c.from_residual-in_err-text.result (pending_path c.args.path.now) (g.S.Store.files c.args.store.now)
 
-pub returns-in_err-write_text-clause-unknown : goal.returns-in_err-write_text-clause-unknown
-returns-in_err-write_text-clause-unknown g c =
-    at_err c.from_residual-in_err-write_text.result (λ m told. same_but_at _ _ m _ c.in_ok-pending.ensures (c.in_err-write_text.ensures.unknown m told))
+pub returns-in_err-write-clause-unknown : goal.returns-in_err-write-clause-unknown
+returns-in_err-write-clause-unknown g c =
+    at_err c.from_residual-in_err-write.result (λ m told. same_but_at _ _ m _ c.in_ok-pending.ensures (c.in_err-write.ensures.unknown m told))

@@ -1,0 +1,3 @@
+mod Prelude
+mod Lookups
+pub mod Made
