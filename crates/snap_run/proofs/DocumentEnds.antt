@@ -15,8 +15,9 @@ use Rattle.snap_assert.specs.Judging.{May}
 use Rattle.snap_assert.specs.Session.{empty_session}
 use Rattle.snap_assert.specs.Assertions.{Assertion, assertion_of, asked_in}
 use Rattle.snap_assert.specs.Outcomes.{IsAnswered, ErrorCause, left_by}
-use Rattle.snap_run_requests.specs.declared.request.RequestError.{RequestError}
-use Rattle.snap_run_requests.specs.declared.request.RequestError.TheVariants as request
+use Rattle.snap_run_requests.specs.declared.fault.RequestError.{RequestError}
+use Rattle.snap_run_requests.specs.declared.fault.RequestError.TheVariants as request
+use Rattle.snap_run_requests.specs.declared.fault.Reason.{Reason}
 use Rattle.snap_run.specs.Refused.{unread, unanswered}
 use Rattle.snap_run.specs.declared.document_error.DocumentError.TheVariants.{OutOfMemory}
 use Rattle.snap_assert.specs.declared.error.AssertError.{AssertError}
@@ -109,8 +110,8 @@ line_fails words document outcome line bytes f g w v d told encoded wrote = reco
 
 -- a document that is not read
 pub unread_stops : (words : RunWords) (document : List ℕ) (f : Option Files) (refused : RequestError)
-    → (refused ≡ request.NoRequest → (r : RequestView) → Spells document r → ⊥) → AssertionStops words (unread refused) document f f
-unread_stops words document f request.NoRequest none = (refl, none refl)
+    → ((why : Reason) → refused ≡ request.NoRequest why → (r : RequestView) → Spells document r → ⊥) → AssertionStops words (unread refused) document f f
+unread_stops words document f (request.NoRequest why) none = (refl, none why refl)
 unread_stops words document f request.OutOfMemory none = inl refl
 
 -- an assertion is refused because the store failed in the work on a path, or for want of memory
