@@ -1,3 +1,3 @@
 mod Prelude
-mod Lookups
+pub mod Lookups
 pub mod Made

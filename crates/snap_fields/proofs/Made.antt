@@ -1,5 +1,5 @@
 -- The fields of pairs that a reader made.
-use Rattle.snap_fields.proofs.Prelude.{◌≡◌, ℕ, ◌^◌, ◌<◌, pos, Bool, true, false, cond, nat_lt, List, Option, None, Some, refl, ap, ◌∙◌, lt-ltb, option_or, option_map, option_and_then, if◌then◌else◌, Plain, content_of, number_tree, Entries, entry, no_entries, pairs_made, Tree, i64, u64, u128, TreePairs, is_key, last_by, last_in, last_filled_in, tree_text, tree_line, text_at, line_at, last_made, last_value, last_filled, text_value, line_value}
+use Rattle.snap_fields.proofs.Prelude.{◌≡◌, ℕ, ◌^◌, ◌<◌, pos, Bool, true, false, cond, nat_lt, List, Option, None, Some, refl, ap, ◌∙◌, lt-ltb, option_or, option_map, if◌then◌else◌, Plain, content_of, number_tree, Entries, entry, no_entries, pairs_made, Tree, i64, u64, u128, TreePairs, is_key, last_by, last_in, last_filled_in, tree_line, last_made, last_value, last_filled, line_value}
 use Rattle.snap_content.specs.Plain as p
 
 or_later : (more : Option Plain) (passes : Bool) (value : Plain)
@@ -16,12 +16,6 @@ by_made passes (entry key value es) =
 
 pub value-made : (name : List ℕ) (ps : TreePairs) (es : Entries) → ps ≡ pairs_made es → last_in name ps ≡ option_map content_of (last_value name es)
 value-made name ps es made = ap (last_in name) made ∙ by_made (λ key value. is_key name key) es
-
-pub text-made : (name : List ℕ) (ps : TreePairs) (es : Entries) → ps ≡ pairs_made es → text_at name ps ≡ text_value (last_value name es)
-text-made name ps es made = ap (option_and_then tree_text) (value-made name ps es made)
-
-pub line-made : (name : List ℕ) (ps : TreePairs) (es : Entries) → ps ≡ pairs_made es → line_at name ps ≡ line_value (last_value name es)
-line-made name ps es made = ap (option_and_then tree_line) (value-made name ps es made)
 
 pub filled-made : (name : List ℕ) (ps : TreePairs) (es : Entries) → ps ≡ pairs_made es → last_filled_in name ps ≡ option_map content_of (last_filled name es)
 filled-made name ps es made = ap (last_filled_in name) made ∙ by_made _ es

@@ -1,11 +1,11 @@
 //! What the pairs of a map tell under a name. Each function says it of any pairs, and of those that a reader made of entries.
-ghost use Rattle.std.specs.Prelude.{◌≡◌, ◌&&◌, not, IsTrue, Option, Some, None, option_map, option_and_then, if◌then◌else◌};
+ghost use Rattle.std.specs.Prelude.{◌≡◌, ◌&&◌, not, IsTrue, Some, None, option_map, if◌then◌else◌};
 ghost use Rattle.std.specs.Char.{is_ascii};
 ghost use Rattle.std.specs.List.{list_all};
 ghost use Rattle.std.specs.Str.{chars};
-ghost use Rattle.snap_content.specs.Plain.{Plain, Entries, content_of, pairs_made};
+ghost use Rattle.snap_content.specs.Plain.{Entries, content_of, pairs_made};
 ghost use Rattle.snap_content.specs.View.{tree, pair_trees};
-ghost use Rattle.snap_fields.specs.Fields.{is_key, is_nil, last_in, last_filled_in, text_at, line_at, tree_text, tree_line};
+ghost use Rattle.snap_fields.specs.Fields.{is_key, is_nil, last_in, last_filled_in, text_at, line_at, tree_line};
 ghost use Rattle.snap_fields.specs.Made.{last_value, last_filled, text_value, line_value};
 
 use snap_content::Content;
@@ -88,10 +88,10 @@ pub fn filled_named<'a>(pairs: &'a [(Content, Content)], name: &str) -> Option<&
         ≡ option_map content_of (last_filled name.now entries) }
 {
     let mut left = pairs;
-    while let Some((pair, front)) = left.split_last() {
+    while let Some((pair, before)) = left.split_last() {
         match value_if_filled(pair, name) {
             Some(value) => return Some(value),
-            None => left = front,
+            None => left = before,
         }
     }
     None
@@ -112,43 +112,6 @@ fn value_if_filled<'a>(pair: &'a (Content, Content), name: &str) -> Option<&'a C
     }
 }
 
-/// The text of a field that was looked up; one of another type is as if it were not there.
-pub fn text_of(field: Option<&Content>) -> Option<&str>
-    ensures tree { option_map (λ text. chars text.now) result
-        ≡ option_and_then tree_text (option_map (λ value. tree value.now) field.entry) }
-    ensures made { (plain : Option Plain)
-        → option_map (λ value. tree value.now) field.entry ≡ option_map content_of plain
-        → option_map (λ text. chars text.now) result ≡ text_value plain }
-{
-    match field {
-        None => None,
-        Some(value) => value.as_str(),
-    }
-}
-
-/// The line's number, below 2^32, of a field that was looked up.
-pub fn line_of(field: Option<&Content>) -> Option<u32>
-    ensures tree { result
-        ≡ option_and_then tree_line (option_map (λ value. tree value.now) field.entry) }
-    ensures made { (plain : Option Plain)
-        → option_map (λ value. tree value.now) field.entry ≡ option_map content_of plain
-        → result ≡ line_value plain }
-{
-    match field {
-        None => None,
-        Some(value) => line_in(value),
-    }
-}
-
-fn line_in(value: &Content) -> Option<u32>
-    ensures { result ≡ tree_line (tree value.now) }
-{
-    match value.as_u64() {
-        None => None,
-        Some(number) => u32::try_from(number).ok(),
-    }
-}
-
 /// The text of the last pair of this name.
 pub fn text_named<'a>(pairs: &'a [(Content, Content)], name: &str) -> Option<&'a str>
     requires { IsTrue (list_all is_ascii name.now) }
@@ -157,7 +120,10 @@ pub fn text_named<'a>(pairs: &'a [(Content, Content)], name: &str) -> Option<&'a
     ensures made { (entries : Entries) → pair_trees pairs.now ≡ pairs_made entries
         → option_map (λ text. chars text.now) result ≡ text_value (last_value name.now entries) }
 {
-    text_of(value_named(pairs, name))
+    match value_named(pairs, name) {
+        None => None,
+        Some(value) => value.as_str(),
+    }
 }
 
 /// The line's number, below 2^32, that is the value of the last pair of this name.
@@ -167,10 +133,24 @@ pub fn line_named(pairs: &[(Content, Content)], name: &str) -> Option<u32>
     ensures made { (entries : Entries) → pair_trees pairs.now ≡ pairs_made entries
         → result ≡ line_value (last_value name.now entries) }
 {
-    line_of(value_named(pairs, name))
+    match value_named(pairs, name) {
+        None => None,
+        Some(value) => line_of(value),
+    }
 }
 
-fn is_named(key: &Content, name: &str) -> bool
+/// The line's number, below 2^32, that a tree is.
+pub fn line_of(value: &Content) -> Option<u32>
+    ensures { result ≡ tree_line (tree value.now) }
+{
+    match value.as_u64() {
+        None => None,
+        Some(number) => u32::try_from(number).ok(),
+    }
+}
+
+/// Whether the key is the text of this name.
+pub fn is_named(key: &Content, name: &str) -> bool
     requires { IsTrue (list_all is_ascii name.now) }
     ensures { result ≡ is_key name.now (tree key.now) }
 {

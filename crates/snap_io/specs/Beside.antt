@@ -1,4 +1,4 @@
--- The folder of a path, the helper beside the file, and the file that another waits for.
+-- The folder of a path, the helper beside the file, and the snapshot of a pending file.
 use Rattle.std.specs.Prelude.{◌≡◌, ℕ, List, [], ◌∷◌, ◌++◌, Option, None, Some}
 use Rattle.std.specs.Fmt.{decimal}
 use Rattle.std.specs.Path.{slash, dot, rsplit_once}
@@ -24,6 +24,6 @@ helper_beside (Some (folder, name)) number = folder ++ (slash ∷ []) ++ helper_
 abbrev pub helper_of : List ℕ → ℕ → List ℕ
 helper_of path number = helper_beside (rsplit_once slash path) number
 
--- the path is that of a file that waits for a review: the snapshot's, and `.new`
+-- the path is that of the pending file of this snapshot: the snapshot's, and `.new`
 abbrev pub WaitsFor : List ℕ → List ℕ → Type 0
 WaitsFor path snapshot = path ≡ snapshot ++ 46 ∷ 110 ∷ 101 ∷ 119 ∷ []

@@ -10,8 +10,8 @@ use Rattle.snap_io.specs.declared.call.Answer.TheVariants.{Failed as NotDone}
 use Rattle.snap_io.specs.declared.outside.StoreError.{StoreError}
 use Rattle.snap_io.specs.declared.outside.StoreError.TheVariants.{Failed, OutOfMemory}
 
--- The bits that a new file is to have: those of the file at its path. Where none is there and the path is that of a file that
--- waits, those of its snapshot. None where the system is to choose.
+-- The bits that a new file is to have: those of the file at its path. Where none is there and the path is that of a pending
+-- one, those of its snapshot. None where the system is to choose.
 abbrev pub BitsFor : List ℕ → Result (Option ℕ) StoreError → History → History → Type 0
 BitsFor path (Ok (Some bits)) before now = LookedAt path (Ok (Some bits)) before now ⊎ ((snapshot : List ℕ) × WaitsFor path snapshot × LookedAt snapshot (Ok (Some bits)) (looks path Missing ∷ before) now)
 BitsFor path (Ok None) before now =

@@ -1,4 +1,4 @@
-//! The folder of a path, the helper beside the file, and the file that another waits for.
+//! The folder of a path, the helper beside the file, and the snapshot of a pending file.
 ghost use Rattle.std.specs.Prelude.{◌≡◌, ◌++◌, List, ℕ, IfOk, MatchOption, string_bytes};
 ghost use Rattle.snap_io.specs.Beside.{folder_of, helper_name, helper_of, WaitsFor};
 
@@ -41,7 +41,7 @@ fn hidden<A: Allocator>(
     format!(in alloc; "{folder}{mark}.snap-writing-{number}")
 }
 
-/// The snapshot, where the path is that of a file that waits for a review.
+/// The path of the snapshot, where this is that of a pending one.
 pub(crate) fn waits_for(path: &str) -> Option<&str>
     ensures { MatchOption result ((snapshot : List ℕ) → WaitsFor path.now snapshot → ⊥)
         (λ snapshot. WaitsFor path.now snapshot.now) }

@@ -54,7 +54,7 @@ impl MemoryFiles {
         self.tree.len()
     }
 
-    /// Makes these the bytes of the file. After want of memory nothing has changed.
+    /// Makes these the bytes of the file. After out of memory nothing has changed.
     pub fn put(&mut self, path: &Text, bytes: &[u8]) -> Result<(), OutOfMemory>
         ensures ok { OnOk result (self.new ≡ insert self.old path.now bytes.now) }
         ensures err { OnErr result (self.new ≡ self.old) }
@@ -66,7 +66,7 @@ impl MemoryFiles {
     }
 
     /// Adds these bytes behind those of the file, or makes them a file where there is none.
-    /// After want of memory nothing has changed.
+    /// After out of memory nothing has changed.
     pub fn append(&mut self, path: &Text, bytes: &[u8]) -> Result<(), OutOfMemory>
         ensures ok { OnOk result (self.new ≡ appended self.old path.now bytes.now) }
         ensures err { OnErr result (self.new ≡ self.old) }

@@ -43,7 +43,7 @@ impl MemoryStore {
         self.schedule.fail_at(calls);
     }
 
-    /// Makes these the bytes of the file; it is no call of the store. After want of memory nothing has changed.
+    /// Makes these the bytes of the file; it is no call of the store. After out of memory nothing has changed.
     pub fn put(&mut self, path: &Text, bytes: &[u8]) -> Result<(), OutOfMemory>
         ensures ok { OnOk result (files_in self.new
             ≡ insert (files_in self.old) path.now bytes.now) }

@@ -29,7 +29,7 @@ impl Names {
         }
     }
 
-    /// Adds a name at the end. After want of memory the list is as it was.
+    /// Adds a name at the end. After out of memory the list is as it was.
     pub fn push(&mut self, item: Text) -> Result<(), OutOfMemory>
         ensures ok { OnOk result (self.new ≡ self.old ++ item ∷ []) }
         ensures err { OnErr result (self.new ≡ self.old) }

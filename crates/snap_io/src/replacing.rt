@@ -30,8 +30,8 @@ pub(crate) fn bits_at<R: Files + Alloc + Clone + Drop>(
     bits_seen(disk.look(path))
 }
 
-/// The permission bits that a new file at the path is to have: a value that few may read stays so, also where it
-/// waits for a review.
+/// The permission bits that a new file at the path is to have: a value that few may read stays so, also where it is
+/// pending.
 fn bits_for<R: Files + Alloc + Clone + Drop>(
     disk: &mut Disk<R>,
     path: &str,

@@ -27,7 +27,7 @@ impl SteadyStore {
         }
     }
 
-    /// Makes these the bytes of the file. After want of memory nothing has changed.
+    /// Makes these the bytes of the file. After out of memory nothing has changed.
     pub fn put(&mut self, path: &Text, bytes: &[u8]) -> Result<(), OutOfMemory>
         ensures ok { OnOk result (steady_files self.new
             ≡ insert (steady_files self.old) path.now bytes.now) }

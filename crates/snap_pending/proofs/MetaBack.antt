@@ -1,11 +1,10 @@
 -- What is read back of the metadata in a record.
-use Rattle.snap_pending.proofs.Prelude.{◌≡◌, ℕ, ◌^◌, ◌<◌, pos, Bool, true, false, cond, not, ◌&&◌, nat_lt, List, Option, None, Some, refl, ap, sym, ◌∙◌, IfSome, codes, option_and_then, option_map, if◌then◌else◌, Tree, string, i64, u32, u64, u128, TreePairs, pair, json_plain, json_pairs, is_text, binary_kind, kind_in, fields, Meta, text_pair, line_pair, info_pair, kind_pairs, meta_pairs, meta_tree, without_nil_info, TellsFields, SnapshotKind, in_json, meta_back, TellsMeta}
+use Rattle.snap_pending.proofs.Prelude.{◌≡◌, ℕ, ◌^◌, ◌<◌, pos, Bool, true, false, cond, not, ◌&&◌, nat_lt, List, Option, None, Some, refl, ap, sym, ◌∙◌, IfSome, codes, option_and_then, option_map, if◌then◌else◌, Tree, string, i64, u32, u64, u128, TreePairs, pair, json_plain, json_pairs, is_text, binary_kind, kind_told, fields_told, kind_in, fields, Meta, text_pair, line_pair, info_pair, kind_pairs, meta_pairs, meta_tree, without_nil_info, TellsFields, SnapshotKind, in_json, meta_back, TellsMeta}
 use Rattle.std.specs.Option.{option_or}
 use Rattle.snap_content.specs.Plain as p
-use Rattle.snap_store.specs.TreeFields.{tree_text, tree_line, is_key, is_nil, last_by, last_in, text_at, line_at, kind_told, fields_told}
+use Rattle.snap_fields.specs.Fields.{tree_text, tree_line, is_key, is_nil, last_by, last_in, text_at, line_at}
 use Rattle.snap_store.specs.declared.metadata.SnapshotKind.TheVariants.{Text, Binary}
-use Rattle.snap_store.proofs.MetaTrees.{meta_tree-tells}
-use Rattle.snap_store.proofs.TreesMade.{kind-made, fields-made, same_meta}
+use Rattle.snap_store.proofs.MetaTrees.{meta_tree-tells, same_meta}
 
 -- the same pairs, with the line as a reader makes it
 
@@ -111,12 +110,12 @@ told_fields m t = let same : t.pairs ≡ meta_pairs m = cc in ap (λ v. fields_t
 
 pub kind-back : (m : Meta) → IfSome m.assertion_line (λ n. n < 2 ^ 32) → kind_in (json_pairs (meta_pairs m)) ≡ Some m.kind
 kind-back m fits =
-    sym (kind-made (numbered (in_json m)) (json_pairs (meta_pairs m)) (sym (pairs_back m))) ∙ same_kind (in_json m)
+    ap kind_told (pairs_back m) ∙ same_kind (in_json m)
     ∙ told_kind (in_json m) (meta_tree-tells (in_json m) fits)
 
 fields_back : (m : Meta) → IfSome m.assertion_line (λ n. n < 2 ^ 32) → fields (json_pairs (meta_pairs m)) m.kind ≡ meta_back m
 fields_back m fits =
-    sym (fields-made (numbered (in_json m)) (json_pairs (meta_pairs m)) m.kind (sym (pairs_back m))) ∙ same_fields (in_json m) m.kind
+    ap (λ v. fields_told v m.kind) (pairs_back m) ∙ same_fields (in_json m) m.kind
     ∙ told_fields (in_json m) (meta_tree-tells (in_json m) fits)
 
 told_same : (m : Meta) (es : p.Entries) (back : Meta) → IfSome m.assertion_line (λ n. n < 2 ^ 32) → es ≡ json_pairs (meta_pairs m)

@@ -87,6 +87,8 @@ named_end pairs meta held (Ok s) md ct h =
       raw = ct.raw;
       raw_is = ct.is;
       contents_are = subst Q (sym h.contents_are) ct.holds;
+      headed = h.headed;
+      no_number = h.no_number;
     }
 named_end pairs meta held (Err MissingField) md ct h = lacks_module pairs refl h
 named_end pairs meta held (Err OutOfMemory) md ct h = tt

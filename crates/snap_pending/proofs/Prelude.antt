@@ -15,11 +15,13 @@ pub use Rattle.snap_content.specs.declared.error.Error.TheVariants.{FailedParsin
 pub use Rattle.snap_json.specs.JsonPlain.{json_plain, json_pairs}
 pub use Rattle.snap_json.specs.JsonText.{json_text, text_at}
 pub use Rattle.snap_json.specs.declared.format.Format.TheVariants.{Condensed}
+pub use Rattle.snap_fields.specs.Fields.{is_text}
+pub use Rattle.snap_fields.specs.Made.{last_value, last_filled, text_value, line_value}
 pub use Rattle.snap_io.specs.Files.{Files, SameBut, appended, MayBeGone}
 pub use Rattle.snap_parse_laws_json.specs.Bounded.{IsJsonOf}
 pub use Rattle.snap_store.proofs.Headers.{tree-pairs, tree-U32, in_front-none}
 pub use Rattle.snap_store.proofs.Written.{same_but, nothing_written}
-pub use Rattle.snap_store.specs.Fields.{is_text, binary_kind, kind_in, fields, last_value, last_filled, text_value, line_value}
+pub use Rattle.snap_store.specs.Fields.{binary_kind, kind_told, fields_told, kind_in, fields}
 pub use Rattle.snap_store.specs.Meta.{Meta}
 pub use Rattle.snap_store.specs.MetaTree.{text_pair, line_pair, info_pair, kind_pairs, meta_pairs, meta_tree, without_nil_info, TellsFields}
 pub use Rattle.snap_store.specs.Causes.{CallEnd, IsCallError}

@@ -1,6 +1,7 @@
 -- A record is told by what JSON keeps of it.
-use Rattle.snap_pending.proofs.Prelude.{◌≡◌, ℕ, ◌^◌, ◌<◌, pos, List, Option, None, Some, refl, ap, sym, ◌∙◌, subst, lt-ltb, IfSome, codes, option_map, if◌then◌else◌, Tree, string, TreePairs, no_pairs, pair, json_plain, json_pairs, last_value, last_filled, text_value, line_value, text_pair, meta_tree, text_in, SnapshotContents, normal, IsHeldBack, MayBeBack, IsBack, HasShortLine, HasShortLines, Held, Pending, held_tree, tree_or_none, record_of, HoldsText, TellsMeta, TellsHeld, MayTell, TellsRecord}
+use Rattle.snap_pending.proofs.Prelude.{◌≡◌, ℕ, ◌^◌, ◌<◌, pos, Bool, false, List, Option, None, Some, refl, ap, sym, ◌∙◌, subst, lt-ltb, IfSome, codes, option_map, if◌then◌else◌, Tree, string, TreePairs, no_pairs, pair, json_plain, json_pairs, last_value, last_filled, text_value, line_value, text_pair, meta_tree, text_in, SnapshotContents, normal, IsHeldBack, MayBeBack, IsBack, HasShortLine, HasShortLines, Held, Pending, held_tree, tree_or_none, record_of, HoldsText, TellsMeta, TellsHeld, MayTell, TellsRecord}
 use Rattle.snap_content.specs.Plain as p
+use Rattle.snap_fields.proofs.Made.{short-line}
 use Rattle.snap_pending.proofs.MetaBack.{meta-back}
 
 pub dict-same : (a b : p.Entries) → p.dict a ≡ p.dict b → a ≡ b
@@ -57,8 +58,8 @@ held_told : (held back : Held) (found : p.Entries) (metadata : p.Plain) (raw : L
     → back.snapshot_name ≡ text_value (last_value (codes "snapshot_name") found)
     → last_value (codes "metadata") found ≡ Some metadata → TellsMeta metadata back.meta
     → last_value (codes "snapshot") found ≡ Some (p.text raw) → HoldsText raw back.contents
-    → IsHeldBack held back
-held_told held back found metadata raw fits is module_is name_is metadata_is meta_is raw_is contents_are =
+    → back.was_legacy ≡ false → back.number_as_text ≡ false → IsHeldBack held back
+held_told held back found metadata raw fits is module_is name_is metadata_is meta_is raw_is contents_are headed no_number =
     let own = held.module_name in
     let name = held.snapshot_name in
     let meta = meta_tree held.meta in
@@ -76,13 +77,15 @@ held_told held back found metadata raw fits is module_is name_is metadata_is met
       raw = n.raw;
       text_is = n.text_is;
       contents_are = subst Q n.shown_is contents_are;
+      headed = headed;
+      no_number = no_number;
     }
 
 held_back : (held back : Held) → HasShortLine held → TellsHeld (json_plain (held_tree held)) back → IsHeldBack held back
 held_back held back fits t =
     let same : t.entries ≡ json_pairs (held_pairs_of held.module_name held.snapshot_name (meta_tree held.meta) (option_map normal (text_in held.contents)))
     = dict-same t.entries (json_pairs (held_pairs_of held.module_name held.snapshot_name (meta_tree held.meta) (option_map normal (text_in held.contents)))) (sym t.tree_is) in
-    held_told held back t.entries t.metadata t.raw fits same t.module_is t.name_is t.metadata_is t.meta_is t.raw_is t.contents_are
+    held_told held back t.entries t.metadata t.raw fits same t.module_is t.name_is t.metadata_is t.meta_is t.raw_is t.contents_are t.headed t.no_number
 
 -- the fields of a record
 
@@ -113,9 +116,6 @@ may_be_back None None fits t = tt
 may_be_back None (Some back) fits t = absurd t
 may_be_back (Some held) None fits t = absurd t
 may_be_back (Some held) (Some back) fits t = held_back held back fits t
-
-pub short-line : (n : ℕ) → n < 2 ^ 32 → line_value (Some (p.int (pos n))) ≡ Some n
-short-line n fits = ap (λ b. if b then Some n else None) (lt-ltb n (2 ^ 32) fits)
 
 record_told : (pending back : Pending) (found : p.Entries) → HasShortLines pending
     → found ≡ record_entries pending.run_id pending.line pending.new_snapshot pending.old_snapshot

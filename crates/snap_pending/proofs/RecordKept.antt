@@ -3,7 +3,8 @@ use Rattle.snap_pending.proofs.Prelude.{◌≡◌, ℕ, true, List, Option, None
 use Rattle.snap_content.specs.Plain as p
 use Rattle.snap_content.specs.declared.error.Error.TheVariants as e
 use Rattle.snap_pending.proofs.MetaBack.{kind-back}
-use Rattle.snap_pending.proofs.RecordBack.{dict-same, held_pairs_of, module-told, meta-told, text-told, record_entries, filled_tree, new-told, old-told, short-line}
+use Rattle.snap_fields.proofs.Made.{short-line}
+use Rattle.snap_pending.proofs.RecordBack.{dict-same, held_pairs_of, module-told, meta-told, text-told, record_entries, filled_tree, new-told, old-told}
 
 -- the fields that a snapshot has
 

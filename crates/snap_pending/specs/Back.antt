@@ -20,7 +20,8 @@ in_json meta = record meta { info = option_map (λ info. content_of (json_plain 
 abbrev pub meta_back : Meta → Meta
 meta_back meta = without_nil_info (in_json meta)
 
--- a snapshot of a text is read back with its names, these metadata, and the normal text as that of a literal
+-- a snapshot of a text is read back with its names, these metadata, and the normal text as that of a literal; whether it was
+-- read from a file without a header, or under one that keeps a number as its text, is not kept
 pub record IsHeldBack (held back : Held) : Type 0 where
   pub module_is : back.module_name ≡ held.module_name
   pub name_is : back.snapshot_name ≡ held.snapshot_name
@@ -28,6 +29,8 @@ pub record IsHeldBack (held back : Held) : Type 0 where
   pub raw : List ℕ
   pub text_is : text_in held.contents ≡ Some raw
   pub contents_are : HoldsText (normal raw) back.contents
+  pub headed : back.was_legacy ≡ false
+  pub no_number : back.number_as_text ≡ false
 
 abbrev pub MayBeBack : Option Held → Option Held → Type 0
 MayBeBack None None = Unit {0}

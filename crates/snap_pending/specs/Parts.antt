@@ -1,12 +1,12 @@
 -- What the parts of a snapshot and of a record are read as.
-use Rattle.std.specs.Prelude.{◌≡◌, ℕ, List, Option, None, Some, Result, Ok, Err, codes}
+use Rattle.std.specs.Prelude.{◌≡◌, ℕ, false, List, Option, None, Some, Result, Ok, Err, codes}
 use Rattle.snap_content.specs.Plain.{Plain, Entries, text}
 use Rattle.snap_content.specs.declared.error.Error.{Error}
 use Rattle.snap_content.specs.declared.error.Error.TheVariants.{FailedParsingYaml, UnexpectedDataType, MissingField, FileIo, FloatText, JsonKey, NotText, NoFile, OutOfMemory}
-use Rattle.snap_store.specs.Fields.{last_value, text_value}
+use Rattle.snap_fields.specs.Made.{last_value, text_value}
 use Rattle.snap_store.specs.Header.{HasNoExtension}
 use Rattle.snap_store.specs.Meta.{Meta}
-use Rattle.snap_store.specs.Views.{meta_of, module_in, name_in, meta_in, contents_in}
+use Rattle.snap_store.specs.Views.{meta_of, module_in, name_in, meta_in, contents_in, legacy_in, number_text_in}
 use Rattle.snap_store.specs.declared.contents.SnapshotContents.{SnapshotContents}
 use Rattle.snap_store.specs.declared.metadata.MetaData.{MetaData}
 use Rattle.snap_store.specs.declared.snapshot.Snapshot.{Snapshot}
@@ -59,6 +59,8 @@ pub record IsNamed (entries : Entries) (meta : Meta) (contents : SnapshotContent
   pub name_is : name_in snapshot ≡ text_value (last_value (codes "snapshot_name") entries)
   pub meta_is : meta_in snapshot ≡ meta
   pub contents_are : contents_in snapshot ≡ contents
+  pub headed : legacy_in snapshot ≡ false
+  pub no_number : number_text_in snapshot ≡ false
 
 abbrev pub NamedEnd : Entries → Meta → SnapshotContents → Result Snapshot Error → Type 0
 NamedEnd pairs meta contents (Ok snapshot) = IsNamed pairs meta contents snapshot

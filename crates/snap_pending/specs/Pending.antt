@@ -1,17 +1,19 @@
 -- What pending records are seen as.
-use Rattle.std.specs.Prelude.{ℕ, List, Option, option_map}
+use Rattle.std.specs.Prelude.{ℕ, Bool, List, Option, option_map}
 use Rattle.snap_store.specs.Meta.{Meta}
-use Rattle.snap_store.specs.Views.{module_in, name_in, meta_in, contents_in}
+use Rattle.snap_store.specs.Views.{module_in, name_in, meta_in, contents_in, legacy_in, number_text_in}
 use Rattle.snap_store.specs.declared.contents.SnapshotContents.{SnapshotContents}
 use Rattle.snap_store.specs.declared.snapshot.Snapshot.{Snapshot}
 use Rattle.snap_pending.specs.declared.pending.PendingInlineSnapshot.{PendingInlineSnapshot}
 
--- a snapshot in a record
+-- a snapshot in a record, and what is told of the file that it was read from
 pub record Held : Type 0 where
   pub module_name : List ℕ
   pub snapshot_name : Option (List ℕ)
   pub meta : Meta
   pub contents : SnapshotContents
+  pub was_legacy : Bool
+  pub number_as_text : Bool
 
 -- what a snapshot is seen as
 abbrev pub held_of : Snapshot → Held
@@ -20,6 +22,8 @@ held_of snapshot = record {
   snapshot_name = name_in snapshot;
   meta = meta_in snapshot;
   contents = contents_in snapshot;
+  was_legacy = legacy_in snapshot;
+  number_as_text = number_text_in snapshot;
 }
 
 -- a record: its run, its line, and the new and the old snapshot where it has them

@@ -1,12 +1,13 @@
 -- What a line of a file of records is read as, and when it is refused.
-use Rattle.std.specs.Prelude.{◌≡◌, ℕ, List, [], Option, None, Some, Result, Ok, Err, codes}
+use Rattle.std.specs.Prelude.{◌≡◌, ℕ, false, List, [], Option, None, Some, Result, Ok, Err, codes}
 use Rattle.snap_content.specs.Plain.{Plain, text, dict, Entries}
 use Rattle.snap_content.specs.declared.error.Error.{Error}
 use Rattle.snap_content.specs.declared.error.Error.TheVariants.{FailedParsingYaml, UnexpectedDataType, MissingField, FileIo, FloatText, JsonKey, NotText, NoFile, OutOfMemory}
 use Rattle.snap_content.specs.Readable.{IsWithin}
 use Rattle.snap_emit.specs.Parsed.{MayBeReadAs, IsUnspelled}
 use Rattle.snap_parse_laws_json.specs.Bounded.{IsJsonOf}
-use Rattle.snap_store.specs.Fields.{last_value, last_filled, text_value, line_value, kind_in, fields}
+use Rattle.snap_fields.specs.Made.{last_value, last_filled, text_value, line_value}
+use Rattle.snap_store.specs.Fields.{kind_in, fields}
 use Rattle.snap_store.specs.Header.{HasNoExtension}
 use Rattle.snap_store.specs.Meta.{Meta}
 use Rattle.snap_store.specs.declared.contents.SnapshotContents.{SnapshotContents}
@@ -29,7 +30,8 @@ pub record TellsMeta (tree : Plain) (meta : Meta) : Type 0 where
   pub kind_is : kind_in entries ≡ Some meta.kind
   pub fields_are : meta ≡ fields entries meta.kind
 
--- a snapshot is told by its fields; a name of another type is as if it were not there
+-- a snapshot is told by its fields; a name of another type is as if it were not there. It was read from no file without a header,
+-- and under no header that keeps a number as its text.
 pub record TellsHeld (tree : Plain) (held : Held) : Type 0 where
   pub entries : Entries
   pub tree_is : tree ≡ dict entries
@@ -41,6 +43,8 @@ pub record TellsHeld (tree : Plain) (held : Held) : Type 0 where
   pub raw : List ℕ
   pub raw_is : last_value (codes "snapshot") entries ≡ Some (text raw)
   pub contents_are : HoldsText raw held.contents
+  pub headed : held.was_legacy ≡ false
+  pub no_number : held.number_as_text ≡ false
 
 -- where a tree stands it tells the snapshot; else there is none
 abbrev pub MayTell : Option Plain → Option Held → Type 0

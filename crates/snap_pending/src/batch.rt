@@ -22,7 +22,7 @@ impl Batch {
         }
     }
 
-    /// Adds a record at the end. After want of memory the list is as it was.
+    /// Adds a record at the end. After out of memory the list is as it was.
     pub fn push(&mut self, item: PendingInlineSnapshot) -> Result<(), OutOfMemory>
         ensures ok { OnOk result (items_in self.new ≡ items_in self.old ++ item ∷ []) }
         ensures err { OnErr result (items_in self.new ≡ items_in self.old) }

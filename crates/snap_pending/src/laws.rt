@@ -17,7 +17,7 @@ pub const fn a_saved_record_tells_itself()
         → TellsRecord (json_plain (record_of pending)) back → IsBack pending back }
 {}
 
-/// What JSON keeps of a record of texts is refused for no other reason than want of memory.
+/// What JSON keeps of a record of texts is refused for no other reason than that memory is out.
 pub const fn a_saved_record_is_not_refused()
     ensures { (pending : Pending) (error : ErrorSeen) → HasShortLines pending → HasTexts pending
         → RecordRefused (json_plain (record_of pending)) error → error ≡ OutOfMemory }

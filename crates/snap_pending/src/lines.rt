@@ -5,7 +5,7 @@ ghost use Rattle.std.specs.List.{list_all};
 ghost use Rattle.std.specs.Str.{chars};
 ghost use Rattle.snap_content.specs.Plain.{Plain, Entries, dict, content_of, pairs_made};
 ghost use Rattle.snap_content.specs.View.{tree, pair_trees};
-ghost use Rattle.snap_store.specs.Fields.{last_filled};
+ghost use Rattle.snap_fields.specs.Made.{last_filled};
 ghost use Rattle.snap_pending.specs.Parts.{MayBeHeldEnd};
 ghost use Rattle.snap_pending.specs.Told.{RecordEnd, LineEnd, parsing_refusal};
 
@@ -13,8 +13,8 @@ use crate::pending::PendingInlineSnapshot;
 use crate::snapshots::read_snapshot;
 use snap_content::{Content, Error, Text};
 use snap_emit::yaml::parse_str;
+use snap_fields::fields::{filled_named, line_named, text_named};
 use snap_store::Snapshot;
-use snap_store::fields::{filled_named, line_named, text_named};
 use std::alloc::Global;
 
 /// The record of a line. `FailedParsingYaml` where it is no YAML, as an empty one, or holds a number that is no whole number.

@@ -2,13 +2,13 @@
 ghost use Rattle.std.specs.Prelude.{◌≡◌, codes};
 ghost use Rattle.snap_content.specs.Plain.{Plain, Entries, dict, content_of, pairs_made};
 ghost use Rattle.snap_content.specs.View.{tree, pair_trees};
-ghost use Rattle.snap_store.specs.Fields.{last_value};
+ghost use Rattle.snap_fields.specs.Made.{last_value};
 ghost use Rattle.snap_store.specs.Views.{meta_of};
 ghost use Rattle.snap_pending.specs.Told.{HoldsText, HeldEnd};
 ghost use Rattle.snap_pending.specs.Parts.{MetadataEnd, ContentsEnd, NamedEnd};
 
 use snap_content::{Content, Error, Text};
-use snap_store::fields::{text_named, value_named};
+use snap_fields::fields::{text_named, value_named};
 use snap_store::{MetaData, Snapshot, SnapshotContents};
 use snap_text::{TextSnapshotContents, TextSnapshotKind};
 use std::alloc::Global;

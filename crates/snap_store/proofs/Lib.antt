@@ -8,8 +8,6 @@ pub mod Images
 pub mod Agreeing
 pub mod Headers
 mod LegacyFields
-mod Lookups
-pub mod TreesMade
 pub mod MetaTrees
 mod Outcomes
 pub mod Readings

@@ -1,8 +1,17 @@
 -- Metadata are read from the tree that they are made as.
 use Rattle.snap_store.proofs.Prelude.{◌≡◌, ℕ, ◌^◌, ◌<◌, Bool, true, false, not, ◌&&◌, nat_lt, List, Option, None, Some, refl, ap, sym, ◌∙◌, lt-ltb, option_or, IfSome, codes, option_and_then, if◌then◌else◌, is_text, binary_kind, Meta, text_pair, line_pair, info_pair, kind_pairs, meta_pairs, meta_tree, filled_info, without_nil_info, TellsFields, tree_text, tree_line, is_key, is_nil, last_by, last_in, last_filled_in, text_at, line_at, kind_told, fields_told, SnapshotKind, Text, Binary}
 use Rattle.snap_content.specs.Tree.{Tree, string, u32, map, TreePairs, no_pairs, pair}
-use Rattle.snap_store.proofs.Lookups.{named, filled}
-use Rattle.snap_store.proofs.TreesMade.{same_meta}
+use Rattle.snap_fields.proofs.Lookups.{named, filled}
+
+-- metadata from their fields
+abbrev pub metadata : Option (List ℕ) → Option ℕ → Option (List ℕ) → Option (List ℕ) → Option Tree → Option (List ℕ) → SnapshotKind → Meta
+metadata a b c d e f k = record { source = a; assertion_line = b; description = c; expression = d; info = e; input_file = f; kind = k }
+
+pub same_meta : (a a' : Option (List ℕ)) (b b' : Option ℕ) (c c' d d' : Option (List ℕ)) (e e' : Option Tree) (f f' : Option (List ℕ)) (k : SnapshotKind)
+    → a ≡ a' → b ≡ b' → c ≡ c' → d ≡ d' → e ≡ e' → f ≡ f' → metadata a b c d e f k ≡ metadata a' b' c' d' e' f' k
+same_meta a a' b b' c c' d d' e e' f f' k ea eb ec ed ee ef =
+    ap (λ x. metadata x b c d e f k) ea ∙ ap (λ x. metadata a' x c d e f k) eb ∙ ap (λ x. metadata a' b' x d e f k) ec
+    ∙ ap (λ x. metadata a' b' c' x e f k) ed ∙ ap (λ x. metadata a' b' c' d' x f k) ee ∙ ap (λ x. metadata a' b' c' d' e' x k) ef
 
 pub tells : (t : Tree) (pairs : TreePairs) (kind : SnapshotKind) (meta : Meta) → t ≡ map pairs → kind_told pairs ≡ Some kind
     → meta ≡ fields_told pairs kind → TellsFields t meta

@@ -16,18 +16,18 @@ pub use Rattle.snap_content.specs.Readable.{IsWithin}
 pub use Rattle.snap_content.specs.View.{tree, pair_list, pair_trees, Pairs}
 pub use Rattle.snap_content.specs.declared.content.Content.{Content, String, U32, Map, the_lemmas}
 pub use Rattle.snap_content.specs.declared.error.Error.{Error}
+pub use Rattle.snap_fields.specs.Fields.{is_text, is_key, is_nil, last_by, tree_text, tree_line, last_in, last_filled_in, text_at, line_at}
 pub use Rattle.snap_io.specs.Files.{Files, SameBut}
 pub use Rattle.snap_print.specs.Blocks.{Blocks}
 pub use Rattle.snap_print.specs.Lines.{document_of, text_of, lines_of}
 pub use Rattle.snap_str.specs.Lines.{ended_lines, onto}
 pub use Rattle.snap_text.specs.Lines.{is_line_end, IsUnbroken}
-pub use Rattle.snap_store.specs.Fields.{is_text, binary_kind, is_named, later_or, last_value, is_filled, last_filled, text_value, line_value, is_binary, kind_in, fields}
+pub use Rattle.snap_store.specs.Fields.{binary_kind, kind_told, fields_told, kind_in, fields}
 pub use Rattle.snap_store.specs.FileSplit.{is_headed, headed_body, legacy_body, body_of, line_of, before_blank, behind_name, legacy_lines, legacy_field, is_end, joined_lines, lines_text, up_to_fence, past_fence, header_text, first_is_fence, file_text, FallsInto, past_blank, trimmed_front}
 pub use Rattle.snap_store.specs.Header.{in_front, FieldsEnd, HasFields}
 pub use Rattle.snap_store.specs.Image.{file_of, saved_text, pending_path}
 pub use Rattle.snap_store.specs.Meta.{Meta, text_field, line_field, info_field, kind_fields, header_tree, without_line, empty_meta, legacy_meta}
 pub use Rattle.snap_store.specs.MetaTree.{text_pair, line_pair, info_pair, kind_pairs, meta_tree, meta_pairs, filled_info, without_nil_info, TellsFields}
-pub use Rattle.snap_store.specs.TreeFields.{is_key, is_nil, last_by, tree_text, tree_line, last_in, last_filled_in, text_at, line_at, kind_told, fields_told, line_number}
 pub use Rattle.snap_store.specs.Views.{meta_of, meta_in, contents_in, legacy_in, number_text_in}
 pub use Rattle.snap_store.specs.declared.contents.SnapshotContents.{SnapshotContents}
 pub use Rattle.snap_store.specs.declared.metadata.SnapshotKind.{SnapshotKind}

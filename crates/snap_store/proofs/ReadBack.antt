@@ -1,5 +1,5 @@
 -- A saved text snapshot is read back.
-use Rattle.snap_store.proofs.Prelude.{◌≡◌, ◌<◌, ◌^◌, inl, inr, ℕ, pos, Bool, true, false, List, [], ◌∷◌, ◌++◌, Option, None, Some, refl, sym, ap, ◌∙◌, subst, append_assoc, codes, IfSome, option_map, plain, content_of, int, dict, Entries, IsWithin, document_of, lines_of, body_of, is_headed, kind_in, fields, Meta, text_field, line_field, info_field, kind_fields, header_tree, text_pair, info_pair, kind_pairs, meta_in, contents_in, legacy_in, SnapshotKind, Error}
+use Rattle.snap_store.proofs.Prelude.{◌≡◌, ◌<◌, ◌^◌, inl, inr, ℕ, pos, Bool, true, false, List, [], ◌∷◌, ◌++◌, Option, None, Some, refl, sym, ap, ◌∙◌, subst, append_assoc, codes, IfSome, option_map, plain, content_of, int, dict, Entries, IsWithin, document_of, lines_of, body_of, is_headed, kind_told, fields_told, kind_in, fields, Meta, text_field, line_field, info_field, kind_fields, header_tree, text_pair, info_pair, kind_pairs, meta_in, contents_in, legacy_in, number_text_in, SnapshotKind, Error}
 use Rattle.std.proofs.Common.{◌⊎◌, arith}
 use Rattle.snap_content.specs.Plain.{number_tree, pairs_made}
 use Rattle.snap_content.specs.Readable.{AreEntriesWithin}
@@ -20,7 +20,7 @@ use Rattle.snap_store.proofs.MetaTrees.{IsLine, line_by, pairs_by, fields_read, 
 use Rattle.snap_store.proofs.NormalBodies.{normal-body}
 use Rattle.snap_store.proofs.Readings.{one_text, no_text_file, text_or_none, entries_same, one_reading}
 use Rattle.snap_store.proofs.Splitting.{IsUnder, rows-under}
-use Rattle.snap_store.proofs.TreesMade.{line_made, kind-made, fields-made}
+use Rattle.snap_fields.proofs.Made.{line-number}
 
 -- the pairs that a reader makes of a header's entries are those of the metadata that are read
 
@@ -28,7 +28,7 @@ abbrev line_tree : ℕ → t.Tree
 line_tree n = number_tree (pos n)
 
 reads_line : IsLine line_tree
-reads_line n = line_made (int (pos n))
+reads_line n = line-number n
 
 text_made : (name : List ℕ) (value : Option (List ℕ)) (rest : t.TreePairs) (es : Entries) → rest ≡ pairs_made es → text_pair name value rest ≡ pairs_made (text_field name value es)
 text_made name None rest es e = e
@@ -56,10 +56,10 @@ made m =
     text_made (codes "expression") m.expression _ _ (info_made m.info _ _ (text_made (codes "input_file") m.input_file _ _ (kind_made m.kind))))))
 
 kind_back : (m : Meta) → kind_in (header_entries m) ≡ Some m.kind
-kind_back m = sym (kind-made (pairs_by line_tree (with_info m)) (header_entries m) (made m)) ∙ kind_read line_tree (with_info m)
+kind_back m = sym (ap kind_told (made m)) ∙ kind_read line_tree (with_info m)
 
 fields_back : (m : Meta) → IfSome m.assertion_line (λ n. n < 2 ^ 32) → fields (header_entries m) m.kind ≡ read_meta m
-fields_back m fits = sym (fields_read line_tree reads_line (with_info m) fits ∙ fields-made (pairs_by line_tree (with_info m)) (header_entries m) m.kind (made m))
+fields_back m fits = sym (fields_read line_tree reads_line (with_info m) fits ∙ ap (λ ps. fields_told ps m.kind) (made m))
 
 -- the header's numbers have 128 bits
 
@@ -103,35 +103,40 @@ has m raw h = record { headed = (under m raw h).headed; within = within m h; hea
 
 -- what is told of it
 
-record Back (meta : Meta) (was : Bool) (told : Meta) : Type 0 where
+record Back (meta : Meta) (was : Bool) (told : Meta) (kept : Bool) : Type 0 where
   headed : was ≡ false
   metadata : told ≡ read_meta meta
+  numbers : kept ≡ false
 
 same_kind : (a b : SnapshotKind) → Some a ≡ Some b → a ≡ b
 same_kind a b e = cc
 
-told_back : (file : Option (List ℕ)) (m : Meta) (raw x : List ℕ) (was : Bool) (told : Meta) → IsOfText m → IsTextFile file (text_under m raw) → IsTextFile file x → Tells was x told → Back m was told
-told_back file m raw x false told h there here t =
+told_back : (file : Option (List ℕ)) (m : Meta) (raw x : List ℕ) (was : Bool) (told : Meta) (kept : Bool) → IsOfText m → IsTextFile file (text_under m raw) → IsTextFile file x → Tells was x told kept → Back m was told kept
+told_back file m raw x false told kept h there here t =
+    let whole : x ≡ text_under m raw = one_text file x (text_under m raw) here there in
     let entries : t.entries ≡ header_entries m = entries_same t.entries (header_entries m) (one_reading file x (text_under m raw) (dict t.entries) (header_tree m) here t.header there (has m raw h)).tree in
     let kinds : t.kind ≡ m.kind = same_kind t.kind m.kind (sym t.kind_is ∙ ap kind_in entries ∙ kind_back m) in
-    record { headed = refl; metadata = t.meta_is ∙ ap (λ es. fields es t.kind) entries ∙ ap (fields (header_entries m)) kinds ∙ fields_back m h.line }
-told_back file m raw x true told h there here t =
+    record {
+      headed = refl;
+      metadata = t.meta_is ∙ ap (λ es. fields es t.kind) entries ∙ ap (fields (header_entries m)) kinds ∙ fields_back m h.line;
+      numbers = t.header.numbers.printed (header_tree m) (within m h) (record { blocks = off; text_is = ap header_of whole ∙ (under m raw h).header_is });
+    }
+told_back file m raw x true told kept h there here t =
     absurd (let e = sym (under m raw h).headed ∙ ap is_headed (one_text file (text_under m raw) x there here) ∙ t.unheaded in cc e)
 
 pub read-back : (file : Option (List ℕ)) (m : Meta) (raw : List ℕ) (snapshot : Snapshot) → IsOfText m → IsTextFile file (text_under m raw) → IsReadAs file snapshot → IsReadBack m raw snapshot
 read-back file m raw snapshot h there r =
-    let back = told_back file m raw r.text (legacy_in snapshot) (meta_in snapshot) h there r.there r.metadata in
+    let back = told_back file m raw r.text (legacy_in snapshot) (meta_in snapshot) (number_text_in snapshot) h there r.there r.metadata in
     let whole : r.text ≡ text_under m raw = one_text file r.text (text_under m raw) r.there there in
     let body : body_of r.text ≡ normal raw = ap body_of whole ∙ (under m raw h).body_is ∙ normal-body raw in
     let is_text : (meta_in snapshot).kind ≡ kind.Text = ap (λ x. x.kind) back.metadata ∙ h.kind in
     let P : SnapshotKind → Type 0 = λ k. HoldsBody k (body_of r.text) (contents_in snapshot) in
     let Q : List ℕ → Type 0 = λ x. HoldsBody kind.Text x (contents_in snapshot) in
-    let keeps = r.numbers.0 (ap is_headed whole ∙ (under m raw h).headed) in
     record {
       metadata = back.metadata;
       contents = subst Q body (subst P is_text r.contents);
       headed = back.headed;
-      numbers = keeps.printed (header_tree m) (within m h) (record { blocks = off; text_is = ap header_of whole ∙ (under m raw h).header_is });
+      numbers = back.numbers;
     }
 
 -- it is refused by a fault of the store alone, or since memory is out

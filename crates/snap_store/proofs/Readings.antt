@@ -1,5 +1,5 @@
 -- One file is read in one way.
-use Rattle.snap_store.proofs.Prelude.{◌≡◌, ℕ, true, false, List, Option, None, sym, ap, ◌∙◌, subst, chars, IsUtf8, Plain, dict, Entries, is_headed}
+use Rattle.snap_store.proofs.Prelude.{◌≡◌, ℕ, Bool, true, false, List, Option, None, sym, ap, ◌∙◌, subst, chars, IsUtf8, Plain, dict, Entries, is_headed}
 use Rattle.snap_content.proofs.Booleans.{some_same}
 use Rattle.snap_store.specs.FileSplit.{header_of}
 use Rattle.snap_store.specs.Reading.{IsTextFile, HasHeader, ReadsHeader, IsNoText}
@@ -24,7 +24,7 @@ pub record AreOne (file : Option (List ℕ)) (x y : List ℕ) (a b : Plain) : Ty
   pub text : x ≡ y
   pub tree : a ≡ b
 
-pub one_reading : (file : Option (List ℕ)) (x y : List ℕ) (a b : Plain) → IsTextFile file x → ReadsHeader x a → IsTextFile file y → HasHeader y b → AreOne file x y a b
+pub one_reading : {kept : Bool} (file : Option (List ℕ)) (x y : List ℕ) (a b : Plain) → IsTextFile file x → ReadsHeader x a kept → IsTextFile file y → HasHeader y b → AreOne file x y a b
 one_reading file x y a b p h q k =
     let same = one_text file x y p q in
     record { text = same; tree = h.read b k.within (subst (λ t. IsHeaderOf (header_of t) b) (sym same) k.header) }

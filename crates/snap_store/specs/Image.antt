@@ -18,6 +18,6 @@ text_under meta raw = document_of off (header_tree meta) ++ (codes "---\n" ++ (n
 abbrev pub saved_text : Meta → List ℕ → List ℕ
 saved_text meta raw = text_under (without_line meta) raw
 
--- where a snapshot waits for a review
+-- the path of the pending snapshot
 abbrev pub pending_path : List ℕ → List ℕ
 pending_path path = path ++ codes ".new"

@@ -2,7 +2,6 @@ pub mod FileSplit
 pub mod Split
 pub mod Meta
 pub mod Fields
-pub mod TreeFields
 pub mod MetaTree
 pub mod Views
 pub mod Header

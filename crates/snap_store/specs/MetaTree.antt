@@ -3,8 +3,9 @@ use Rattle.std.specs.Prelude.{◌≡◌, ℕ, List, Option, None, Some, Result, 
 use Rattle.snap_content.specs.Tree.{Tree, string, u32, map, TreePairs, no_pairs, pair}
 use Rattle.snap_content.specs.declared.error.Error.{Error}
 use Rattle.snap_content.specs.declared.error.Error.TheVariants.{FailedParsingYaml, UnexpectedDataType, MissingField, FileIo, FloatText, JsonKey, NotText, NoFile, OutOfMemory}
+use Rattle.snap_fields.specs.Fields.{is_nil}
 use Rattle.snap_store.specs.Meta.{Meta}
-use Rattle.snap_store.specs.TreeFields.{is_nil, kind_told, fields_told}
+use Rattle.snap_store.specs.Fields.{kind_told, fields_told}
 use Rattle.snap_store.specs.Views.{meta_of}
 use Rattle.snap_store.specs.declared.metadata.MetaData.{MetaData}
 use Rattle.snap_store.specs.declared.metadata.SnapshotKind.{SnapshotKind}

@@ -7,7 +7,12 @@ use Rattle.snap_content.specs.Readable.{IsWithin}
 use Rattle.snap_content.specs.declared.error.Error.{Error}
 use Rattle.snap_content.specs.declared.error.Error.TheVariants.{FailedParsingYaml, UnexpectedDataType, MissingField, FileIo, FloatText, JsonKey, NotText, NoFile, OutOfMemory}
 use Rattle.snap_emit.specs.Parsed.{MayBeHeaderOf}
+use Rattle.snap_emit.specs.PlainRead.{plain_read, has_number_text}
+use Rattle.snap_emit.specs.Readings.{IsOnly, IsOfStream}
 use Rattle.snap_emit.specs.Spelled.{IsHeaderOf, KeepsNumber}
+use Rattle.snap_parse.specs.Documents.{document_value}
+use Rattle.snap_parse.specs.TextNodes.{AreNodesOf}
+use Rattle.snap_parse_events.specs.Nodes.{Node}
 use Rattle.snap_text.specs.Contents.{raw_of, kind_of}
 use Rattle.snap_text.specs.declared.contents.TextSnapshotKind.TheVariants.{File}
 use Rattle.snap_io.specs.Files.{Files}
@@ -34,10 +39,20 @@ pub record HasHeader (text : List ℕ) (tree : Plain) : Type 0 where
   pub within : IsWithin tree
   pub header : IsHeaderOf (header_of text) tree
 
--- the text is headed, and its header is read as this tree: where it is printed of a tree or spells one, as that one
-pub record ReadsHeader (text : List ℕ) (tree : Plain) : Type 0 where
+-- the value of one document is this tree, and a number in it was kept as its text where one is no whole number of 128 bits
+pub record GivesHeader (tree : Plain) (kept : Bool) (node : Node) : Type 0 where
+  pub read : plain_read (document_value node) ≡ Some tree
+  pub number : kept ≡ has_number_text (document_value node)
+
+-- The text is headed, and its header is read as this tree: where it is printed of a tree or spells one, as that one. Whether a
+-- number was kept as its text is told by the same document: of a header that is printed, or laid out by hand, by the form, and of
+-- any other by the events that a parser makes of it.
+pub record ReadsHeader (text : List ℕ) (tree : Plain) (kept : Bool) : Type 0 where
   pub headed : is_headed text ≡ true
   pub read : MayBeHeaderOf (header_of text) tree
+  pub numbers : KeepsNumber (header_of text) kept
+  pub document : IsOfStream (GivesHeader tree kept)
+  pub documents : (nodes : List Node) → AreNodesOf (header_of text) nodes → IsOnly (GivesHeader tree kept) nodes
 
 -- a text holds the body as it stands, and a payload is not read
 abbrev pub HoldsBody : SnapshotKind → List ℕ → SnapshotContents → Type 0
@@ -46,22 +61,23 @@ HoldsBody kind.Text body (contents.Binary payload) = ⊥
 HoldsBody (kind.Binary extension) body (contents.Text held) = ⊥
 HoldsBody (kind.Binary extension) body (contents.Binary payload) = payload ≡ None
 
--- a header that is read as a map tells its fields
-pub record HeaderTells (text : List ℕ) (meta : Meta) : Type 0 where
+-- a header that is read as a map tells its fields, and whether a number in it was kept as its text
+pub record HeaderTells (text : List ℕ) (meta : Meta) (kept : Bool) : Type 0 where
   pub entries : Entries
-  pub header : ReadsHeader text (dict entries)
+  pub header : ReadsHeader text (dict entries) kept
   pub kind : SnapshotKind
   pub kind_is : kind_in entries ≡ Some kind
   pub meta_is : meta ≡ fields entries kind
 
--- without a header the lines before the first blank one tell two fields
-pub record LinesTell (text : List ℕ) (meta : Meta) : Type 0 where
+-- without a header the lines before the first blank one tell two fields, and no number is kept
+pub record LinesTell (text : List ℕ) (meta : Meta) (kept : Bool) : Type 0 where
   pub unheaded : is_headed text ≡ false
   pub meta_is : meta ≡ legacy_meta text
+  pub none_kept : kept ≡ false
 
-abbrev pub Tells : Bool → List ℕ → Meta → Type 0
-Tells false text meta = HeaderTells text meta
-Tells true text meta = LinesTell text meta
+abbrev pub Tells : Bool → List ℕ → Meta → Bool → Type 0
+Tells false text meta kept = HeaderTells text meta kept
+Tells true text meta kept = LinesTell text meta kept
 
 pub record IsNoText (file : Option (List ℕ)) : Type 0 where
   pub bytes : List ℕ
@@ -75,16 +91,13 @@ pub record HasUnspelledHeader (file : Option (List ℕ)) : Type 0 where
   pub headed : is_headed text ≡ true
   pub unspelled : (tree : Plain) → HasHeader text tree → ⊥
 
--- whether the text's header keeps a number as its text; without a header none is kept
-abbrev pub KeepsNumberIn : List ℕ → Bool → Type 0
-KeepsNumberIn text kept = (is_headed text ≡ true → KeepsNumber (header_of text) kept) × (is_headed text ≡ false → kept ≡ false)
-
 -- the header is read as a tree that is no map
 pub record HasOtherHeader (file : Option (List ℕ)) : Type 0 where
   pub text : List ℕ
   pub there : IsTextFile file text
   pub tree : Plain
-  pub header : ReadsHeader text tree
+  pub kept : Bool
+  pub header : ReadsHeader text tree kept
   pub other : (entries : Entries) → tree ≡ dict entries → ⊥
 
 -- the header is read as a map that says binary and names no extension
@@ -92,16 +105,16 @@ pub record LacksExtension (file : Option (List ℕ)) : Type 0 where
   pub text : List ℕ
   pub there : IsTextFile file text
   pub entries : Entries
-  pub header : ReadsHeader text (dict entries)
+  pub kept : Bool
+  pub header : ReadsHeader text (dict entries) kept
   pub lacking : kind_in entries ≡ None
 
 -- the file was read as this snapshot
 pub record IsReadAs (file : Option (List ℕ)) (snapshot : Snapshot) : Type 0 where
   pub text : List ℕ
   pub there : IsTextFile file text
-  pub metadata : Tells (legacy_in snapshot) text (meta_in snapshot)
+  pub metadata : Tells (legacy_in snapshot) text (meta_in snapshot) (number_text_in snapshot)
   pub contents : HoldsBody (meta_in snapshot).kind (body_of text) (contents_in snapshot)
-  pub numbers : KeepsNumberIn text (number_text_in snapshot)
 
 -- why the file at the path is refused
 abbrev pub IsRefused : List ℕ → Option (List ℕ) → Error → Type 0

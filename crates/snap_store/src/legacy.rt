@@ -15,7 +15,7 @@ use snap_str::lines::next_ended_line;
 use snap_text::normal::trimmed_text;
 use std::alloc::Global;
 
-/// The metadata that the lines before the first blank one tell. The one error is want of memory.
+/// The metadata that the lines before the first blank one tell. The one error is that memory is out.
 pub fn legacy_metadata(alloc: Global, text: &str) -> Result<MetaData, OutOfMemory>
     ensures { IfOk result (λ made. meta_of made ≡ legacy_meta (chars text.now)) }
 {
@@ -28,7 +28,7 @@ pub fn legacy_metadata(alloc: Global, text: &str) -> Result<MetaData, OutOfMemor
     Ok(metadata)
 }
 
-/// The lines behind the first blank one, joined. The one error is want of memory.
+/// The lines behind the first blank one, joined. The one error is that memory is out.
 pub fn legacy_text(alloc: Global, text: &str) -> Result<Text, OutOfMemory>
     ensures { IfOk result (λ body. body ≡ legacy_body (chars text.now)) }
 {

@@ -2,20 +2,18 @@
 //! and both make a snapshot; a snapshot is saved the other way round.
 //! Files of the oldest format have no header; two fields stand in their first lines.
 //!
-//! In the order in which data flows: `split` (header and body), `pairs` and `fields` (what pairs of trees tell), `metadata` and
+//! In the order in which data flows: `split` (header and body), `metadata` and
 //! `metadata_tree` (what the header tells, and metadata as a tree), `legacy` (what a file without a header tells), `contents`
 //! (the body), `snapshot` and `reading` (all of it), `header` and `saving` (the way back), `named` (the calls of a store that both make), `laws`.
 #![tactic(auto)]
 
 pub mod contents;
-pub mod fields;
 pub mod header;
 pub mod laws;
 pub mod legacy;
 pub mod metadata;
 mod metadata_tree;
 pub mod named;
-mod pairs;
 mod reading;
 mod saving;
 pub mod snapshot;

@@ -6,14 +6,15 @@ ghost use Rattle.snap_content.specs.Plain.{Plain, content_of};
 ghost use Rattle.snap_content.specs.View.{tree, pair_trees};
 ghost use Rattle.snap_store.specs.Header.{FieldsEnd};
 ghost use Rattle.snap_store.specs.MetaTree.{TreeEnd, meta_tree};
-ghost use Rattle.snap_store.specs.TreeFields.{last_filled_in, text_at, tell_binary, kind_told, fields_told};
+ghost use Rattle.snap_fields.specs.Fields.{last_filled_in, text_at};
+ghost use Rattle.snap_store.specs.Fields.{tell_binary, kind_told, fields_told};
 ghost use Rattle.snap_store.specs.Views.{meta_of};
 
 use crate::header::header_content;
 use crate::metadata::{MetaData, SnapshotKind};
-use crate::pairs::{last_filled, line_told, text_told};
 use snap_content::characters::is_same;
 use snap_content::{Content, Error, OutOfMemory, Text};
+use snap_fields::fields::{filled_named, line_named, text_named};
 use std::alloc::Global;
 
 impl MetaData {
@@ -51,7 +52,7 @@ fn read_fields(
 {
     Ok(MetaData {
         source: read_text(alloc, pairs, "source")?,
-        assertion_line: line_told(pairs, "assertion_line"),
+        assertion_line: line_named(pairs, "assertion_line"),
         description: read_text(alloc, pairs, "description")?,
         expression: read_text(alloc, pairs, "expression")?,
         input_file: read_text(alloc, pairs, "input_file")?,
@@ -79,7 +80,7 @@ fn read_kind(
 fn says_binary(pairs: &[(Content, Content)]) -> bool
     ensures { result ≡ tell_binary (pair_trees pairs.now) }
 {
-    match text_told(pairs, "snapshot_kind") {
+    match text_named(pairs, "snapshot_kind") {
         None => false,
         Some(word) => is_same(word, "binary"),
     }
@@ -89,7 +90,7 @@ fn read_info(alloc: Global, pairs: &[(Content, Content)]) -> Result<Option<Conte
     ensures { IfOk result (λ info. option_map tree info
         ≡ last_filled_in (codes "info") (pair_trees pairs.now)) }
 {
-    match last_filled(pairs, "info") {
+    match filled_named(pairs, "info") {
         None => Ok(None),
         Some(value) => Ok(Some(value.try_clone(alloc)?)),
     }
@@ -103,7 +104,7 @@ fn read_text(
     requires { IsTrue (list_all is_ascii name.now) }
     ensures { IfOk result (λ value. value ≡ text_at name.now (pair_trees pairs.now)) }
 {
-    match text_told(pairs, name) {
+    match text_named(pairs, name) {
         None => Ok(None),
         Some(value) => Ok(Some(Text::from_str(alloc, value)?)),
     }

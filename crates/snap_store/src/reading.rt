@@ -81,7 +81,7 @@ fn headed_snapshot(alloc: Global, headed: Headed, path: &Text) -> Result<Snapsho
     Ok(snapshot.with_number_text(number_as_text))
 }
 
-/// The snapshot of a file without a header. The one error is out of memory.
+/// The snapshot of a file without a header. The one error is that memory is out.
 fn legacy_snapshot(alloc: Global, text: &str, path: &Text) -> Result<Snapshot, OutOfMemory>
     ensures read { (file : Option (List ℕ)) → IsTextFile file (chars text.now)
         → is_headed (chars text.now) ≡ false

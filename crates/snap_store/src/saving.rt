@@ -10,7 +10,6 @@ ghost use Rattle.snap_store.specs.Views.{meta_in, meta_of, contents_in, text_in}
 ghost use Rattle.snap_print.specs.Blocks.{off};
 ghost use Rattle.snap_print.specs.Lines.{document_of};
 
-use crate::contents::SnapshotContents;
 use crate::header::header_content;
 use crate::metadata::MetaData;
 use crate::named;
@@ -38,8 +37,8 @@ impl Snapshot {
         named::write(alloc, store, path, &text)
     }
 
-    /// Writes the snapshot, with the line of its assertion, to the file where it waits for a review, and answers
-    /// that file's path: the path with `.new` behind it. After an error only that file is unknown.
+    /// Writes the snapshot, with the line of its assertion, to the file of the pending snapshot, and returns that
+    /// file's path: the path with `.new` after it. After an error only that file is unknown.
     pub fn save_new<S: Store>(
         &self,
         alloc: Global,
@@ -64,7 +63,7 @@ impl Snapshot {
     }
 }
 
-/// The path of the file where a snapshot of this path waits for a review.
+/// The path of the pending snapshot of this path.
 fn pending_text(alloc: Global, path: &Text) -> Result<Text, OutOfMemory>
     ensures { IfOk result (λ pending. pending ≡ pending_path path.now) }
 {
@@ -90,9 +89,7 @@ fn file_text(alloc: Global, snapshot: &Snapshot, line: Option<u32>) -> Result<Te
     ensures { IfOk result (λ made. (raw : List ℕ) → text_in (contents_in snapshot.now) ≡ Some raw
         → made ≡ text_under (record (meta_in snapshot.now) { assertion_line = line }) raw) }
 {
-    let SnapshotContents::Text(contents) = snapshot.contents() else {
-        unreachable!()
-    };
+    let contents = snapshot.as_text().unwrap();
     let mut text = header_text(alloc, snapshot.metadata(), line)?;
     text.push_ascii(alloc, "---\n")?;
     text.push_text(alloc, &contents.normal(alloc)?)?;

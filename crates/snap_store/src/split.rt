@@ -102,7 +102,7 @@ pub(crate) fn body_text(alloc: Global, text: &str) -> Result<Text, OutOfMemory>
     Ok(body)
 }
 
-/// The header and the body; none where the first line is no `---`. The one error is want of memory.
+/// The header and the body; none where the first line is no `---`. The one error is that memory is out.
 pub fn split_file(alloc: Global, text: &str) -> Result<Option<Headed>, OutOfMemory>
     ensures { IfOk result (λ found. MatchOption found (is_headed (chars text.now) ≡ false)
         (λ headed. IsSplit headed (chars text.now))) }

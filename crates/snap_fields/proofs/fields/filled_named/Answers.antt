@@ -5,11 +5,11 @@ use Rattle.snap_fields.proofs.fields.filled_named.Goals as goal
 
 pub returns-in-Some-value_if_filled-clause-tree : goal.returns-in-Some-value_if_filled-clause-tree
 returns-in-Some-value_if_filled-clause-tree c =
-    sym (last_pushed (filled c.args.name.now) c.loop-pair.left.now c.in-Some.front.now c.in-Some.pair.now _ c.in-Some.ensures.cases.0 c.in-Some-value_if_filled.ensures) ∙ c.loop-pair.invariant
+    sym (last_pushed (filled c.args.name.now) c.loop-pair.left.now c.in-Some.before.now c.in-Some.pair.now _ c.in-Some.ensures.cases.0 c.in-Some-value_if_filled.ensures) ∙ c.loop-pair.invariant
 
 pub loop-pair-preserved : goal.loop-pair-preserved
 loop-pair-preserved c =
-    sym (last_pushed (filled c.args.name.now) c.loop-pair.left.now c.in-Some.front.now c.in-Some.pair.now _ c.in-Some.ensures.cases.0 c.in-None.ensures) ∙ c.loop-pair.invariant
+    sym (last_pushed (filled c.args.name.now) c.loop-pair.left.now c.in-Some.before.now c.in-Some.pair.now _ c.in-Some.ensures.cases.0 c.in-None.ensures) ∙ c.loop-pair.invariant
 
 pub returns-in-Some-value_if_filled-clause-made : goal.returns-in-Some-value_if_filled-clause-made
 returns-in-Some-value_if_filled-clause-made c = λ entries made. returns-in-Some-value_if_filled-clause-tree c ∙ filled-made c.args.name.now _ entries made

@@ -20,17 +20,17 @@ returns-in_err-old c =
     (λ value is other. other_old entries value refl is other) (λ value is lacks. lacks_in_old entries value refl is lacks))
 
 pub returns-in_default : goal.returns-in_default
-returns-in_default c = λ entries made. lacks_run entries refl (sym (c.in_default.ensures entries made))
+returns-in_default c = λ entries made. lacks_run entries refl (sym (c.in_default.ensures.made entries made))
 
 pub returns-in_default-line_named : goal.returns-in_default-line_named
-returns-in_default-line_named c = λ entries made. lacks_line entries refl (sym (c.in_default-line_named.ensures entries made))
+returns-in_default-line_named c = λ entries made. lacks_line entries refl (sym (c.in_default-line_named.ensures.made entries made))
 
 pub returns : goal.returns
 returns c = λ entries made. record {
   entries = entries;
   tree_is = refl;
-  run_is = sym (c.in-Some.ensures entries made) ∙ ap Some (sym (c.new.ensures.run ∙ c.in_ok-run_id.ensures));
-  line_is = sym (c.in-Some-line_named.ensures entries made) ∙ ap Some (sym c.new.ensures.line);
+  run_is = sym (c.in-Some.ensures.made entries made) ∙ ap Some (sym (c.new.ensures.run ∙ c.in_ok-run_id.ensures));
+  line_is = sym (c.in-Some-line_named.ensures.made entries made) ∙ ap Some (sym c.new.ensures.line);
   new_is = may_tell _ c.in_ok-new.new _ c.new.ensures.made (c.in_ok-new.ensures entries made);
   old_is = may_tell _ c.in_ok-old.old _ c.new.ensures.stood (c.in_ok-old.ensures entries made);
 }

@@ -1,8 +1,0 @@
-use Rattle.snap_store.proofs.Prelude.{◌≡◌, length, pair_trees, last_in}
-use Rattle.snap_store.proofs.pairs.last_named.Given as goal
-
-abbrev pub invariant-loop-pair : goal.invariant-loop-pair
-invariant-loop-pair l = last_in l.name (pair_trees l.left) ≡ last_in l.name (pair_trees l.fn.pairs)
-
-abbrev pub decreases-loop-pair : goal.decreases-loop-pair
-decreases-loop-pair l = length l.left
