@@ -7,7 +7,8 @@ ghost use Rattle.snap_assert.specs.Removed.{remove_each, is_among, NamesOneOf};
 
 use crate::error::AssertError;
 use snap_content::Text;
-use snap_io::{Store, StoreError};
+use snap_io::Store;
+use snap_store::named;
 use std::alloc::Global;
 
 /// Removes each of these files. After an error some of them may be gone; no file is written, and no other is changed.
@@ -24,12 +25,7 @@ pub fn remove_files<S: Store>(
     ensures cause { AssertCause (S.faults store.old) (S.faults store.new) result }
 {
     for path in paths {
-        let named = path.try_clone(alloc)?;
-        match store.remove(path) {
-            Ok(_) => {}
-            Err(StoreError::Failed) => return Err(AssertError::FileIo(named)),
-            Err(StoreError::OutOfMemory) => return Err(AssertError::OutOfMemory),
-        }
+        named::remove(alloc, store, path)?;
     }
     Ok(())
 }

@@ -24,7 +24,7 @@ use Rattle.snap_assert.specs.declared.error.AssertError.{AssertError}
 use Rattle.snap_assert.specs.declared.error.AssertError.TheVariants as refusal
 use Rattle.snap_assert.specs.declared.outcome.Verdict.{Verdict}
 
--- memory was wanting before anything was changed
+-- memory was out before anything was changed
 pub unchanged_before : {T : Type 0} (words : RunWords) (document : List ℕ) (f : Option Files) (result : Result T DocumentError) → IsErrAnd result (λ e. e ≡ OutOfMemory)
     → IfErr result (λ e. AssertionStops words e document f f)
 unchanged_before words document f (Ok value) is = tt
@@ -114,7 +114,7 @@ pub unread_stops : (words : RunWords) (document : List ℕ) (f : Option Files) (
 unread_stops words document f (request.NoRequest why) none = (refl, none why refl)
 unread_stops words document f request.OutOfMemory none = inl refl
 
--- an assertion is refused because the store failed in the work on a path, or for want of memory
+-- an assertion is refused because the store failed in the work on a path, or memory was out
 only_two : (before now : ℕ) (refused : AssertError) (P : AssertError → Type 0) → ErrorCause before now refused → ((path : List ℕ) → Rose before now → P (refusal.FileIo path)) → (now ≡ before → P refusal.OutOfMemory) → P refused
 only_two before now (refusal.FileIo path) P cause file memory = file path cause
 only_two before now refusal.OutOfMemory P cause file memory = memory cause

@@ -3,7 +3,7 @@ ghost use Rattle.std.specs.Prelude.{◌≡◌, ◌≤◌, Some, MatchOption, Mat
 ghost use Rattle.std.specs.List.{list_all};
 ghost use Rattle.std.specs.Str.{chars};
 ghost use Rattle.snap_content.specs.View.{tree, pair_trees};
-ghost use Rattle.snap_fields.specs.Fields.{is_key, text_at, line_at};
+ghost use Rattle.snap_fields.specs.Fields.{text_at, line_at};
 ghost use Rattle.snap_run_requests.specs.Keys.{Table, name_of, keys_in, value_at, times, is_one_of, IsKeyed, request_table};
 ghost use Rattle.snap_run_requests.specs.Faults.{IsUnknownAt, IsKeyFault, NeedsText};
 ghost use Rattle.snap_run_requests.specs.Requests.{sorted_by};
@@ -12,24 +12,13 @@ ghost use Rattle.snap_run_requests.specs.declared.key.Key.TheVariants.{Line, Sor
 use crate::fault::KeyFault;
 use crate::key::Key;
 use snap_content::Content;
-use snap_content::characters::is_same;
-use snap_fields::fields::{line_of, value_named};
-
-/// Whether it is written as this key.
-fn is_key(written: &Content, key: Key) -> bool
-    ensures { result ≡ is_key (name_of key) (tree written.now) }
-{
-    match written.as_str() {
-        None => false,
-        Some(text) => is_same(text, key.name()),
-    }
-}
+use snap_fields::fields::{is_named, line_of, value_named};
 
 /// Whether it is written as one of the keys.
 fn is_one_of(written: &Content, keys: &[Key]) -> bool
     ensures { result ≡ is_one_of keys.now (tree written.now) }
 {
-    keys.iter().any(|key| is_key(written, *key))
+    keys.iter().any(|key| is_named(written, key.name()))
 }
 
 /// The place of the first pair with another key.
@@ -52,7 +41,7 @@ fn times(pairs: &[(Content, Content)], key: Key) -> usize
 {
     pairs
         .iter()
-        .filter(|pair| is_key(&pair.0, key))
+        .filter(|pair| is_named(&pair.0, key.name()))
         .count()
 }
 
@@ -109,7 +98,7 @@ pub(crate) fn line_at(pairs: &[(Content, Content)]) -> Result<u32, KeyFault>
 {
     match value_named(pairs, Key::Line.name()) {
         None => Err(KeyFault::Missing(Key::Line)),
-        Some(value) => match line_of(Some(value)) {
+        Some(value) => match line_of(value) {
             None => Err(KeyFault::WrongKind(Key::Line)),
             Some(line) => Ok(line),
         },

@@ -6,5 +6,5 @@ pub returns-in-None-line_of : goal.returns-in-None-line_of
 returns-in-None-line_of c = record {
   value = tree c.in-Some.value.now;
   there = sym (c.in-Some.ensures.tree ∙ ap (λ name. last_in name (pair_trees c.args.pairs.now)) c.name.ensures.name);
-  wrong = ap is_some (sym c.in-None-line_of.ensures.tree);
+  wrong = ap is_some (sym c.in-None-line_of.ensures);
 }
