@@ -7,6 +7,7 @@ use Rattle.snap_content.specs.declared.error.Error.{Error}
 use Rattle.snap_content.specs.declared.error.Error.TheVariants.{FailedParsingYaml, UnexpectedDataType, MissingField, NotText, NoFile}
 use Rattle.snap_io.specs.Causes.{Rose}
 use Rattle.snap_io.specs.Files.{Files}
+use Rattle.snap_io.specs.Outside.{Given, Becomes}
 use Rattle.snap_print.specs.Lines.{text_of}
 use Rattle.snap_store.specs.Fields.{kind_in}
 use Rattle.snap_store.specs.Reading.{IsTextFile, ReadsHeader, IsRefused, FileEnd}
@@ -92,11 +93,11 @@ pub record IsAnswered (config : Config) (assertion : Assertion) (outcome : Outco
   pub remembered : (m : Files) → session' ≡ (left_by config assertion passed m session).session
   pub path : outcome.path ≡ (asked_in assertion session).path
   pub fails : outcome.fails ≡ (is_failure outcome.verdict && not config.force_pass)
-  pub allowed : (m : Files) → files ≡ Some m → May passed (get m (asked_in assertion session).path) (asked_in assertion session).blocks (asked_in assertion session).tree
-  pub stands : (m : Files) → files ≡ Some m → files' ≡ Some (left_by config assertion passed m session).files
-  pub warned : (m : Files) → files ≡ Some m → AreWarnings (asked_in assertion session).path (get m (asked_in assertion session).path) passed
-      (text_of (asked_in assertion session).blocks (asked_in assertion session).tree) (items_of outcome.warnings)
-  pub one : (m : Files) → files ≡ Some m → SpeakOfOne (asked_in assertion session).path (get m (asked_in assertion session).path) passed (items_of outcome.warnings)
+  pub allowed : Given files (λ m. May passed (get m (asked_in assertion session).path) (asked_in assertion session).blocks (asked_in assertion session).tree)
+  pub stands : Becomes files files' (λ m. (left_by config assertion passed m session).files)
+  pub warned : Given files (λ m. AreWarnings (asked_in assertion session).path (get m (asked_in assertion session).path) passed
+      (text_of (asked_in assertion session).blocks (asked_in assertion session).tree) (items_of outcome.warnings))
+  pub one : Given files (λ m. SpeakOfOne (asked_in assertion session).path (get m (asked_in assertion session).path) passed (items_of outcome.warnings))
 
 -- the only refusals while names are given and no block is open
 abbrev pub ErrorCause : ℕ → ℕ → AssertError → Type 0

@@ -1,6 +1,6 @@
 //! Removing files one by one.
-ghost use Rattle.std.specs.Prelude.{◌≡◌, Some, OnOk};
-ghost use Rattle.snap_io.specs.Files.{Files};
+ghost use Rattle.std.specs.Prelude.{OnOk};
+ghost use Rattle.snap_io.specs.Outside.{Given, Becomes};
 ghost use Rattle.snap_assert.specs.Kept.{Keeps, is_none};
 ghost use Rattle.snap_assert.specs.Outcomes.{AssertCause};
 ghost use Rattle.snap_assert.specs.Removed.{remove_each, is_among, NamesOneOf};
@@ -17,10 +17,10 @@ pub fn remove_files<S: Store>(
     store: &mut S,
     paths: &[Text],
 ) -> Result<(), AssertError>
-    ensures ok { OnOk result ((m : Files) → S.files store.old ≡ Some m
-        → S.files store.new ≡ Some (remove_each paths.now m)) }
-    ensures kept { (m : Files) → S.files store.old ≡ Some m
-        → Keeps is_none (is_among paths.now) m (S.files store.new) }
+    ensures ok { OnOk result (Becomes (S.files store.old) (S.files store.new)
+        (remove_each paths.now)) }
+    ensures kept { Given (S.files store.old)
+        (λ m. Keeps is_none (is_among paths.now) m (S.files store.new)) }
     ensures named { NamesOneOf paths.now result }
     ensures cause { AssertCause (S.faults store.old) (S.faults store.new) result }
 {

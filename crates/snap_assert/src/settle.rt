@@ -2,6 +2,7 @@
 ghost use Rattle.std.specs.Prelude.{◌≡◌, Some, IsSome, OnOk};
 ghost use Rattle.std.specs.FinMap.{remove};
 ghost use Rattle.snap_io.specs.Files.{Files};
+ghost use Rattle.snap_io.specs.Outside.{Becomes};
 ghost use Rattle.snap_store.specs.Views.{contents_in, text_in};
 ghost use Rattle.snap_assert.specs.Outcomes.{AssertCause};
 ghost use Rattle.snap_assert.specs.Kept.{KeptBy, IsWrittenAlone, IsTakenAlone, NamesOwn, NamesOnly};
@@ -21,8 +22,8 @@ use std::alloc::Global;
 
 /// Removes the pending snapshot of the tree that now passed.
 fn approve<S: Store>(alloc: Global, store: &mut S, prepared: &Prepared) -> Result<(), AssertError>
-    ensures ok { OnOk result ((m : Files) → S.files store.old ≡ Some m
-        → S.files store.new ≡ Some (remove m prepared.now.pending)) }
+    ensures ok { OnOk result (Becomes (S.files store.old) (S.files store.new)
+        (λ m. remove m prepared.now.pending)) }
     ensures kept { IsTakenAlone prepared.now.pending (S.files store.old) (S.files store.new) }
     ensures named { NamesOnly prepared.now.pending result }
     ensures cause { AssertCause (S.faults store.old) (S.faults store.new) result }
