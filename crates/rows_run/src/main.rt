@@ -7,7 +7,8 @@
 //!   written, of each run; how often the store failed; and how many files there are then, each with its path and its bytes.
 //! - `steady`: the same over forms that never fail, whose answer counts no faults.
 //! - `long`: the words, and of how many line ends the input is. The answer ends with how many of them were not read.
-//! - `request`: a document, and whether it is a request.
+//! - `request`: a document, and whether it is a request. Else the answer is why it is none: what is wrong with its text, its tree, a key
+//!   (`unknown` has the place of its pair, counted from 0) or a redaction, whose place in the list comes first.
 //! - `status`: the name of a status, the number of its document, and its path or its kind. The answer is its exit status and what it says.
 //! - `conclude`: the same of a status that ends the program. The answer is the exit status, and what the sink of errors is told.
 //! - `usage` and `usage_lines`: whether the usage text has this part, and whether it has at most so many lines.

@@ -16,4 +16,5 @@ answered config assertion prepared judged verdict fails files files' p says fail
   allowed = λ m told. (settled asked m p told).compared.allowed;
   stands = λ m told. (settled asked m p told).stands;
   warned = λ m told. (settled asked m p told).compared.warned;
+  one = λ m told. (settled asked m p told).compared.one;
 }

@@ -1,7 +1,9 @@
 -- What a reading of a file says of a pass.
 use Rattle.snap_assert.proofs.Prelude.{◌≡◌, ◌↔◌, inl, inr, IsTrue, ℕ, Bool, true, false, cond, List, Option, None, Some, refl, sym, ap, ◌∙◌, subst, codes, Plain, dict, Entries, Blocks, is_trimmed, text_of, Error, FailedParsingYaml, UnexpectedDataType, MissingField, FileIo, FloatText, JsonKey, NotText, NoFile, OutOfMemory, raw_of, kind_of, compared_as, legacy_as, TextSnapshotKind, File, legacy, Agree, is_headed, body_of, Meta, IsTextFile, HasHeader, HoldsBody, IsReadAs, IsRefused, Tells, meta_in, contents_in, legacy_in, text_in, IsFileText, SnapshotContents, Text, Binary, SnapshotKind, Snapshot, BodyAgrees, HasTextHeader, HasBinaryHeader, IsLegacyFile, IsUnread, May, some_same, false_from_ne_true}
 use Rattle.snap_text.proofs.Agreeing.{files_older}
-use Rattle.snap_store.specs.Fields.{is_binary, kind_in, binary_kind, last_value, text_value}
+use Rattle.snap_content.specs.Plain.{pairs_made}
+use Rattle.snap_fields.specs.Fields.{text_at}
+use Rattle.snap_store.specs.Fields.{is_binary, kind_in, binary_kind}
 use Rattle.snap_store.specs.declared.metadata.SnapshotKind.TheVariants as kind
 use Rattle.snap_store.proofs.Readings.{one_text, no_text_file, text_or_none, one_reading, headed_or_not, entries_same}
 use Rattle.snap_assert.proofs.Saved.{against_saved}
@@ -36,7 +38,7 @@ kind_of_text : (b : Bool) (extension : Option (List ℕ)) → b ≡ false → co
 kind_of_text b extension h = ap (λ c. cond c (binary_kind extension) (Some kind.Text)) h
 
 text_kind : (entries : Entries) → is_binary entries ≡ false → kind_in entries ≡ Some kind.Text
-text_kind entries h = kind_of_text (is_binary entries) (text_value (last_value (codes "extension") entries)) h
+text_kind entries h = kind_of_text (is_binary entries) (text_at (codes "extension") (pairs_made entries)) h
 
 -- a refusal of the file is no pass
 pub refused_no_pass : (path : List ℕ) (file : Option (List ℕ)) (w : Blocks) (tree : Plain) (error : Error) → is_trimmed w ≡ true → IsRefused path file error
@@ -113,34 +115,34 @@ same_kind : (a b : SnapshotKind) → Some a ≡ Some b → a ≡ b
 same_kind a b e = cc
 
 -- the kind that was read, by what the file is
-kind_headed : (file : Option (List ℕ)) (was : Bool) (text : List ℕ) (meta : Meta) → IsTextFile file text → Tells was text meta → HasTextHeader file → meta.kind ≡ kind.Text
-kind_headed file false text meta there t h =
+kind_headed : (file : Option (List ℕ)) (was : Bool) (text : List ℕ) (meta : Meta) (kept : Bool) → IsTextFile file text → Tells was text meta kept → HasTextHeader file → meta.kind ≡ kind.Text
+kind_headed file false text meta kept there t h =
     let one = one_reading file text h.whole (dict t.entries) (dict h.entries) there t.header h.there h.header in
     let entries : t.entries ≡ h.entries = entries_same t.entries h.entries one.tree in
     ap (λ m. m.kind) t.meta_is ∙ same_kind t.kind kind.Text (sym t.kind_is ∙ ap kind_in entries ∙ text_kind h.entries h.not_binary)
-kind_headed file true text meta there t h = absurd (headed_or_not file h.whole text h.there there h.header.headed t.unheaded)
+kind_headed file true text meta kept there t h = absurd (headed_or_not file h.whole text h.there there h.header.headed t.unheaded)
 
-kind_legacy : (file : Option (List ℕ)) (was : Bool) (text : List ℕ) (meta : Meta) → IsTextFile file text → Tells was text meta → IsLegacyFile file → meta.kind ≡ kind.Text
-kind_legacy file false text meta there t h = absurd (headed_or_not file text h.whole there h.there t.header.headed h.unheaded)
-kind_legacy file true text meta there t h = ap (λ m. m.kind) t.meta_is
+kind_legacy : (file : Option (List ℕ)) (was : Bool) (text : List ℕ) (meta : Meta) (kept : Bool) → IsTextFile file text → Tells was text meta kept → IsLegacyFile file → meta.kind ≡ kind.Text
+kind_legacy file false text meta kept there t h = absurd (headed_or_not file text h.whole there h.there t.header.headed h.unheaded)
+kind_legacy file true text meta kept there t h = ap (λ m. m.kind) t.meta_is
 
-kind_binary : (file : Option (List ℕ)) (was : Bool) (text : List ℕ) (meta : Meta) → IsTextFile file text → Tells was text meta → HasBinaryHeader file → (x : List ℕ) × (meta.kind ≡ kind.Binary x)
-kind_binary file false text meta there t h =
+kind_binary : (file : Option (List ℕ)) (was : Bool) (text : List ℕ) (meta : Meta) (kept : Bool) → IsTextFile file text → Tells was text meta kept → HasBinaryHeader file → (x : List ℕ) × (meta.kind ≡ kind.Binary x)
+kind_binary file false text meta kept there t h =
     let one = one_reading file text h.whole (dict t.entries) (dict h.entries) there t.header h.there h.header in
     let entries : t.entries ≡ h.entries = entries_same t.entries h.entries one.tree in
     let binary : is_binary t.entries ≡ true = ap is_binary entries ∙ h.binary in
-    let found = binary_is (is_binary t.entries) (text_value (last_value (codes "extension") t.entries)) t.kind binary t.kind_is in
+    let found = binary_is (is_binary t.entries) (text_at (codes "extension") (pairs_made t.entries)) t.kind binary t.kind_is in
     (found.0, ap (λ m. m.kind) t.meta_is ∙ found.1)
-kind_binary file true text meta there t h = absurd (headed_or_not file h.whole text h.there there h.header.headed t.unheaded)
+kind_binary file true text meta kept there t h = absurd (headed_or_not file h.whole text h.there there h.header.headed t.unheaded)
 
 -- a file that was read is understood
-read_or_unread : (file : Option (List ℕ)) (was : Bool) (text : List ℕ) (meta : Meta) → IsTextFile file text → Tells was text meta → IsUnread file → ⊥
-read_or_unread file was text meta there t (inl h) = text_or_none file text h there
-read_or_unread file true text meta there t (inr (inl h)) = headed_or_not file h.whole text h.there there h.header.headed t.unheaded
-read_or_unread file true text meta there t (inr (inr h)) = headed_or_not file h.whole text h.there there h.header.headed t.unheaded
-read_or_unread file false text meta there t (inr (inl h)) =
+read_or_unread : (file : Option (List ℕ)) (was : Bool) (text : List ℕ) (meta : Meta) (kept : Bool) → IsTextFile file text → Tells was text meta kept → IsUnread file → ⊥
+read_or_unread file was text meta kept there t (inl h) = text_or_none file text h there
+read_or_unread file true text meta kept there t (inr (inl h)) = headed_or_not file h.whole text h.there there h.header.headed t.unheaded
+read_or_unread file true text meta kept there t (inr (inr h)) = headed_or_not file h.whole text h.there there h.header.headed t.unheaded
+read_or_unread file false text meta kept there t (inr (inl h)) =
     h.other t.entries (sym (one_reading file text h.whole (dict t.entries) h.tree there t.header h.there h.header).tree)
-read_or_unread file false text meta there t (inr (inr h)) =
+read_or_unread file false text meta kept there t (inr (inr h)) =
     let same : t.entries ≡ h.entries = entries_same t.entries h.entries (one_reading file text h.whole (dict t.entries) (dict h.entries) there t.header h.there h.header).tree in
     let e = sym h.lacking ∙ ap kind_in (sym same) ∙ t.kind_is in cc e
 
@@ -164,9 +166,9 @@ read_judged file w tree snapshot new passed trimmed r c =
       there = r.there;
       same = held_agrees meta.kind (body_of r.text) (text_of w tree) (contents_in snapshot) new r.contents c.printed_is c.in_file (c.tells.0 yes);
     })
-    (λ h b. agreement_passes file w tree snapshot new passed r c (kind_headed file was r.text meta r.there r.metadata h) b)
-    (λ h b. agreement_passes file w tree snapshot new passed r c (kind_legacy file was r.text meta r.there r.metadata h) b)
+    (λ h b. agreement_passes file w tree snapshot new passed r c (kind_headed file was r.text meta _ r.there r.metadata h) b)
+    (λ h b. agreement_passes file w tree snapshot new passed r c (kind_legacy file was r.text meta _ r.there r.metadata h) b)
     (λ h.
-    let found = kind_binary file was r.text meta r.there r.metadata h in
+    let found = kind_binary file was r.text meta _ r.there r.metadata h in
     false_from_ne_true passed (λ yes. no_agreement meta.kind (body_of r.text) (text_of w tree) (contents_in snapshot) new found.0 found.1 r.contents c.printed_is (c.tells.0 yes)))
-    (λ h. absurd (read_or_unread file was r.text meta r.there r.metadata h))
+    (λ h. absurd (read_or_unread file was r.text meta _ r.there r.metadata h))

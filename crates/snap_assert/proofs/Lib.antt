@@ -10,3 +10,4 @@ mod Looking
 mod Settling
 mod Answering
 mod Blocks
+mod Calls

@@ -1,7 +1,6 @@
 -- What was seen of a file, and of what is asked.
-use Rattle.snap_assert.proofs.Prelude.{◌≡◌, ℕ, Bool, true, false, List, [], ◌∷◌, Option, Some, Result, Ok, Err, refl, sym, ap, ◌∙◌, subst, inl, inr, IfOk, get, is_trimmed, text_of, Error, FailedParsingYaml, UnexpectedDataType, MissingField, FileIo, FloatText, JsonKey, NotText, NoFile, OutOfMemory, Files, Agree, raw_of, kind_of, compared_as, compared_of, TextSnapshotKind, File, normal, body_of, Meta, IsTextFile, IsReadAs, IsReadFrom, IsRefused, HoldsBody, Tells, meta_in, contents_in, legacy_in, number_text_in, text_in, IsFileText, SnapshotContents, Text, Binary, SnapshotKind, Snapshot, May, Asked, AreWarnings, PassWarns, IsHeadedFile, IsNotUnderstood, IsPrepared, IsJudged, TextsMatch, TextsDiffer, OlderAs, NoPass, RefusedEnd, IsCompared, said_if, said, NamesOnly, AssertError, Judged, Prepared, some_same}
+use Rattle.snap_assert.proofs.Prelude.{◌≡◌, ℕ, Bool, true, false, List, [], ◌∷◌, Option, Some, Result, Ok, Err, refl, sym, ap, ◌∙◌, subst, inl, inr, IfOk, get, is_trimmed, text_of, Error, FailedParsingYaml, UnexpectedDataType, MissingField, FileIo, FloatText, JsonKey, NotText, NoFile, OutOfMemory, Files, Agree, raw_of, kind_of, compared_as, compared_of, TextSnapshotKind, File, normal, body_of, Meta, IsTextFile, IsReadAs, IsReadFrom, IsRefused, HoldsBody, Tells, meta_in, contents_in, legacy_in, number_text_in, text_in, IsFileText, SnapshotContents, Text, Binary, SnapshotKind, Snapshot, May, Asked, AreWarnings, PassWarns, IsHeadedFile, IsNotUnderstood, IsPrepared, IsJudged, TextsMatch, TextsDiffer, OlderAs, NoPass, RefusedEnd, IsCompared, SpeakOfOne, said_if, said, NamesOnly, AssertError, Judged, Prepared, some_same}
 use Rattle.snap_content.specs.List.{items_of}
-use Rattle.snap_store.specs.Reading.{KeepsNumberIn}
 use Rattle.snap_store.specs.declared.metadata.SnapshotKind.TheVariants as kind
 use Rattle.snap_assert.specs.declared.error.AssertError.TheVariants as stop
 use Rattle.snap_assert.specs.declared.outcome.Warning.{Warning}
@@ -12,9 +11,9 @@ use Rattle.snap_store.proofs.Readings.{one_text}
 no_warning : (path : List ℕ) (file : Option (List ℕ)) (passed : Bool) (printed : List ℕ) (ws : List Warning) → ws ≡ [] → AreWarnings path file passed printed [] → AreWarnings path file passed printed ws
 no_warning path file passed printed ws none h = let P : List Warning → Type 0 = λ w. AreWarnings path file passed printed w in subst P (sym none) h
 
-one_warning : (path : List ℕ) (file : Option (List ℕ)) (passed : Bool) (printed : List ℕ) (ws : List Warning) (error : Error) → ws ≡ Unreadable error ∷ [] → IsNotUnderstood path file error
+one_warning : (path : List ℕ) (file : Option (List ℕ)) (passed : Bool) (printed : List ℕ) (ws : List Warning) (error : Error) → ws ≡ Unreadable error ∷ [] → passed ≡ false → IsNotUnderstood path file error
     → AreWarnings path file passed printed ws
-one_warning path file passed printed ws error one h = let P : List Warning → Type 0 = λ w. AreWarnings path file passed printed w in subst P (sym one) h
+one_warning path file passed printed ws error one none h = let P : List Warning → Type 0 = λ w. AreWarnings path file passed printed w in subst P (sym one) (none, h)
 
 -- what is compared of a file's text
 held_text : (k : TextSnapshotKind) (raw body : List ℕ) → raw ≡ body → k ≡ File → compared_as k raw ≡ body
@@ -55,19 +54,17 @@ warned_pass file snapshot new passed true printed r e agrees how = (
       (ap (λ t. normal (body_of t)) (one_text file r.text b.whole r.there b.there) ∙ b.same),
 )
 
-headed_file : (file : Option (List ℕ)) (text : List ℕ) (meta : Meta) (kept : Bool) → IsTextFile file text → Tells false text meta → KeepsNumberIn text kept → IsHeadedFile file kept
-headed_file file text meta kept there t numbers =
-    record { whole = text; there = there; entries = t.entries; header = t.header; kind = t.kind; kind_is = t.kind_is; numbers = numbers.0 t.header.headed }
+headed_file : (file : Option (List ℕ)) (text : List ℕ) (meta : Meta) (kept : Bool) → IsTextFile file text → Tells false text meta kept → IsHeadedFile file kept
+headed_file file text meta kept there t = record { whole = text; there = there; entries = t.entries; header = t.header; kind = t.kind; kind_is = t.kind_is }
 
 -- what is said of a file that was read; one without a header keeps no number as a text
-warned_file : (path : List ℕ) (file : Option (List ℕ)) (was number older passed : Bool) (text printed : List ℕ) (meta : Meta) → IsTextFile file text → Tells was text meta
-    → KeepsNumberIn text number → PassWarns file passed printed (said_if older LegacyContents) → AreWarnings path file passed printed (said was number older)
-warned_file path file true true older passed text printed meta there t kept h =
-    absurd (let clash = kept.1 t.unheaded in cc clash)
-warned_file path file true false older passed text printed meta there t kept h = (record { whole = text; there = there; unheaded = t.unheaded }, h)
-warned_file path file false true older passed text printed meta there t kept h = (headed_file file text meta true there t kept, h)
-warned_file path file false false false passed text printed meta there t kept h = inr (headed_file file text meta false there t kept, h)
-warned_file path file false false true passed text printed meta there t kept h = inr (headed_file file text meta false there t kept, h)
+warned_file : (path : List ℕ) (file : Option (List ℕ)) (was number older passed : Bool) (text printed : List ℕ) (meta : Meta) → IsTextFile file text → Tells was text meta number
+    → PassWarns file passed printed (said_if older LegacyContents) → AreWarnings path file passed printed (said was number older)
+warned_file path file true true older passed text printed meta there t h = absurd (let clash = t.none_kept in cc clash)
+warned_file path file true false older passed text printed meta there t h = (record { whole = text; there = there; unheaded = t.unheaded }, h)
+warned_file path file false true older passed text printed meta there t h = (headed_file file text meta true there t, h)
+warned_file path file false false false passed text printed meta there t h = inr (headed_file file text meta false there t, h)
+warned_file path file false false true passed text printed meta there t h = inr (headed_file file text meta false there t, h)
 
 -- a file that was read is judged by the comparison
 read_compared : (asked : Asked) (m : Files) (file : Option (List ℕ)) (snapshot : Snapshot) (new : SnapshotContents) (judged : Judged)
@@ -78,10 +75,11 @@ read_compared asked m file snapshot new judged trimmed is r printed in_file c =
     let Warned_at : Option (List ℕ) → Type 0 = λ f. AreWarnings asked.path f judged.passed (text_of asked.blocks asked.tree) (items_of judged.warnings) in
     let Warned_by : List Warning → Type 0 = λ ws. AreWarnings asked.path file judged.passed (text_of asked.blocks asked.tree) ws in
     let pass = warned_pass file snapshot new judged.passed c.older (text_of asked.blocks asked.tree) r printed (λ yes. c.tells.0 yes) c.older_is in
-    let warned = warned_file asked.path file (legacy_in snapshot) (number_text_in snapshot) c.older judged.passed r.text (text_of asked.blocks asked.tree) (meta_in snapshot) r.there r.metadata r.numbers pass in
+    let warned = warned_file asked.path file (legacy_in snapshot) (number_text_in snapshot) c.older judged.passed r.text (text_of asked.blocks asked.tree) (meta_in snapshot) r.there r.metadata pass in
     record {
       allowed = subst May_at is (read_judged file asked.blocks asked.tree snapshot new judged.passed trimmed r (record { tells = c.tells; printed_is = printed; in_file = in_file }));
       warned = subst Warned_at is (subst Warned_by (sym c.said_is) warned);
+      one = subst (λ f. SpeakOfOne asked.path f judged.passed (items_of judged.warnings)) is (record { read = Ok snapshot; end = r; says = (c.older, c.said_is) });
     }
 
 compared_with : (was number : Bool) (old new : SnapshotContents) (judged : Judged) (snapshot : Snapshot) → was ≡ legacy_in snapshot → number ≡ number_text_in snapshot
@@ -100,12 +98,17 @@ judge_read asked m prepared files snapshot was number old new judged p told r wa
     (compared_with was number old new judged snapshot was_is number_is old_is c)
 
 not_passed : (asked : Asked) (m : Files) (file : Option (List ℕ)) (judged : Judged) → file ≡ get m asked.path → judged.passed ≡ false
-    → May false file asked.blocks asked.tree → AreWarnings asked.path file judged.passed (text_of asked.blocks asked.tree) (items_of judged.warnings) → IsJudged asked m judged
-not_passed asked m file judged is none may warned =
+    → May false file asked.blocks asked.tree → AreWarnings asked.path file judged.passed (text_of asked.blocks asked.tree) (items_of judged.warnings)
+    → SpeakOfOne asked.path file judged.passed (items_of judged.warnings) → IsJudged asked m judged
+not_passed asked m file judged is none may warned one =
     let May_at : Option (List ℕ) → Type 0 = λ f. May judged.passed f asked.blocks asked.tree in
     let Warned_at : Option (List ℕ) → Type 0 = λ f. AreWarnings asked.path f judged.passed (text_of asked.blocks asked.tree) (items_of judged.warnings) in
     let Passed_at : Bool → Type 0 = λ b. May b file asked.blocks asked.tree in
-    record { allowed = subst May_at is (subst Passed_at (sym none) may); warned = subst Warned_at is warned }
+    record {
+      allowed = subst May_at is (subst Passed_at (sym none) may);
+      warned = subst Warned_at is warned;
+      one = subst (λ f. SpeakOfOne asked.path f judged.passed (items_of judged.warnings)) is one;
+    }
 
 by_error : (asked : Asked) (m : Files) (file : Option (List ℕ)) (error : Error) (result : Result Judged AssertError) → is_trimmed asked.blocks ≡ true → file ≡ get m asked.path → IsRefused asked.path file error
     → RefusedEnd error result → IfOk result (λ judged. IsJudged asked m judged)
@@ -113,20 +116,25 @@ by_error asked m file error (Err e) trimmed is h end = tt
 by_error asked m file (NoFile named) (Ok judged) trimmed is h end =
     not_passed asked m file judged is end.0 (refused_no_pass asked.path file asked.blocks asked.tree (NoFile named) trimmed h (λ n e. cc) (λ e. cc))
     (no_warning asked.path file judged.passed (text_of asked.blocks asked.tree) (items_of judged.warnings) end.1 (inl (h.1, refl)))
+    (record { read = Err (NoFile named); end = h; says = end })
 by_error asked m file (FileIo named) (Ok judged) trimmed is h end = absurd (cc end)
 by_error asked m file OutOfMemory (Ok judged) trimmed is h end = absurd (cc end)
 by_error asked m file (NotText named) (Ok judged) trimmed is h end =
     not_passed asked m file judged is end.0 (refused_no_pass asked.path file asked.blocks asked.tree (NotText named) trimmed h (λ n e. cc) (λ e. cc))
-    (one_warning asked.path file judged.passed (text_of asked.blocks asked.tree) (items_of judged.warnings) (NotText named) end.1 h)
+    (one_warning asked.path file judged.passed (text_of asked.blocks asked.tree) (items_of judged.warnings) (NotText named) end.1 end.0 h)
+    (record { read = Err (NotText named); end = h; says = end })
 by_error asked m file (FailedParsingYaml named) (Ok judged) trimmed is h end =
     not_passed asked m file judged is end.0 (refused_no_pass asked.path file asked.blocks asked.tree (FailedParsingYaml named) trimmed h (λ n e. cc) (λ e. cc))
-    (one_warning asked.path file judged.passed (text_of asked.blocks asked.tree) (items_of judged.warnings) (FailedParsingYaml named) end.1 h)
+    (one_warning asked.path file judged.passed (text_of asked.blocks asked.tree) (items_of judged.warnings) (FailedParsingYaml named) end.1 end.0 h)
+    (record { read = Err (FailedParsingYaml named); end = h; says = end })
 by_error asked m file UnexpectedDataType (Ok judged) trimmed is h end =
     not_passed asked m file judged is end.0 (refused_no_pass asked.path file asked.blocks asked.tree UnexpectedDataType trimmed h (λ n e. cc) (λ e. cc))
-    (one_warning asked.path file judged.passed (text_of asked.blocks asked.tree) (items_of judged.warnings) UnexpectedDataType end.1 h)
+    (one_warning asked.path file judged.passed (text_of asked.blocks asked.tree) (items_of judged.warnings) UnexpectedDataType end.1 end.0 h)
+    (record { read = Err UnexpectedDataType; end = h; says = end })
 by_error asked m file MissingField (Ok judged) trimmed is h end =
     not_passed asked m file judged is end.0 (refused_no_pass asked.path file asked.blocks asked.tree MissingField trimmed h (λ n e. cc) (λ e. cc))
-    (one_warning asked.path file judged.passed (text_of asked.blocks asked.tree) (items_of judged.warnings) MissingField end.1 h)
+    (one_warning asked.path file judged.passed (text_of asked.blocks asked.tree) (items_of judged.warnings) MissingField end.1 end.0 h)
+    (record { read = Err MissingField; end = h; says = end })
 by_error asked m file (FloatText named) (Ok judged) trimmed is h end = absurd h
 by_error asked m file JsonKey (Ok judged) trimmed is h end = absurd h
 

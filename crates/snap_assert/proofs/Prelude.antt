@@ -41,8 +41,8 @@ pub use Rattle.snap_text.specs.declared.contents.TextSnapshotKind.TheVariants.{F
 pub use Rattle.snap_assert.specs.Assertions.{Assertion, asked_in, Left, key_in, new_contents, goes_on, is_refused, in_block, by_blocks, assertion_step, assertion_of}
 pub use Rattle.snap_assert.specs.Judging.{BodyAgrees, HasTextHeader, HasBinaryHeader, IsLegacyFile, IsUnread, May, IsSavedFor}
 pub use Rattle.snap_assert.specs.Kept.{is_written, may_change, Keeps, IsKeptOrGone, is_none, is_waiting, NamesOnly, KeptBy, IsWrittenAlone, IsTakenAlone, IsOwn, FaultIsOwn, FaultIsAt, NamesOwn}
-pub use Rattle.snap_assert.specs.Outcomes.{IsAnswered, AreWarnings, PassWarns, IsHeadedFile, IsNotUnderstood}
-pub use Rattle.snap_assert.specs.Prepared.{IsPrepared, IsSettled, IsJudged, TextsMatch, TextsDiffer, OlderAs, NoPass, RefusedEnd, IsCompared, said_if, said}
+pub use Rattle.snap_assert.specs.Outcomes.{IsAnswered, AreWarnings, PassWarns, IsHeadedFile, IsNotUnderstood, SpeakOfOne, said_if, said}
+pub use Rattle.snap_assert.specs.Prepared.{IsPrepared, IsSettled, IsJudged, TextsMatch, TextsDiffer, OlderAs, NoPass, RefusedEnd, IsCompared}
 pub use Rattle.snap_assert.specs.Removed.{remove_each, is_among, FaultIsAmong}
 pub use Rattle.snap_assert.specs.Session.{empty_session, SessionView}
 pub use Rattle.snap_assert.specs.Steps.{Asked, verdict_of, is_failure, is_slashless, is_stray, pending_path, cleared, written, passed_files, step, stray_front, asked_path}

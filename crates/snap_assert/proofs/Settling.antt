@@ -19,7 +19,7 @@ updated asked m prepared files files' p told saved =
     ∙ ap (λ t. Some (insert m asked.path (encode_utf8_all (saved_text t (text_of asked.blocks asked.tree))))) p.metadata
     ∙ ap (λ t. Some (insert m asked.path (encode_utf8_all t))) (printed_under (without_line asked.meta) asked.blocks asked.tree (normal-printed asked.blocks asked.tree p.trimmed p.within))
 
--- and where it waits for a review with the line of its assertion
+-- and as the pending snapshot, with the line of its assertion
 pub postponed : (asked : Asked) (m : Files) (prepared : Prepared) (files files' : Option Files) → IsPrepared asked prepared → files ≡ Some m
     → ((n : Files) (raw : List ℕ) → files ≡ Some n → text_in (contents_in prepared.snapshot) ≡ Some raw → files' ≡ Some (insert n (pending_path prepared.path) (encode_utf8_all (text_under (meta_in prepared.snapshot) raw))))
     → files' ≡ Some (written NewFile asked m)
@@ -37,7 +37,7 @@ pub cleared_is : (asked : Asked) (m : Files) (strays : List (List ℕ)) (files f
     → ((n : Files) → files ≡ Some n → files' ≡ Some (remove_each strays n)) → files' ≡ Some (cleared asked.path m)
 cleared_is asked m strays files files' told s gone = gone m told ∙ ap Some (strays_gone asked.path m strays s)
 
--- the files once what waited is gone
+-- the files once the pending snapshot is gone
 pub passed_is : (asked : Asked) (m : Files) (prepared : Prepared) (files files' : Option Files) → IsPrepared asked prepared → files ≡ Some (cleared asked.path m)
     → ((n : Files) → files ≡ Some n → files' ≡ Some (remove n prepared.pending)) → files' ≡ Some (passed_files asked.path m)
 passed_is asked m prepared files files' p told removed = removed (cleared asked.path m) told ∙ ap (λ q. Some (remove (cleared asked.path m) q)) p.pending
@@ -140,9 +140,6 @@ removed_alone path files files' removed m told = kept_gone path m files' (inr (r
 
 pub gone_alone : (path : List ℕ) (files files' : Option Files) → ((m : Files) → files ≡ Some m → MayBeGone path m files') → IsTakenAlone path files files'
 gone_alone path files files' gone m told = kept_gone path m files' (gone m told)
-
-pub untaken_alone : (path : List ℕ) (files files' : Option Files) → files' ≡ files → IsTakenAlone path files files'
-untaken_alone path files files' same m told = kept_same is_none (λ q. bytes_eq q path) m files' (same ∙ told)
 
 pub own_error_at : (mode : Update) (path path' : List ℕ) (error : AssertError) → path ≡ path' → FaultIsOwn mode path error → FaultIsOwn mode path' error
 own_error_at mode path path' error is h = subst (λ q. FaultIsOwn mode q error) is h

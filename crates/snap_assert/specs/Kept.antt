@@ -3,6 +3,7 @@ use Rattle.std.specs.Prelude.{◌≡◌, ◌⊎◌, ◌||◌, ℕ, Bool, true, f
 use Rattle.std.specs.FinMap.{get}
 use Rattle.std.specs.Str.{bytes_eq}
 use Rattle.snap_io.specs.Files.{Files}
+use Rattle.snap_io.specs.Outside.{Given}
 use Rattle.snap_path.specs.Paths.{parent_of}
 use Rattle.snap_assert.specs.Steps.{is_stray, pending_path}
 use Rattle.snap_assert_settings.specs.declared.config.Update.{Update}
@@ -40,14 +41,14 @@ is_none q = false
 
 -- the file at the path alone may be written, or may be removed
 abbrev pub IsWrittenAlone : List ℕ → Option Files → Option Files → Type 0
-IsWrittenAlone path files files' = (m : Files) → files ≡ Some m → Keeps (λ q. bytes_eq q path) (λ q. bytes_eq q path) m files'
+IsWrittenAlone path files files' = Given files (λ m. Keeps (λ q. bytes_eq q path) (λ q. bytes_eq q path) m files')
 
 abbrev pub IsTakenAlone : List ℕ → Option Files → Option Files → Type 0
-IsTakenAlone path files files' = (m : Files) → files ≡ Some m → Keeps is_none (λ q. bytes_eq q path) m files'
+IsTakenAlone path files files' = Given files (λ m. Keeps is_none (λ q. bytes_eq q path) m files')
 
 -- an assertion at the path writes no file but the one of its mode, and removes none but what is pending there
 abbrev pub KeptBy : Update → List ℕ → Option Files → Option Files → Type 0
-KeptBy mode path files files' = (m : Files) → files ≡ Some m → Keeps (is_written mode path) (may_change mode path) m files'
+KeptBy mode path files files' = Given files (λ m. Keeps (is_written mode path) (may_change mode path) m files')
 
 -- the paths at which an assertion asks something of the store: that of its snapshot, its folder, and what it may change
 abbrev pub IsOwn : Update → List ℕ → List ℕ → Type 0

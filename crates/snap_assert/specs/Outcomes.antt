@@ -1,17 +1,18 @@
 -- What an assertion answers.
-use Rattle.std.specs.Prelude.{◌≡◌, ◌⊎◌, ◌&&◌, ℕ, Bool, true, false, not, List, [], ◌∷◌, Option, None, Some, Result, Ok, Err}
+use Rattle.std.specs.Prelude.{◌≡◌, ◌⊎◌, ◌&&◌, ℕ, Bool, true, false, not, List, [], ◌∷◌, ◌++◌, Option, None, Some, Result, Ok, Err}
 use Rattle.std.specs.FinMap.{get}
 use Rattle.snap_content.specs.List.{items_of}
 use Rattle.snap_content.specs.Plain.{dict, Entries}
 use Rattle.snap_content.specs.declared.error.Error.{Error}
-use Rattle.snap_content.specs.declared.error.Error.TheVariants.{FailedParsingYaml, UnexpectedDataType, MissingField, NotText}
-use Rattle.snap_emit.specs.Spelled.{KeepsNumber}
+use Rattle.snap_content.specs.declared.error.Error.TheVariants.{FailedParsingYaml, UnexpectedDataType, MissingField, NotText, NoFile}
 use Rattle.snap_io.specs.Causes.{Rose}
 use Rattle.snap_io.specs.Files.{Files}
+use Rattle.snap_io.specs.Outside.{Given, Becomes}
 use Rattle.snap_print.specs.Lines.{text_of}
 use Rattle.snap_store.specs.Fields.{kind_in}
-use Rattle.snap_store.specs.FileSplit.{header_of}
-use Rattle.snap_store.specs.Reading.{IsTextFile, ReadsHeader, IsRefused}
+use Rattle.snap_store.specs.Reading.{IsTextFile, ReadsHeader, IsRefused, FileEnd}
+use Rattle.snap_store.specs.Views.{legacy_in, number_text_in}
+use Rattle.snap_store.specs.declared.snapshot.Snapshot.{Snapshot}
 use Rattle.snap_store.specs.declared.metadata.SnapshotKind.{SnapshotKind}
 use Rattle.snap_assert.specs.Judging.{BodyMatches, IsLegacyFile, May}
 use Rattle.snap_assert.specs.Assertions.{Assertion, Left, asked_in, assertion_step}
@@ -29,10 +30,9 @@ pub record IsHeadedFile (file : Option (List ℕ)) (kept : Bool) : Type 0 where
   pub whole : List ℕ
   pub there : IsTextFile file whole
   pub entries : Entries
-  pub header : ReadsHeader whole (dict entries)
+  pub header : ReadsHeader whole (dict entries) kept
   pub kind : SnapshotKind
   pub kind_is : kind_in entries ≡ Some kind
-  pub numbers : KeepsNumber (header_of whole) kept
 
 -- a file that is there and isn't understood is refused with this error
 abbrev pub IsNotUnderstood : List ℕ → Option (List ℕ) → Error → Type 0
@@ -48,13 +48,38 @@ PassWarns file passed printed [] = passed ≡ true → BodyMatches file printed
 PassWarns file passed printed (LegacyContents ∷ []) = (passed ≡ true) × (BodyMatches file printed → ⊥)
 PassWarns file passed printed _ = ⊥
 
--- that a file isn't understood is said alone; that it is of the oldest format, or that its header keeps a number as its text,
+-- that a file isn't understood is said alone, and never of a pass; that it is of the oldest format, or that its header keeps a number as its text,
 -- is said first
 abbrev pub AreWarnings : List ℕ → Option (List ℕ) → Bool → List ℕ → List Warning → Type 0
-AreWarnings path file passed printed (Unreadable error ∷ []) = IsNotUnderstood path file error
+AreWarnings path file passed printed (Unreadable error ∷ []) = (passed ≡ false) × IsNotUnderstood path file error
 AreWarnings path file passed printed (LegacyFile ∷ more) = IsLegacyFile file × PassWarns file passed printed more
 AreWarnings path file passed printed (NumberAsText ∷ more) = IsHeadedFile file true × PassWarns file passed printed more
 AreWarnings path file passed printed warnings = ((file ≡ None) × (warnings ≡ [])) ⊎ (IsHeadedFile file false × PassWarns file passed printed warnings)
+
+abbrev pub said_if : Bool → Warning → List Warning
+said_if true warning = warning ∷ []
+said_if false warning = []
+
+-- what is said of a file of the oldest format, of a number that is kept as a text, and of a pass by the older form alone
+abbrev pub said : Bool → Bool → Bool → List Warning
+said was_legacy number_as_text older = said_if was_legacy LegacyFile ++ said_if number_as_text NumberAsText ++ said_if older LegacyContents
+
+-- what is said where the reading of a file came to this: of a snapshot how it was read, and of a file that isn't understood why, and
+-- that it is no pass; nothing of a file that isn't there
+abbrev pub SaysOf : Result Snapshot Error → Bool → List Warning → Type 0
+SaysOf (Ok snapshot) passed warnings = (older : Bool) × (warnings ≡ said (legacy_in snapshot) (number_text_in snapshot) older)
+SaysOf (Err (NoFile named)) passed warnings = (passed ≡ false) × (warnings ≡ [])
+SaysOf (Err (NotText named)) passed warnings = (passed ≡ false) × (warnings ≡ Unreadable (NotText named) ∷ [])
+SaysOf (Err (FailedParsingYaml named)) passed warnings = (passed ≡ false) × (warnings ≡ Unreadable (FailedParsingYaml named) ∷ [])
+SaysOf (Err UnexpectedDataType) passed warnings = (passed ≡ false) × (warnings ≡ Unreadable UnexpectedDataType ∷ [])
+SaysOf (Err MissingField) passed warnings = (passed ≡ false) × (warnings ≡ Unreadable MissingField ∷ [])
+SaysOf (Err error) passed warnings = ⊥
+
+-- the verdict and the warnings speak of one reading of the file
+pub record SpeakOfOne (path : List ℕ) (file : Option (List ℕ)) (passed : Bool) (warnings : List Warning) : Type 0 where
+  pub read : Result Snapshot Error
+  pub end : FileEnd path file read
+  pub says : SaysOf read passed warnings
 
 -- what the step leaves of these files and of what is remembered
 abbrev pub left_by : Config → Assertion → Bool → Files → SessionView → Left
@@ -68,10 +93,11 @@ pub record IsAnswered (config : Config) (assertion : Assertion) (outcome : Outco
   pub remembered : (m : Files) → session' ≡ (left_by config assertion passed m session).session
   pub path : outcome.path ≡ (asked_in assertion session).path
   pub fails : outcome.fails ≡ (is_failure outcome.verdict && not config.force_pass)
-  pub allowed : (m : Files) → files ≡ Some m → May passed (get m (asked_in assertion session).path) (asked_in assertion session).blocks (asked_in assertion session).tree
-  pub stands : (m : Files) → files ≡ Some m → files' ≡ Some (left_by config assertion passed m session).files
-  pub warned : (m : Files) → files ≡ Some m → AreWarnings (asked_in assertion session).path (get m (asked_in assertion session).path) passed
-      (text_of (asked_in assertion session).blocks (asked_in assertion session).tree) (items_of outcome.warnings)
+  pub allowed : Given files (λ m. May passed (get m (asked_in assertion session).path) (asked_in assertion session).blocks (asked_in assertion session).tree)
+  pub stands : Becomes files files' (λ m. (left_by config assertion passed m session).files)
+  pub warned : Given files (λ m. AreWarnings (asked_in assertion session).path (get m (asked_in assertion session).path) passed
+      (text_of (asked_in assertion session).blocks (asked_in assertion session).tree) (items_of outcome.warnings))
+  pub one : Given files (λ m. SpeakOfOne (asked_in assertion session).path (get m (asked_in assertion session).path) passed (items_of outcome.warnings))
 
 -- the only refusals while names are given and no block is open
 abbrev pub ErrorCause : ℕ → ℕ → AssertError → Type 0

@@ -1,9 +1,10 @@
 -- What is ready before anything is looked at, and what was seen.
-use Rattle.std.specs.Prelude.{◌≡◌, ◌↔◌, ℕ, Bool, true, IsTrue, List, [], ◌∷◌, ◌++◌, false, Option, Some, Result, Ok, Err}
+use Rattle.std.specs.Prelude.{◌≡◌, ◌↔◌, ℕ, Bool, true, IsTrue, List, [], ◌∷◌, false, Option, Some, Result, Ok, Err}
 use Rattle.std.specs.FinMap.{get}
 use Rattle.snap_content.specs.List.{items_of}
 use Rattle.snap_content.specs.Readable.{IsWithin}
 use Rattle.snap_io.specs.Files.{Files}
+use Rattle.snap_path.specs.Paths.{parent_of}
 use Rattle.snap_print.specs.Lines.{text_of}
 use Rattle.snap_print.specs.Printed.{is_trimmed}
 use Rattle.snap_text.specs.Normal.{normal}
@@ -15,13 +16,13 @@ use Rattle.snap_assert_settings.specs.declared.config.Config.{Config}
 use Rattle.snap_assert_place.specs.SnapshotPath.{IsFilePath}
 use Rattle.snap_assert.specs.Strays.{AreStrays}
 use Rattle.snap_assert.specs.Judging.{May}
-use Rattle.snap_assert.specs.Outcomes.{AreWarnings}
+use Rattle.snap_assert.specs.Outcomes.{AreWarnings, SpeakOfOne, said}
 use Rattle.snap_content.specs.declared.error.Error.{Error}
 use Rattle.snap_content.specs.declared.error.Error.TheVariants as refusal
 use Rattle.snap_assert.specs.declared.error.AssertError.{AssertError}
 use Rattle.snap_assert.specs.declared.error.AssertError.TheVariants.{FileIo, OutOfMemory}
 use Rattle.snap_assert.specs.declared.outcome.Warning.{Warning}
-use Rattle.snap_assert.specs.declared.outcome.Warning.TheVariants.{LegacyFile, NumberAsText, Unreadable, LegacyContents}
+use Rattle.snap_assert.specs.declared.outcome.Warning.TheVariants.{Unreadable}
 use Rattle.snap_assert.specs.declared.prepare.Prepared.{Prepared}
 use Rattle.snap_assert.specs.declared.look.Judged.{Judged}
 use Rattle.snap_assert.specs.declared.look.Seen.{Seen}
@@ -30,6 +31,7 @@ use Rattle.snap_assert.specs.declared.look.Seen.{Seen}
 pub record IsPrepared (asked : Asked) (prepared : Prepared) : Type 0 where
   pub path : prepared.path ≡ asked.path
   pub file_path : IsFilePath asked.path
+  pub folder : prepared.folder ≡ parent_of asked.path
   pub pending : prepared.pending ≡ pending_path asked.path
   pub printed : text_in (contents_in prepared.snapshot) ≡ Some (text_of asked.blocks asked.tree)
   pub in_file : IsFileText (contents_in prepared.snapshot)
@@ -43,6 +45,7 @@ pub record IsPrepared (asked : Asked) (prepared : Prepared) : Type 0 where
 pub record IsJudged (asked : Asked) (m : Files) (judged : Judged) : Type 0 where
   pub allowed : May judged.passed (get m asked.path) asked.blocks asked.tree
   pub warned : AreWarnings asked.path (get m asked.path) judged.passed (text_of asked.blocks asked.tree) (items_of judged.warnings)
+  pub one : SpeakOfOne asked.path (get m asked.path) judged.passed (items_of judged.warnings)
 
 -- what was found in the files: whether the tree passes, and the strays that are to go
 pub record IsSeen (asked : Asked) (m : Files) (seen : Seen) : Type 0 where
@@ -79,14 +82,6 @@ abbrev pub OlderAs : Bool → Bool → Option (List ℕ) → Option (List ℕ) �
 OlderAs passed true old new = (passed ≡ true) × TextsDiffer old new
 OlderAs passed false old new = passed ≡ true → TextsMatch old new
 
-abbrev pub said_if : Bool → Warning → List Warning
-said_if true warning = warning ∷ []
-said_if false warning = []
-
--- what is said of a file of the oldest format, of a number that is kept as a text, and of a pass by the older form alone
-abbrev pub said : Bool → Bool → Bool → List Warning
-said was_legacy number_as_text older = said_if was_legacy LegacyFile ++ said_if number_as_text NumberAsText ++ said_if older LegacyContents
-
 -- a pass exactly where both contents agree
 pub record IsCompared (was_legacy number_as_text : Bool) (old new : SnapshotContents) (judged : Judged) : Type 0 where
   pub tells : IsTrue judged.passed ↔ Agree old new
@@ -94,7 +89,7 @@ pub record IsCompared (was_legacy number_as_text : Bool) (old new : SnapshotCont
   pub older_is : OlderAs judged.passed older (text_in old) (text_in new)
   pub said_is : items_of judged.warnings ≡ said was_legacy number_as_text older
 
--- a missing file is no pass, a fault and want of memory are handed on, and any other refusal is a warning
+-- a missing file is no pass, a fault and out of memory are handed on, and any other refusal is a warning
 abbrev pub RefusedEnd : Error → Result Judged AssertError → Type 0
 RefusedEnd (refusal.NoFile path) result = NoPass [] result
 RefusedEnd (refusal.FileIo path) result = result ≡ Err (FileIo path)

@@ -47,7 +47,7 @@ asked_of blocks settings place name printed = asked_as blocks settings place (su
 abbrev pub asked_path : SettingsView → PlaceView → List ℕ → List ℕ
 asked_path settings place name = path_of settings place (suffixed name settings.suffix)
 
--- what is left behind by payloads that wait: the pending path, a dot, and more without a slash
+-- what is left behind by pending payloads: the pending path, a dot, and more without a slash
 abbrev pub stray_front : List ℕ → List ℕ
 stray_front path = path ++ codes ".new."
 

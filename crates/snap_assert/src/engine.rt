@@ -153,7 +153,7 @@ fn assert_named<S: Store>(
 /// Texts of several lines are printed as literal blocks where the configuration asks for it. Until full matches and automatic names
 /// are built that flag is off, and a name is given.
 /// Whatever is answered, the approved file is written in place alone, and the pending one in the mode `new` alone;
-/// what waited for a review may be gone.
+/// what was pending may be gone.
 pub fn assert_content<S: Store>(
     alloc: Global,
     session: &mut Session,

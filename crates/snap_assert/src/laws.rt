@@ -12,7 +12,7 @@ ghost use Rattle.snap_assert.specs.Steps.{pending_path};
 ghost use Rattle.snap_assert_settings.specs.declared.config.Update.{Update};
 ghost use Rattle.snap_assert_settings.specs.declared.config.Update.TheVariants.{InPlace, NewFile, NoUpdate};
 
-/// In place alone the approved file is written, and in the mode `new` alone the file that waits beside it; in no other mode
+/// In place alone the approved file is written, and in the mode `new` alone the pending file beside it; in no other mode
 /// may the approved file change.
 pub const fn only_in_place_is_the_approved_file_written()
     ensures approved { (path : List ℕ) → (may_change NewFile path path ≡ false)

@@ -1,9 +1,9 @@
 //! What stands in the store: whether the tree passes, and what is to go.
 ghost use Rattle.std.specs.Prelude.{◌≡◌, [], ◌∷◌, false, Some, IfOk};
 ghost use Rattle.snap_io.specs.Files.{Files};
-ghost use Rattle.snap_assert.specs.Outcomes.{AssertCause};
+ghost use Rattle.snap_assert.specs.Outcomes.{AssertCause, said};
 ghost use Rattle.snap_assert.specs.Steps.{Asked};
-ghost use Rattle.snap_assert.specs.Prepared.{IsPrepared, IsJudged, IsSeen, NoPass, RefusedEnd, DifferAs, OlderAs, IsCompared, said};
+ghost use Rattle.snap_assert.specs.Prepared.{IsPrepared, IsJudged, IsSeen, NoPass, RefusedEnd, DifferAs, OlderAs, IsCompared};
 ghost use Rattle.snap_assert.specs.Kept.{NamesOnly, NamesOwn};
 ghost use Rattle.snap_assert.specs.Strays.{AllStray};
 ghost use Rattle.snap_assert_settings.specs.declared.config.Update.{Update};
@@ -15,8 +15,7 @@ use crate::outcome::{Warning, Warnings};
 use crate::prepare::Prepared;
 use crate::strays::stray_paths;
 use snap_content::{Error, OutOfMemory, Text};
-use snap_io::{Store, StoreError};
-use snap_path::path_parent;
+use snap_io::Store;
 use snap_store::{Snapshot, SnapshotContents};
 use std::alloc::Global;
 
@@ -185,10 +184,6 @@ pub fn look<S: Store>(
     ensures cause { AssertCause (S.faults store.old) (S.faults store.new) result }
 {
     let judged = judge(alloc, store, prepared)?;
-    let folder = path_parent(alloc, &prepared.path)?;
-    match stray_paths(alloc, store, &folder, &prepared.path) {
-        Ok(strays) => Ok(Seen { judged, strays }),
-        Err(StoreError::Failed) => Err(AssertError::FileIo(folder)),
-        Err(StoreError::OutOfMemory) => Err(AssertError::OutOfMemory),
-    }
+    let strays = stray_paths(alloc, store, &prepared.folder, &prepared.path)?;
+    Ok(Seen { judged, strays })
 }

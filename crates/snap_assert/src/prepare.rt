@@ -17,6 +17,7 @@ use snap_assert_place::place::Place;
 use snap_assert_settings::settings::Settings;
 use snap_content::{Content, OutOfMemory, Text};
 use snap_emit::body_to_string;
+use snap_path::path_parent;
 use snap_store::{Snapshot, SnapshotContents};
 use snap_text::{TextSnapshotContents, TextSnapshotKind};
 use std::alloc::Global;
@@ -25,7 +26,9 @@ use std::alloc::Global;
 #[derive(Drop)]
 pub struct Prepared {
     pub path: Text,
-    /// Where an unapproved snapshot waits.
+    /// The folder of the path.
+    pub folder: Text,
+    /// The path of the pending snapshot.
     pub pending: Text,
     pub snapshot: Snapshot,
 }
@@ -37,9 +40,11 @@ impl Prepared {
     {
         let Prepared {
             path,
+            folder,
             pending,
             snapshot,
         } = self;
+        drop(folder);
         drop(pending);
         drop(snapshot);
         path
@@ -92,11 +97,13 @@ pub fn prepare(
         (tree printed.now)) prepared) }
 {
     let path = snapshot_path(alloc, settings, place, name)?;
+    let folder = path_parent(alloc, &path)?;
     let mut pending = path.try_clone(alloc)?;
     pending.push_ascii(alloc, ".new")?;
     let snapshot = new_snapshot(alloc, settings, place, name, printed, literal)?;
     Ok(Prepared {
         path,
+        folder,
         pending,
         snapshot,
     })

@@ -1,13 +1,14 @@
 //! Removing files one by one.
-ghost use Rattle.std.specs.Prelude.{◌≡◌, Some, OnOk};
-ghost use Rattle.snap_io.specs.Files.{Files};
+ghost use Rattle.std.specs.Prelude.{OnOk};
+ghost use Rattle.snap_io.specs.Outside.{Given, Becomes};
 ghost use Rattle.snap_assert.specs.Kept.{Keeps, is_none};
 ghost use Rattle.snap_assert.specs.Outcomes.{AssertCause};
 ghost use Rattle.snap_assert.specs.Removed.{remove_each, is_among, NamesOneOf};
 
 use crate::error::AssertError;
 use snap_content::Text;
-use snap_io::{Store, StoreError};
+use snap_io::Store;
+use snap_store::named;
 use std::alloc::Global;
 
 /// Removes each of these files. After an error some of them may be gone; no file is written, and no other is changed.
@@ -16,20 +17,15 @@ pub fn remove_files<S: Store>(
     store: &mut S,
     paths: &[Text],
 ) -> Result<(), AssertError>
-    ensures ok { OnOk result ((m : Files) → S.files store.old ≡ Some m
-        → S.files store.new ≡ Some (remove_each paths.now m)) }
-    ensures kept { (m : Files) → S.files store.old ≡ Some m
-        → Keeps is_none (is_among paths.now) m (S.files store.new) }
+    ensures ok { OnOk result (Becomes (S.files store.old) (S.files store.new)
+        (remove_each paths.now)) }
+    ensures kept { Given (S.files store.old)
+        (λ m. Keeps is_none (is_among paths.now) m (S.files store.new)) }
     ensures named { NamesOneOf paths.now result }
     ensures cause { AssertCause (S.faults store.old) (S.faults store.new) result }
 {
     for path in paths {
-        let named = path.try_clone(alloc)?;
-        match store.remove(path) {
-            Ok(_) => {}
-            Err(StoreError::Failed) => return Err(AssertError::FileIo(named)),
-            Err(StoreError::OutOfMemory) => return Err(AssertError::OutOfMemory),
-        }
+        named::remove(alloc, store, path)?;
     }
     Ok(())
 }

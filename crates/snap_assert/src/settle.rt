@@ -2,6 +2,7 @@
 ghost use Rattle.std.specs.Prelude.{◌≡◌, Some, IsSome, OnOk};
 ghost use Rattle.std.specs.FinMap.{remove};
 ghost use Rattle.snap_io.specs.Files.{Files};
+ghost use Rattle.snap_io.specs.Outside.{Becomes};
 ghost use Rattle.snap_store.specs.Views.{contents_in, text_in};
 ghost use Rattle.snap_assert.specs.Outcomes.{AssertCause};
 ghost use Rattle.snap_assert.specs.Kept.{KeptBy, IsWrittenAlone, IsTakenAlone, NamesOwn, NamesOnly};
@@ -15,23 +16,20 @@ use crate::prepare::Prepared;
 use crate::removal::remove_files;
 use snap_assert_settings::config::{Config, Update};
 use snap_content::Text;
-use snap_io::{Store, StoreError};
+use snap_io::Store;
+use snap_store::named;
 use std::alloc::Global;
 
-/// Removes what waited for the tree that now passed.
+/// Removes the pending snapshot of the tree that now passed.
 fn approve<S: Store>(alloc: Global, store: &mut S, prepared: &Prepared) -> Result<(), AssertError>
-    ensures ok { OnOk result ((m : Files) → S.files store.old ≡ Some m
-        → S.files store.new ≡ Some (remove m prepared.now.pending)) }
+    ensures ok { OnOk result (Becomes (S.files store.old) (S.files store.new)
+        (λ m. remove m prepared.now.pending)) }
     ensures kept { IsTakenAlone prepared.now.pending (S.files store.old) (S.files store.new) }
     ensures named { NamesOnly prepared.now.pending result }
     ensures cause { AssertCause (S.faults store.old) (S.faults store.new) result }
 {
-    let named = prepared.pending.try_clone(alloc)?;
-    match store.remove(&prepared.pending) {
-        Ok(_) => Ok(()),
-        Err(StoreError::Failed) => Err(AssertError::FileIo(named)),
-        Err(StoreError::OutOfMemory) => Err(AssertError::OutOfMemory),
-    }
+    named::remove(alloc, store, &prepared.pending)?;
+    Ok(())
 }
 
 /// Writes the tree as the approved one.
@@ -47,7 +45,7 @@ fn update<S: Store>(alloc: Global, store: &mut S, prepared: &Prepared) -> Result
     Ok(())
 }
 
-/// Writes the tree beside the approved one, where it waits for a review.
+/// Writes the tree beside the approved one, as the pending snapshot.
 fn postpone<S: Store>(alloc: Global, store: &mut S, prepared: &Prepared) -> Result<(), AssertError>
     requires { IsSome (text_in (contents_in prepared.now.snapshot)) }
     ensures ok { OnOk result ((asked : Asked) (m : Files) → IsPrepared asked prepared.now
@@ -82,8 +80,8 @@ fn write_by<S: Store>(
     }
 }
 
-/// Removes the stray files. On a pass what waited goes; where the tree did not pass, and on a pass that is forced,
-/// it is written as the mode says. Whatever is answered, no other file is written, and none removed that does not wait.
+/// Removes the stray files. On a pass the pending snapshot goes; where the tree did not pass, and on a pass that is forced,
+/// it is written as the mode says. Whatever is answered, no other file is written, and none removed but what is pending.
 pub fn settle<S: Store>(
     alloc: Global,
     store: &mut S,

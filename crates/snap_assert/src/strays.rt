@@ -1,19 +1,21 @@
-//! What payloads that wait leave behind: files that go with each assertion.
+//! What pending payloads leave behind: files that go with each assertion.
 ghost use Rattle.std.specs.Prelude.{◌≡◌, Some, IfOk, map};
 ghost use Rattle.std.specs.List.{filter};
 ghost use Rattle.std.specs.Str.{chars};
-ghost use Rattle.snap_io.specs.Causes.{Counted, is_failed};
+ghost use Rattle.snap_io.specs.Causes.{Counted};
 ghost use Rattle.snap_io.specs.Files.{Files};
 ghost use Rattle.snap_path.specs.Paths.{joined, parent_of};
 ghost use Rattle.snap_assert.specs.Steps.{is_stray};
 ghost use Rattle.snap_assert_place.specs.SnapshotPath.{IsFilePath};
 ghost use Rattle.snap_assert.specs.Strays.{AreStrays, AllStray};
+ghost use Rattle.snap_store.specs.Causes.{CallEnd, is_file_fault};
 
 use snap_assert_place::file_path::holds_slash;
 use snap_assert_place::front::{behind, behind_ascii};
-use snap_content::{OutOfMemory, Text};
-use snap_io::{Store, StoreError};
+use snap_content::{Error, OutOfMemory, Text};
+use snap_io::Store;
 use snap_path::{path_join, path_name};
+use snap_store::named;
 use std::alloc::Global;
 
 /// Whether a file of this name is left behind by payloads of the file that stands beside it. Such a name is longer.
@@ -57,19 +59,20 @@ pub fn stray_paths<S: Store>(
     store: &mut S,
     folder: &Text,
     path: &Text,
-) -> Result<Vec<Text>, StoreError>
+) -> Result<Vec<Text>, Error>
     ensures strays { IfOk result (λ strays. (m : Files) → IsFilePath path.now
         → folder.now ≡ parent_of path.now → S.files store.old ≡ Some m
         → AreStrays path.now m strays.items) }
     ensures all { IfOk result (λ strays. IsFilePath path.now → folder.now ≡ parent_of path.now
         → AllStray path.now strays.items) }
     ensures same { S.files store.new ≡ S.files store.old }
-    ensures cause { Counted is_failed (S.faults store.old) (S.faults store.new) result }
+    ensures error { CallEnd folder.now result }
+    ensures cause { Counted is_file_fault (S.faults store.old) (S.faults store.new) result }
 {
     let Some(file) = path_name(path) else {
         return Ok(Vec::new(alloc));
     };
-    let names = store.list(alloc, folder)?;
+    let names = named::list(alloc, store, folder)?;
     let mut strays = strays_among(alloc, folder, file, names.as_slice())?;
     strays.sort()?;
     Ok(strays)

@@ -48,14 +48,44 @@ impl Place {
         if !is_file_path(file.as_str()) {
             return Err(BadPlace);
         }
-        Ok(Place {
+        Ok(Place::of_file(
             workspace,
             function,
             module_name,
             file,
             line,
             expr,
-        })
+        ))
+    }
+
+    /// The same, where the file is known to be the path of one.
+    pub fn of_file(
+        workspace: Text,
+        function: Text,
+        module_name: Text,
+        file: Text,
+        line: u32,
+        expr: Text,
+    ) -> Place
+        requires { names_file file ≡ true }
+        ensures { place_of result
+            ≡ record {
+              workspace = workspace;
+              function = function;
+              module_name = module_name;
+              file = file;
+              line = line;
+              expr = expr;
+            } }
+    {
+        Place {
+            workspace,
+            function,
+            module_name,
+            file,
+            line,
+            expr,
+        }
     }
 
     pub fn workspace(&self) -> &Text

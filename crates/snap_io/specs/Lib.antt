@@ -9,6 +9,7 @@ pub mod Limits
 pub mod Listed
 pub mod Listing
 pub mod Operations
+pub mod Outside
 pub mod Schedules
 pub mod Streams
 pub mod Told

@@ -15,15 +15,16 @@ use Rattle.snap_assert.specs.Judging.{May}
 use Rattle.snap_assert.specs.Session.{empty_session}
 use Rattle.snap_assert.specs.Assertions.{Assertion, assertion_of, asked_in}
 use Rattle.snap_assert.specs.Outcomes.{IsAnswered, ErrorCause, left_by}
-use Rattle.snap_run_requests.specs.declared.request.RequestError.{RequestError}
-use Rattle.snap_run_requests.specs.declared.request.RequestError.TheVariants as request
+use Rattle.snap_run_requests.specs.declared.fault.RequestError.{RequestError}
+use Rattle.snap_run_requests.specs.declared.fault.RequestError.TheVariants as request
+use Rattle.snap_run_requests.specs.declared.fault.Reason.{Reason}
 use Rattle.snap_run.specs.Refused.{unread, unanswered}
 use Rattle.snap_run.specs.declared.document_error.DocumentError.TheVariants.{OutOfMemory}
 use Rattle.snap_assert.specs.declared.error.AssertError.{AssertError}
 use Rattle.snap_assert.specs.declared.error.AssertError.TheVariants as refusal
 use Rattle.snap_assert.specs.declared.outcome.Verdict.{Verdict}
 
--- memory was wanting before anything was changed
+-- memory was out before anything was changed
 pub unchanged_before : {T : Type 0} (words : RunWords) (document : List ℕ) (f : Option Files) (result : Result T DocumentError) → IsErrAnd result (λ e. e ≡ OutOfMemory)
     → IfErr result (λ e. AssertionStops words e document f f)
 unchanged_before words document f (Ok value) is = tt
@@ -109,11 +110,11 @@ line_fails words document outcome line bytes f g w v d told encoded wrote = reco
 
 -- a document that is not read
 pub unread_stops : (words : RunWords) (document : List ℕ) (f : Option Files) (refused : RequestError)
-    → (refused ≡ request.NoRequest → (r : RequestView) → Spells document r → ⊥) → AssertionStops words (unread refused) document f f
-unread_stops words document f request.NoRequest none = (refl, none refl)
+    → ((why : Reason) → refused ≡ request.NoRequest why → (r : RequestView) → Spells document r → ⊥) → AssertionStops words (unread refused) document f f
+unread_stops words document f (request.NoRequest why) none = (refl, none why refl)
 unread_stops words document f request.OutOfMemory none = inl refl
 
--- an assertion is refused because the store failed in the work on a path, or for want of memory
+-- an assertion is refused because the store failed in the work on a path, or memory was out
 only_two : (before now : ℕ) (refused : AssertError) (P : AssertError → Type 0) → ErrorCause before now refused → ((path : List ℕ) → Rose before now → P (refusal.FileIo path)) → (now ≡ before → P refusal.OutOfMemory) → P refused
 only_two before now (refusal.FileIo path) P cause file memory = file path cause
 only_two before now refusal.OutOfMemory P cause file memory = memory cause

@@ -1,20 +1,21 @@
 -- What standard error is told.
-use Rattle.snap_run.proofs.Prelude.{◌≡◌, inl, ◌≤◌, ℕ, List, [], ◌∷◌, ◌++◌, length, Option, Some, Result, Ok, Err, OnOk, OnErr, refl, sym, ◌∙◌, ap, subst, arith, encode_utf8_all, take_all, Counted, is_fault, Rose, HoldsFront, IsSteady, Status, message, IsSaid}
-use Rattle.snap_run.specs.Describe.{code_of, description}
+use Rattle.snap_run.proofs.Prelude.{true, ◌≡◌, inl, ◌≤◌, ℕ, List, [], ◌∷◌, ◌++◌, length, Option, Some, Result, Ok, Err, OnOk, OnErr, refl, sym, ◌∙◌, ap, subst, arith, encode_utf8_all, take_all, Counted, is_fault, Rose, HoldsFront, IsSteady, Status, message, IsSaid}
+use Rattle.snap_run.specs.Describe.{description}
+use Rattle.snap_run.specs.Program.{tells_document}
 use Rattle.snap_run.specs.declared.status.Status.TheVariants as status
 use Rattle.snap_io.specs.declared.outside.Fault.{Fault}
 
-pub message_is : (end : Status) → 2 ≤ code_of end → message end ≡ encode_utf8_all (description end ++ 10 ∷ [])
-message_is status.AllPassed h = absurd (omega arith)
-message_is status.SomeFailed h = absurd (omega arith)
-message_is status.BadWords h = refl
+pub message_is : (end : Status) → tells_document end ≡ true → message end ≡ encode_utf8_all (description end ++ 10 ∷ [])
+message_is status.AllPassed h = cc
+message_is status.SomeFailed h = cc
+message_is status.BadWords h = cc
 message_is (status.BadRequest n) h = refl
 message_is (status.Refused n kind) h = refl
 message_is (status.FileIo n path) h = refl
-message_is status.ReadFault h = refl
-message_is status.WriteFault h = refl
-message_is status.OutOfMemory h = refl
-message_is status.InputTooLong h = refl
+message_is status.ReadFault h = cc
+message_is status.WriteFault h = cc
+message_is status.OutOfMemory h = cc
+message_is status.InputTooLong h = cc
 
 steady_or_rose : (before now : ℕ) → IsSteady before now → Rose before now → ⊥
 steady_or_rose before now steady rose = omega (arith, steady.same, steady.below_last, rose.rose)

@@ -18,3 +18,10 @@ abbrev pub words_given : Option (List (List ℕ)) → List (List ℕ)
 words_given None = []
 words_given (Some []) = []
 words_given (Some (name ∷ words)) = words
+
+-- the texts of some words need memory; and so may the arguments themselves, where they are not given
+abbrev pub NeedsMemory : Option (List (List ℕ)) → Type 0
+NeedsMemory None = Unit {0}
+NeedsMemory (Some []) = ⊥
+NeedsMemory (Some (name ∷ [])) = ⊥
+NeedsMemory (Some (name ∷ word ∷ words)) = Unit {0}

@@ -1,12 +1,12 @@
 -- What the system sees of a run.
-use Rattle.std.specs.Prelude.{◌≡◌, ◌⊎◌, ℕ, List, [], ◌∷◌, ◌++◌, Option, None, Some, encode_utf8_all}
+use Rattle.std.specs.Prelude.{◌≡◌, ◌⊎◌, ℕ, Bool, true, false, List, [], ◌∷◌, ◌++◌, Option, None, Some, encode_utf8_all}
 use Rattle.snap_io.specs.Files.{Files}
 use Rattle.snap_io.specs.Streams.{HoldsFront}
 use Rattle.snap_run.specs.Answers.{words_mean, text_asked}
 use Rattle.snap_run.specs.Describe.{code_of, description}
 use Rattle.snap_run.specs.Status.{WordsCause, IsTold, RunsFrom, IsSteady}
 use Rattle.snap_run.specs.declared.status.Status.{Status}
-use Rattle.snap_run.specs.declared.status.Status.TheVariants.{AllPassed, SomeFailed, OutOfMemory}
+use Rattle.snap_run.specs.declared.status.Status.TheVariants.{AllPassed, SomeFailed, BadRequest, Refused, FileIo, OutOfMemory}
 
 -- what a status says to standard error: nothing where all was answered, and else a line
 abbrev pub message : Status → List ℕ
@@ -14,10 +14,18 @@ message AllPassed = []
 message SomeFailed = []
 message status = encode_utf8_all (description status ++ 10 ∷ [])
 
--- what standard error was told: the message, or nothing where there was no memory for it, or a part of its front where the sink failed
+-- whether the status tells of a document, so that its message is made in memory
+abbrev pub tells_document : Status → Bool
+tells_document (BadRequest n) = true
+tells_document (Refused n kind) = true
+tells_document (FileIo n path) = true
+tells_document _ = false
+
+-- what standard error was told: the message, or a part of its front where the sink failed; or nothing, where there was no memory for
+-- the message of a document
 pub record IsSaid (status : Status) (before now : ℕ) (written written' : Option (List ℕ)) : Type 0 where
   pub front : (w : List ℕ) → written ≡ Some w → HoldsFront (message status) w written'
-  pub whole : (w : List ℕ) → written ≡ Some w → IsSteady before now → (written' ≡ Some (w ++ message status)) ⊎ (written' ≡ Some w)
+  pub whole : (w : List ℕ) → written ≡ Some w → IsSteady before now → (written' ≡ Some (w ++ message status)) ⊎ ((tells_document status ≡ true) × (written' ≡ Some w))
 
 -- the run of these words ended with this status
 pub record IsRunOf (words : List (List ℕ)) (status : Status) (left : Option (List ℕ)) (files files' : Option Files) (written written' : Option (List ℕ)) : Type 0 where

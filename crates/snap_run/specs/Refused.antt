@@ -1,7 +1,7 @@
 -- What a refusal of a request or of an assertion is to the run, and the status that tells of it.
 use Rattle.std.specs.Prelude.{ℕ}
-use Rattle.snap_run_requests.specs.declared.request.RequestError.{RequestError}
-use Rattle.snap_run_requests.specs.declared.request.RequestError.TheVariants as request
+use Rattle.snap_run_requests.specs.declared.fault.RequestError.{RequestError}
+use Rattle.snap_run_requests.specs.declared.fault.RequestError.TheVariants as request
 use Rattle.snap_assert.specs.declared.error.AssertError.{AssertError}
 use Rattle.snap_assert.specs.declared.error.AssertError.TheVariants as refusal
 use Rattle.snap_run.specs.declared.document_error.DocumentError.{DocumentError}
@@ -10,7 +10,7 @@ use Rattle.snap_run.specs.declared.status.Status.{Status}
 use Rattle.snap_run.specs.declared.status.Status.TheVariants as status
 
 abbrev pub unread : RequestError → DocumentError
-unread request.NoRequest = NoRequest
+unread (request.NoRequest why) = NoRequest
 unread request.OutOfMemory = OutOfMemory
 
 -- while a name is given and no block is open, there are no refusals but these two

@@ -45,7 +45,7 @@ pub record LineFails (words : RunWords) (document : List ℕ) (files files' : Op
   pub stands : (m : Files) → files ≡ Some m → files' ≡ Some (step_of words answer m)
   pub line : (w : List ℕ) → written ≡ Some w → HoldsFront (line_of words answer) w written'
 
--- memory was wanting: before anything was changed, or in the work on the document's request
+-- memory was out: before anything was changed, or in the work on the document's request
 abbrev pub MemoryFails : RunWords → List ℕ → Option Files → Option Files → Type 0
 MemoryFails words document files files' = (files' ≡ files) ⊎ IsInWork words document files files'
 

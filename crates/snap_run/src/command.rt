@@ -1,8 +1,8 @@
 //! One run as the system sees it: words in, lines and a message out, an exit status.
-ghost use Rattle.std.specs.Prelude.{◌≡◌, ◌⊎◌, ◌++◌, ◌∷◌, [], IfOk};
+ghost use Rattle.std.specs.Prelude.{◌≡◌, ◌⊎◌, ◌++◌, ◌∷◌, [], true, IfOk, MatchOption};
 ghost use Rattle.snap_run.specs.Describe.{code_of, description};
 ghost use Rattle.snap_run.specs.Arguments.{arguments_of, words_given};
-ghost use Rattle.snap_run.specs.Program.{IsSaid, IsRunOf, IsNotBegun, Ends};
+ghost use Rattle.snap_run.specs.Program.{IsSaid, IsRunOf, IsNotBegun, Ends, message, tells_document};
 
 use crate::arguments::words_in;
 use crate::running::run;
@@ -23,20 +23,43 @@ fn message(alloc: Global, status: &Status) -> Result<Text, OutOfMemory>
     Ok(text)
 }
 
-/// Tells the sink of errors what a status from 2 on says, and answers the exit status.
-/// Where there is no memory for the message nothing is told, and a fault of the sink has nowhere to be told.
+/// What standard error is told of a status that tells of no document: nothing where all was answered. It needs no memory.
+fn fixed_message(status: &Status) -> Option<&'static str>
+    ensures { MatchOption result (tells_document status.now ≡ true)
+        (λ text. text.now ≡ message status.now) }
+{
+    match status {
+        Status::AllPassed | Status::SomeFailed => Some(""),
+        Status::BadWords => Some("snap: bad words\n"),
+        Status::ReadFault => Some("snap: read fault\n"),
+        Status::WriteFault => Some("snap: write fault\n"),
+        Status::OutOfMemory => Some("snap: out of memory\n"),
+        Status::InputTooLong => Some("snap: input too long\n"),
+        Status::BadRequest { .. } | Status::Refused { .. } | Status::FileIo { .. } => None,
+    }
+}
+
+/// Tells the sink of errors what a status from 2 on says.
+fn tell<E: Sink>(alloc: Global, status: &Status, errors: &mut E)
+    ensures { IsSaid status.now (E.faults errors.old) (E.faults errors.new)
+        (E.written errors.old) (E.written errors.new) }
+{
+    if let Some(text) = fixed_message(status) {
+        let _ = write_all(errors, text.as_bytes());
+    } else if let Ok(text) = message(alloc, status) {
+        let _ = write_all(errors, text.as_str().as_bytes());
+    }
+}
+
+/// Tells the sink of errors what a status from 2 on says, and returns the exit status.
+/// Nothing is told only where there is no memory for a message that tells of a document; a fault of the sink has nowhere to be told.
 pub fn conclude<E: Sink>(alloc: Global, status: &Status, errors: &mut E) -> u8
     ensures code { result ≡ code_of status.now }
     ensures said { IsSaid status.now (E.faults errors.old) (E.faults errors.new)
         (E.written errors.old) (E.written errors.new) }
 {
-    let code = status.code();
-    if code >= 2 {
-        if let Ok(text) = message(alloc, status) {
-            let _ = write_all(errors, text.as_str().as_bytes());
-        }
-    }
-    code
+    tell(alloc, status, errors);
+    status.code()
 }
 
 /// The status of the run that the arguments ask for.

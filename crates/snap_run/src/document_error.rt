@@ -3,7 +3,7 @@ use crate::status::Status;
 use snap_assert::error::AssertError;
 use snap_content::{OutOfMemory, Text};
 use snap_io::Fault;
-use snap_run_requests::request::RequestError;
+use snap_run_requests::RequestError;
 
 /// Why a document stops a run: its status, but for the document's number.
 #[derive(Debug, Drop)]
@@ -62,7 +62,7 @@ impl From<RequestError> for DocumentError {
 
     fn from(refused: RequestError) -> Self {
         match refused {
-            RequestError::NoRequest => DocumentError::NoRequest,
+            RequestError::NoRequest(_) => DocumentError::NoRequest,
             RequestError::OutOfMemory => DocumentError::OutOfMemory,
         }
     }

@@ -53,10 +53,14 @@ fn place_of_request(
         ≡ place_at runner.now.workspace module_name file line expr) }
 {
     let workspace = runner.workspace.try_clone(alloc)?;
-    match Place::new(workspace, Text::empty(), module_name, file, line, expr) {
-        Ok(place) => Ok(place),
-        Err(_) => unreachable!(),
-    }
+    Ok(Place::of_file(
+        workspace,
+        Text::empty(),
+        module_name,
+        file,
+        line,
+        expr,
+    ))
 }
 
 /// Reads one document and makes its assertion.

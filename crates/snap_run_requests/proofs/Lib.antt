@@ -1,6 +1,5 @@
 mod Prelude
 mod Cutting
-pub mod Requesting
-mod RequestMade
-mod Selected
+mod Keys
 mod RedactionsRead
+pub mod Requesting

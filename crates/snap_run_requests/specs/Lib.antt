@@ -1,4 +1,6 @@
+pub mod Keys
+pub mod Faults
 pub mod Requests
 pub mod RequestOf
+pub mod Heads
 pub mod Cut
-pub mod Refused

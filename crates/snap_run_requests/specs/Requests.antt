@@ -1,16 +1,19 @@
 -- Requests, and the documents that spell them.
-use Rattle.std.specs.Prelude.{◌≡◌, ◌+◌, nat_eq, ℕ, Bool, true, false, List, [], ◌∷◌, Option, None, Some, is_some, codes, count_by, if◌then◌else◌}
+use Rattle.std.specs.Prelude.{◌≡◌, ℕ, Bool, true, false, List, [], ◌∷◌, Option, None, Some, unwrap_or}
 use Rattle.std.specs.Str.{IsUtf8, chars}
-use Rattle.snap_content.specs.Plain.{Plain, bool, list, dict, Plains, item, no_items, Entries, entry, no_entries, content_of}
-use Rattle.snap_content.specs.Tree.{Tree}
+use Rattle.snap_content.specs.Plain.{Plain, content_of}
+use Rattle.snap_content.specs.Tree.{Tree, Trees, no_trees, tree, TreePairs, map}
+use Rattle.snap_select.specs.Grammar.{IsSelector}
 use Rattle.snap_select.specs.InOrder.{in_order}
-use Rattle.snap_select.specs.Selected.{selected}
+use Rattle.snap_select.specs.Parts.{Parts}
 use Rattle.snap_content.specs.Readable.{IsWithin}
 use Rattle.snap_emit.specs.Parsed.{MayBeReadAs}
 use Rattle.snap_emit.specs.Spelled.{IsTextOf}
-use Rattle.snap_store.specs.Fields.{last_value, text_value, line_value}
+use Rattle.snap_fields.specs.Fields.{text_at, line_at}
 use Rattle.snap_assert_place.specs.Place.{names_file}
 use Rattle.snap_assert_settings.specs.Replaced.{ReplacementView}
+use Rattle.snap_run_requests.specs.Keys.{IsKeyed, request_table, redaction_table, name_of, value_at, truth_of, list_of}
+use Rattle.snap_run_requests.specs.declared.key.Key.TheVariants.{Module, File, Line, Name, Expr, Value, Redactions, Sort, At, Put}
 
 -- a request: where it stands, its name and expression, the tree, what is redacted, and whether it is sorted
 pub record RequestView : Type 0 where
@@ -23,81 +26,68 @@ pub record RequestView : Type 0 where
   pub redactions : List ReplacementView
   pub sort : Bool
 
--- the keys of a request; all but the last two are needed
-abbrev pub request_keys : List (List ℕ)
-request_keys = codes "module" ∷ codes "file" ∷ codes "line" ∷ codes "name" ∷ codes "expr" ∷ codes "value" ∷ codes "redactions" ∷ codes "sort" ∷ []
-
-abbrev pub redaction_keys : List (List ℕ)
-redaction_keys = codes "at" ∷ codes "put" ∷ codes "sort" ∷ []
-
-abbrev pub pair_count : Entries → ℕ
-pair_count no_entries = 0
-pair_count (entry key value more) = pair_count more + 1
-
-abbrev pub holds_key : Entries → List ℕ → Bool
-holds_key entries key = is_some (last_value key entries)
-
--- as many pairs as keys of the table that are there: so each stands once, and no other key stands
-abbrev pub is_keyed : List (List ℕ) → Entries → Bool
-is_keyed keys entries = nat_eq (pair_count entries) (count_by (holds_key entries) keys)
-
--- the value of a field that is needed
-abbrev pub needed : {A B : Type 0} → Option A → (A → Option B) → Option B
-needed None made = None
-needed (Some value) made = made value
+-- what is put where `true` stands at `sort`: the value with its list in order
+abbrev pub sorted_if : Option Bool → Option (Tree → Tree)
+sorted_if (Some true) = Some in_order
+sorted_if _ = None
 
 -- what a redaction puts in place of a value: the tree at `put`, or, where `sort` is true, the value with its list in order
-abbrev pub put_from : Option Plain → Option Plain → Option (Tree → Tree)
-put_from (Some put) None = Some (λ _. content_of put)
-put_from None (Some (bool true)) = Some in_order
-put_from _ _ = None
+abbrev pub put_by : Option Tree → Option Tree → Option (Tree → Tree)
+put_by (Some put) None = Some (λ _. put)
+put_by None (Some sort) = sorted_if (truth_of sort)
+put_by _ _ = None
 
-abbrev pub redaction_from : Entries → Option ReplacementView
-redaction_from entries =
-    needed (text_value (last_value (codes "at") entries)) (λ at.
-    needed (selected at) (λ parts.
-    needed (put_from (last_value (codes "put") entries) (last_value (codes "sort") entries)) (λ put.
-    Some (record { parts = parts; put = put }))))
+-- the text at `at` is a selector of these parts
+pub record SelectsAt (pairs : TreePairs) (parts : Parts) : Type 0 where
+  pub at : List ℕ
+  pub there : text_at (name_of At) pairs ≡ Some at
+  pub selects : IsSelector at parts
 
--- the redaction that a tree is, if it is one
-abbrev pub redaction_in : Plain → Option ReplacementView
-redaction_in (dict entries) = if is_keyed redaction_keys entries then redaction_from entries else None
-redaction_in _ = None
+-- the tree is a map with the keys of a redaction: its selector, and what is put in place of what that hits
+pub record IsRedaction (t : Tree) (redaction : ReplacementView) : Type 0 where
+  pub pairs : TreePairs
+  pub is : t ≡ map pairs
+  pub keyed : IsKeyed redaction_table.keys pairs
+  pub selector : SelectsAt pairs redaction.parts
+  pub puts : put_by (value_at Put pairs) (value_at Sort pairs) ≡ Some redaction.put
 
-abbrev pub redactions_in : Plains → Option (List ReplacementView)
-redactions_in no_items = Some []
-redactions_in (item first more) = needed (redaction_in first) (λ redaction. needed (redactions_in more) (λ redactions. Some (redaction ∷ redactions)))
+-- as many redactions as trees, each one that tree's
+abbrev pub AreRedactions : Trees → List ReplacementView → Type 0
+AreRedactions no_trees [] = Unit {0}
+AreRedactions no_trees (r ∷ rs) = ⊥
+AreRedactions (tree t ts) [] = ⊥
+AreRedactions (tree t ts) (r ∷ rs) = IsRedaction t r × AreRedactions ts rs
 
--- the redactions of a request; none where the key is not there
-abbrev pub redactions_from : Option Plain → Option (List ReplacementView)
-redactions_from None = Some []
-redactions_from (Some (list items)) = redactions_in items
-redactions_from (Some _) = None
+-- what stands at `redactions` is the list of these
+pub record IsListOf (value : Tree) (redactions : List ReplacementView) : Type 0 where
+  pub items : Trees
+  pub is : list_of value ≡ Some items
+  pub each : AreRedactions items redactions
+
+-- the redactions of a request: none where the key is not there
+abbrev pub AreRedactionsAt : Option Tree → List ReplacementView → Type 0
+AreRedactionsAt None redactions = redactions ≡ []
+AreRedactionsAt (Some value) redactions = IsListOf value redactions
 
 -- whether the maps of the value are sorted: not where the key is not there
-abbrev pub sort_from : Option Plain → Option Bool
-sort_from None = Some false
-sort_from (Some (bool value)) = Some value
-sort_from (Some _) = None
+abbrev pub sorted_by : Option Tree → Option Bool
+sorted_by None = Some false
+sorted_by (Some value) = truth_of value
 
-abbrev pub request_from : Entries → Option RequestView
-request_from entries =
-    needed (text_value (last_value (codes "module") entries)) (λ name_of_module.
-    needed (text_value (last_value (codes "file") entries)) (λ file.
-    needed (line_value (last_value (codes "line") entries)) (λ line.
-    needed (text_value (last_value (codes "name") entries)) (λ name.
-    needed (text_value (last_value (codes "expr") entries)) (λ expr.
-    needed (last_value (codes "value") entries) (λ value.
-    needed (redactions_from (last_value (codes "redactions") entries)) (λ redactions.
-    needed (sort_from (last_value (codes "sort") entries)) (λ sort.
-    if names_file file
-    then Some (record { module_name = name_of_module; file = file; line = line; name = name; expr = expr; value = content_of value; redactions = redactions; sort = sort })
-    else None))))))))
-
--- the request that a tree is, if it is one
-abbrev pub request_in : Plain → Option RequestView
-request_in (dict entries) = if is_keyed request_keys entries then request_from entries else None
-request_in _ = None
+-- the tree is a map with the keys of a request, at which the request's parts stand; its file is the path of one
+pub record IsRequest (t : Tree) (request : RequestView) : Type 0 where
+  pub pairs : TreePairs
+  pub is : t ≡ map pairs
+  pub keyed : IsKeyed request_table.keys pairs
+  pub module_name : text_at (name_of Module) pairs ≡ Some request.module_name
+  pub file : text_at (name_of File) pairs ≡ Some request.file
+  pub line : line_at (name_of Line) pairs ≡ Some request.line
+  pub name : text_at (name_of Name) pairs ≡ Some request.name
+  pub expr : text_at (name_of Expr) pairs ≡ Some request.expr
+  pub value : value_at Value pairs ≡ Some request.value
+  pub redactions : AreRedactionsAt (value_at Redactions pairs) request.redactions
+  pub sort : sorted_by (value_at Sort pairs) ≡ Some request.sort
+  pub of_file : names_file request.file ≡ true
 
 -- the document is a text of a request: it is printed of its tree, or spells it
 pub record Spells (document : List ℕ) (request : RequestView) : Type 0 where
@@ -105,14 +95,14 @@ pub record Spells (document : List ℕ) (request : RequestView) : Type 0 where
   pub tree : Plain
   pub within : IsWithin tree
   pub text : IsTextOf (chars document) tree
-  pub request_is : request_in tree ≡ Some request
+  pub request_is : IsRequest (content_of tree) request
 
 -- a document may be read as a tree that is this request: where it is a text of a tree, only as that one
 pub record ReadsAs (document : List ℕ) (request : RequestView) : Type 0 where
   pub utf8 : IsUtf8 document
   pub tree : Plain
   pub read : MayBeReadAs (chars document) tree
-  pub request_is : request_in tree ≡ Some request
+  pub request_is : IsRequest (content_of tree) request
 
 -- as many requests as documents, each read of its document
 abbrev pub Reads : List (List ℕ) → List RequestView → Type 0

@@ -1,12 +1,12 @@
 //! Laws of the documents of an input, and worked examples.
-ghost use Rattle.std.specs.Prelude.{◌≡◌, ◌∷◌, ℕ, List, [], Some, codes};
+ghost use Rattle.std.specs.Prelude.{◌≡◌, ◌∷◌, ℕ, List, [], codes};
 ghost use Rattle.std.specs.List.{concat};
 ghost use Rattle.std.specs.Str.{chars};
-ghost use Rattle.snap_content.specs.Plain.{Plain};
+ghost use Rattle.snap_content.specs.Plain.{Plain, content_of};
 ghost use Rattle.snap_content.specs.Readable.{IsWithin};
 ghost use Rattle.snap_emit.specs.Spelled.{IsTextOf};
 ghost use Rattle.snap_run_requests.specs.Cut.{documents};
-ghost use Rattle.snap_run_requests.specs.Requests.{RequestView, Spells, ReadsAs, request_in};
+ghost use Rattle.snap_run_requests.specs.Requests.{RequestView, IsRequest, Spells, ReadsAs};
 
 /// The documents of an input, one behind the other, are the input.
 pub const fn cut_loses_nothing()
@@ -20,7 +20,7 @@ pub const fn a_document_is_read_as_it_is_spelled()
     ensures only { (document : List ℕ) (r other : RequestView) → Spells document r
         → ReadsAs document other → other ≡ r }
     ensures text { (document : List ℕ) (r : RequestView) (t : Plain) → ReadsAs document r
-        → IsWithin t → IsTextOf (chars document) t → request_in t ≡ Some r }
+        → IsWithin t → IsTextOf (chars document) t → IsRequest (content_of t) r }
 {}
 
 /// Documents at concrete values.

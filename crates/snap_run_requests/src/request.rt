@@ -1,20 +1,25 @@
 //! A request: what a document of a stream asks for.
-ghost use Rattle.std.specs.Prelude.{◌≡◌, List, ℕ, IfOk, IsErrOf, IsTrue, option_map, codes, count_by, ◌≤◌, if◌then◌else◌};
+ghost use Rattle.std.specs.Prelude.{◌≡◌, List, ℕ, Some, option_map, IfOk, IfErr, IsErrOf, MatchResult, true};
 ghost use Rattle.std.specs.Str.{chars};
-ghost use Rattle.std.specs.Char.{is_ascii};
-ghost use Rattle.std.specs.List.{list_all};
-ghost use Rattle.snap_content.specs.Plain.{Plain, dict, Entries, content_of, pairs_made};
+ghost use Rattle.snap_content.specs.Tree.{TreePairs, map};
 ghost use Rattle.snap_content.specs.View.{tree, pair_trees};
-ghost use Rattle.snap_store.specs.Fields.{last_value};
-ghost use Rattle.snap_run_requests.specs.Requests.{RequestView, Spells, ReadsAs, is_keyed, holds_key, request_keys, request_in, sort_from};
+ghost use Rattle.snap_fields.specs.Fields.{text_at};
+ghost use Rattle.snap_assert_place.specs.Place.{names_file};
+ghost use Rattle.snap_run_requests.specs.Keys.{name_of, value_at};
+ghost use Rattle.snap_run_requests.specs.Faults.{IsTreeFault, IsTreeEnd, IsRefused};
+ghost use Rattle.snap_run_requests.specs.Requests.{RequestView, IsRequest, Spells, ReadsAs};
 ghost use Rattle.snap_run_requests.specs.RequestOf.{request_of};
+ghost use Rattle.snap_run_requests.specs.Heads.{IsTold, IsHead};
 
+use crate::fault::{KeyFault, Reason, RequestError};
+use crate::key::Key;
+use crate::pairs::{keys_fault, line_at, sort_at, text_at};
 use crate::redaction_items::redactions_of_pairs;
 use snap_assert_place::file_path::is_file_path;
 use snap_assert_settings::redactions::Replacements;
-use snap_content::{Content, Error, OutOfMemory, Text};
-use snap_emit::yaml;
-use snap_store::fields::{line_named, text_named, value_named, value_taken};
+use snap_content::{Content, Text};
+use snap_emit::read_text;
+use snap_fields::fields::value_taken;
 use std::alloc::Global;
 
 /// A tree that is to be asserted, with its name and its place.
@@ -31,83 +36,112 @@ pub struct Request {
     pub sort: bool,
 }
 
-/// Why a document is not read.
-#[derive(Clone, Copy, Debug, PartialEq, Eq)]
-pub enum RequestError {
-    NoRequest,
-    OutOfMemory,
+/// What the pairs of a request tell but its value and its redactions, lent.
+#[derive(Clone, Copy, Debug)]
+struct Told<'a> {
+    module_name: &'a str,
+    file: &'a str,
+    line: u32,
+    name: &'a str,
+    expr: &'a str,
+    sort: bool,
 }
 
-impl From<OutOfMemory> for RequestError {
-    ghost use Rattle.std.specs.Prelude.{◌≡◌};
-    ghost use Rattle.snap_run_requests.specs.declared.request.RequestError.TheVariants.{OutOfMemory};
-
-    ghost from_gives = { λ _ e. e ≡ OutOfMemory };
-
-    fn from(_error: OutOfMemory) -> RequestError {
-        RequestError::OutOfMemory
-    }
+/// A request but its value.
+#[derive(Drop)]
+struct Head {
+    module_name: Text,
+    file: Text,
+    line: u32,
+    name: Text,
+    expr: Text,
+    redactions: Replacements,
+    sort: bool,
 }
 
-/// What the reader's error means for a document. Want of memory is never taken for a text that is no request.
-impl From<Error> for RequestError {
-    ghost use Rattle.std.specs.Prelude.{◌≡◌};
-    ghost use Rattle.snap_run_requests.specs.Refused.{refusal_of};
-
-    ghost from_gives = { λ error e. e ≡ refusal_of error };
-
-    fn from(error: Error) -> RequestError {
-        match error {
-            Error::OutOfMemory => RequestError::OutOfMemory,
-            _ => RequestError::NoRequest,
-        }
-    }
-}
-
-/// The request that a map of these pairs is, if it is one. Its value is taken out of the pairs.
-fn request_of_pairs(
-    alloc: Global,
-    pairs: Vec<(Content, Content)>,
-) -> Result<Option<Request>, OutOfMemory>
-    ensures { (entries : Entries) → pair_trees pairs.items ≡ pairs_made entries
-        → IfOk result (λ found. option_map request_of found ≡ request_in (dict entries)) }
+/// The path at `file`, which is that of a file.
+fn file_at<'a>(pairs: &'a [(Content, Content)]) -> Result<&'a str, Reason>
+    ensures { MatchResult result
+        (λ file. (text_at (name_of Key.File) (pair_trees pairs.now) ≡ Some (chars file.now))
+        × (names_file (chars file.now) ≡ true))
+        (λ why. IsTreeFault (map (pair_trees pairs.now)) why) }
 {
-    let held = pairs.as_slice();
-    if !are_keyed(held) {
-        return Ok(None);
+    let file = text_at(pairs, Key::File)?;
+    if is_file_path(file) {
+        Ok(file)
+    } else {
+        Err(Reason::NoFile)
     }
-    let Some(module_name) = text_named(held, "module") else {
-        return Ok(None);
-    };
-    let Some(file) = text_named(held, "file") else {
-        return Ok(None);
-    };
-    let Some(line) = line_named(held, "line") else {
-        return Ok(None);
-    };
-    let Some(name) = text_named(held, "name") else {
-        return Ok(None);
-    };
-    let Some(expr) = text_named(held, "expr") else {
-        return Ok(None);
-    };
-    if !is_file_path(file) {
-        return Ok(None);
+}
+
+/// What the pairs of a request tell but its value and its redactions, or what is wrong with them.
+fn told_in<'a>(pairs: &'a [(Content, Content)]) -> Result<Told<'a>, Reason>
+    ensures { MatchResult result (λ told. IsTold (pair_trees pairs.now) told)
+        (λ why. IsTreeFault (map (pair_trees pairs.now)) why) }
+{
+    if let Some(fault) = keys_fault(pairs, &Key::OF_REQUEST) {
+        return Err(Reason::Key(fault));
     }
-    let Some(sort) = sort_of_pairs(held) else {
-        return Ok(None);
+    let module_name = text_at(pairs, Key::Module)?;
+    let file = file_at(pairs)?;
+    let line = line_at(pairs)?;
+    let name = text_at(pairs, Key::Name)?;
+    let expr = text_at(pairs, Key::Expr)?;
+    let sort = sort_at(pairs)?;
+    Ok(Told {
+        module_name,
+        file,
+        line,
+        name,
+        expr,
+        sort,
+    })
+}
+
+/// The request that the pairs tell but for its value.
+fn head_of_pairs(alloc: Global, pairs: &[(Content, Content)]) -> Result<Head, RequestError>
+    ensures { MatchResult result (λ head. IsHead (pair_trees pairs.now) head)
+        (λ error. IsTreeEnd (map (pair_trees pairs.now)) error) }
+{
+    let told = told_in(pairs)?;
+    let module_name = Text::from_str(alloc, told.module_name)?;
+    let file = Text::from_str(alloc, told.file)?;
+    let name = Text::from_str(alloc, told.name)?;
+    let expr = Text::from_str(alloc, told.expr)?;
+    let redactions = redactions_of_pairs(alloc, pairs)?;
+    Ok(Head {
+        module_name,
+        file,
+        line: told.line,
+        name,
+        expr,
+        redactions,
+        sort: told.sort,
+    })
+}
+
+/// The request with this value, where there is one.
+fn with_value(head: Head, value: Option<Content>) -> Result<Request, RequestError>
+    ensures { (pairs : TreePairs) → IsHead pairs head → option_map tree value ≡ value_at Key.Value pairs
+        → MatchResult result (λ request. IsRequest (map pairs) (request_of request))
+        (λ error. IsTreeEnd (map pairs) error) }
+{
+    let Some(value) = value else {
+        drop(head);
+        return Err(RequestError::NoRequest(Reason::Key(KeyFault::Missing(
+            Key::Value,
+        ))));
     };
-    let Some(redactions) = redactions_of_pairs(alloc, held)? else {
-        return Ok(None);
-    };
-    let module_name = Text::from_str(alloc, module_name)?;
-    let file = Text::from_str(alloc, file)?;
-    let name = Text::from_str(alloc, name)?;
-    let expr = Text::from_str(alloc, expr)?;
-    let Some(value) = value_taken(pairs, "value") else {
-        return Ok(None);
-    };
-    Ok(Some(Request {
+    let Head {
+        module_name,
+        file,
+        line,
+        name,
+        expr,
+        redactions,
+        sort,
+    } = head;
+    Ok(Request {
         module_name,
         file,
         line,
@@ -116,83 +150,64 @@ fn request_of_pairs(
         value,
         redactions,
         sort,
-    }))
+    })
 }
 
-/// Whether the pairs of a request say that maps are sorted; none where what stands there is no truth value.
-fn sort_of_pairs(pairs: &[(Content, Content)]) -> Option<bool>
-    ensures { (entries : Entries) → pair_trees pairs.now ≡ pairs_made entries
-        → result ≡ sort_from (last_value (codes "sort") entries) }
+/// The request that a map of these pairs is. Its value is taken out of the pairs.
+fn request_of_pairs(
+    alloc: Global,
+    pairs: Vec<(Content, Content)>,
+) -> Result<Request, RequestError>
+    ensures { MatchResult result
+        (λ request. IsRequest (map (pair_trees pairs.items)) (request_of request))
+        (λ error. IsTreeEnd (map (pair_trees pairs.items)) error) }
 {
-    match value_named(pairs, "sort") {
-        None => Some(false),
-        Some(Content::Bool(value)) => Some(*value),
-        Some(_) => None,
+    match head_of_pairs(alloc, pairs.as_slice()) {
+        Ok(head) => with_value(head, value_taken(pairs, Key::Value.name())),
+        Err(error) => {
+            drop(pairs);
+            Err(error)
+        }
     }
 }
 
-/// One where the key is among the pairs, else none.
-pub(crate) fn count_of_key(pairs: &[(Content, Content)], name: &str) -> usize
-    requires { IsTrue (list_all is_ascii name.now) }
-    ensures count { (entries : Entries) → pair_trees pairs.now ≡ pairs_made entries
-        → result ≡ (if holds_key entries name.now then 1 else 0) }
-    ensures small { result ≤ 1 }
-{
-    match value_named(pairs, name) {
-        Some(_) => 1,
-        None => 0,
-    }
-}
-
-/// How many keys of a request are among the pairs.
-fn held_keys(pairs: &[(Content, Content)]) -> usize
-    ensures { (entries : Entries) → pair_trees pairs.now ≡ pairs_made entries
-        → result ≡ count_by (holds_key entries) request_keys }
-{
-    let place = count_of_key(pairs, "module")
-        + count_of_key(pairs, "file")
-        + count_of_key(pairs, "line");
-    let tree = count_of_key(pairs, "name")
-        + count_of_key(pairs, "expr")
-        + count_of_key(pairs, "value");
-    place + tree + count_of_key(pairs, "redactions") + count_of_key(pairs, "sort")
-}
-
-/// Whether there are as many pairs as keys of a request among them.
-fn are_keyed(pairs: &[(Content, Content)]) -> bool
-    ensures { (entries : Entries) → pair_trees pairs.now ≡ pairs_made entries
-        → result ≡ is_keyed request_keys entries }
-{
-    pairs.len() == held_keys(pairs)
-}
-
-/// The request that a tree is, where a reader made it.
-fn request_of_content(alloc: Global, content: Content) -> Result<Option<Request>, OutOfMemory>
-    ensures { (plain : Plain) → tree content ≡ content_of plain
-        → IfOk result (λ found. option_map request_of found ≡ request_in plain) }
+/// The request that a tree is.
+fn request_of_content(alloc: Global, content: Content) -> Result<Request, RequestError>
+    ensures { MatchResult result (λ request. IsRequest (tree content) (request_of request))
+        (λ error. IsTreeEnd (tree content) error) }
 {
     match content {
         Content::Map(pairs) => request_of_pairs(alloc, pairs.into_vec()),
         other => {
             drop(other);
-            Ok(None)
+            Err(RequestError::NoRequest(Reason::NoMap))
         }
     }
 }
 
+/// The request that a text is read as.
+fn request_of_text(alloc: Global, text: &str) -> Result<Request, RequestError>
+    ensures { MatchResult result (λ request. ReadsAs text.now (request_of request))
+        (λ error. IsRefused text.now error) }
+{
+    match read_text(alloc, text)? {
+        Ok(content) => request_of_content(alloc, content),
+        Err(refusal) => Err(RequestError::NoRequest(Reason::NoTree(refusal))),
+    }
+}
+
 /// Reads a document. One that is printed of a request, or spells it in the free layout, is never refused, and it is read as that
-/// request.
+/// request. Any other is refused for a reason that holds of it; out of memory comes only where the document is a text.
 pub fn read_request(alloc: Global, document: &[u8]) -> Result<Request, RequestError>
     ensures ok { IfOk result (λ request. ReadsAs document.now (request_of request)) }
-    ensures refused { IsErrOf result RequestError.NoRequest → (r : RequestView)
-        → Spells document.now r → ⊥ }
+    ensures cause { IfErr result (λ error. IsRefused document.now error) }
+    ensures refused { (why : Reason) → IsErrOf result (RequestError.NoRequest why)
+        → (r : RequestView) → Spells document.now r → ⊥ }
 {
-    let Ok(text) = str::from_utf8(document) else {
-        return Err(RequestError::NoRequest);
-    };
-    let content = yaml::parse_str(alloc, text, &Text::empty())?;
-    match request_of_content(alloc, content)? {
-        Some(request) => Ok(request),
-        None => Err(RequestError::NoRequest),
+    match str::from_utf8(document) {
+        Ok(text) => request_of_text(alloc, text),
+        Err(error) => Err(RequestError::NoRequest(Reason::NotUtf8 {
+            place: error.valid_up_to(),
+        })),
     }
 }

@@ -1,4 +1,4 @@
-use Rattle.snap_assert.proofs.Prelude.{◌∙◌, ◌++◌, ap, codes, settings_of, place_of}
+use Rattle.snap_assert.proofs.Prelude.{◌∙◌, ◌++◌, ap, codes, parent_of, settings_of, place_of}
 use Rattle.snap_assert_place.proofs.FilePaths.{path_of-file}
 use Rattle.snap_assert.proofs.Below.{trimmed-if}
 use Rattle.snap_assert.proofs.prepare.prepare.Goals as goal
@@ -7,6 +7,7 @@ pub returns : goal.returns
 returns g c = record {
   path = c.in_ok-path.ensures;
   file_path = path_of-file (settings_of c.args.settings.now) (place_of c.args.place.now) c.args.name.now;
+  folder = c.in_ok-folder.ensures ∙ ap parent_of c.in_ok-path.ensures;
   pending = c.in_ok-push_ascii.ensures.ok ∙ ap (λ t. t ++ codes ".new") (c.in_ok-pending.ensures ∙ c.in_ok-path.ensures);
   printed = c.in_ok-snapshot.ensures.printed;
   in_file = c.in_ok-snapshot.ensures.in_file;

@@ -1,6 +1,5 @@
 use Rattle.snap_run.proofs.Prelude.{refl, ap, ◌∙◌, Err, words_of}
 use Rattle.std.proofs.lemmas.Result.{err_from_is_err_and}
-use Rattle.snap_run_requests.proofs.Requesting.{file_named}
 use Rattle.snap_run.proofs.DocumentEnds.{path_is, printed_is, assertion_is, document_answered, unread_stops, refused_stops, refused_count}
 use Rattle.snap_run_requests.specs.RequestOf.{request_of}
 use Rattle.snap_run.proofs.documents.assert_document.Goals as goal
@@ -8,11 +7,11 @@ use Rattle.snap_run.proofs.documents.assert_document.Goals as goal
 pub returns-in_err-request-clause-err : goal.returns-in_err-request-clause-err
 returns-in_err-request-clause-err g c =
     let told = err_from_is_err_and c.from_residual.result c.from_residual.ensures.1 in
-    rw (told.1, told.2) (unread_stops (words_of c.args.runner.now) c.args.document.now _ c.in_err-request.field-0.0 (λ is.
-    c.read_request.ensures.refused (c.in_err-request.was ∙ ap Err is)))
+    rw (told.1, told.2) (unread_stops (words_of c.args.runner.now) c.args.document.now _ c.in_err-request.field-0.0 (λ why is.
+    c.read_request.ensures.refused why (c.in_err-request.was ∙ ap Err is)))
 
 pub place_of_request-requires : goal.place_of_request-requires
-place_of_request-requires g c = file_named c.in_ok-request.ensures.ok.tree _ c.in_ok-request.ensures.ok.request_is
+place_of_request-requires g c = c.in_ok-request.ensures.ok.request_is.of_file
 
 pub returns-clause-ok : goal.returns-clause-ok
 returns-clause-ok g c =

@@ -1,11 +1,14 @@
-use Rattle.snap_run_requests.proofs.Prelude.{Some, ap, ◌∙◌}
-use Rattle.snap_content.specs.Tree.{Tree}
-use Rattle.snap_select.specs.Replacements.{put_of}
-use Rattle.snap_run_requests.proofs.RedactionsRead.{put_made}
+use Rattle.snap_run_requests.proofs.Prelude.{refl, ap, sym, ◌∙◌, is_some, option_map, tree, pair_trees, last_in}
 use Rattle.snap_run_requests.proofs.redaction_items.read_put.Goals as goal
 
-pub returns-in_ok-try_clone-in-Some-None : goal.returns-in_ok-try_clone-in-Some-None
-returns-in_ok-try_clone-in-Some-None c = λ entries made.
-    let always : Tree → Tree → Tree = λ tree _. tree in
-    ap Some (ap put_of c.from_content.ensures ∙ ap always c.in_ok-try_clone-in-Some-None.ensures)
-    ∙ put_made _ _ _ (c.in-Some-None.ensures entries made) (c.in-Some-None.ensures' entries made)
+pub returns-in-None : goal.returns-in-None
+returns-in-None c = record {
+  pairs = _;
+  is = refl;
+  holds = record {
+    value = tree c.in-None-Some.sort.now;
+    there = sym (ap (option_map (λ value. tree value.now)) (sym c.in-None-Some.is-1) ∙ c.value_named-sort.ensures.tree
+        ∙ ap (λ name. last_in name (pair_trees c.args.pairs.now)) c.name-2.ensures.name);
+    wrong = ap is_some (sym c.in-None.ensures);
+  };
+}

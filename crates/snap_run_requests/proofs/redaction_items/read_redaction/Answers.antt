@@ -1,8 +1,11 @@
-use Rattle.snap_run_requests.proofs.Prelude.{ap, sym, subst, ◌≡◌, ◌∙◌, IfOk, option_map, Plain, pair_trees, replacement_of, redaction_in, dict_of}
+use Rattle.snap_run_requests.proofs.Prelude.{◌≡◌, ap, sym, subst, ◌∙◌, tree, pair_trees, replacement_of, IsRedaction, IsRedactionEnd}
+use Rattle.std.specs.Result.{MatchResult}
+use Rattle.snap_content.proofs.Views.{tree-Map}
+use Rattle.snap_content.specs.Tree.{map}
 use Rattle.snap_run_requests.proofs.redaction_items.read_redaction.Goals as goal
 
 pub returns-in-Map : goal.returns-in-Map
-returns-in-Map c = λ plain made.
-    let dict = dict_of _ c.in-Map.pairs plain c.in-Map.is made in
-    let found = c.redaction_of_pairs.ensures dict.held (ap pair_trees c.as_slice.ensures ∙ dict.made) in
-    subst (λ (p : Plain). IfOk c.redaction_of_pairs.result (λ found. option_map replacement_of found ≡ redaction_in p)) (sym dict.is) found
+returns-in-Map c =
+    let is : tree c.args.content.now ≡ map (pair_trees c.as_slice.result.now) =
+    ap tree c.in-Map.is ∙ tree-Map _ ∙ ap (λ ps. map (pair_trees ps)) (sym c.as_slice.ensures) in
+    subst (λ t. MatchResult c.redaction_of_pairs.result (λ r. IsRedaction t (replacement_of r)) (λ stop. IsRedactionEnd t stop)) (sym is) c.redaction_of_pairs.ensures
