@@ -1,7 +1,6 @@
 -- What the bytes of a text tell of its characters.
-use Rattle.snap_emit_values.proofs.Prelude.{◌≡◌, ◌==◌, ℕ, zero, suc, ◌<◌, ◌≤◌, List, [], ◌∷◌, Bool, true, false, not, ◌||◌, ◌&&◌, Option, None, Some, length, get_or, refl, sym, ap, ◌∙◌, arith, nat_le, or_from, nat_tests, IsTrue, codes, is_ascii, list_any, list_all, chars, IsUtf8, is_special}
+use Rattle.snap_emit_values.proofs.Prelude.{◌≡◌, ◌==◌, ℕ, ◌≤◌, List, [], ◌∷◌, Bool, true, false, not, ◌||◌, ◌&&◌, Option, refl, sym, ap, ◌∙◌, arith, nat_le, or_from, nat_tests, IsTrue, codes, is_ascii, list_any, list_all, chars, IsUtf8, is_special}
 use Rattle.std.proofs.Common.{is_some}
-use Rattle.std.proofs.lemmas.Bool.{or_left, or_right, false_from_ne_true}
 use Rattle.memchr.specs.Find.{IsFirstByte, is_byte, is_byte2}
 use Rattle.snap_str.proofs.AsciiBytes.{any_of_bytes, found}
 use Rattle.snap_print.specs.Blocks.{is_unheld}

@@ -172,6 +172,7 @@ block-keyed k w key x =
 -- a block is flat: its sign stands behind the colon
 block-flat : (w : Blocks) (v : s.Shape) (x : List ℕ) → s.block_in w v ≡ Some x → s.is_flat v ≡ true
 block-flat w (s.scalar y) x e = refl
+block-flat w (s.number z) x e = refl
 block-flat w (s.text y) x e = refl
 block-flat w (s.list ts) x e = absurd (cc)
 block-flat w (s.dict ps) x e = absurd (cc)
@@ -236,6 +237,7 @@ laid-line k line = record { first = line; rest = []; is = refl; text = sym (appe
 
 flat-text : (v : s.Shape) (k : ℕ) (w : Blocks) → SpelledBy (s.is_flat v) (s.spelled v) (text_at k w v)
 flat-text (s.scalar x) k w = refl
+flat-text (s.number z) k w = refl
 flat-text (s.text x) k w = refl
 flat-text (s.list s.no_shapes) k w = refl
 flat-text (s.list (s.shape t ts)) k w = tt
@@ -253,6 +255,7 @@ one-line k w t flat is = record { laid = rw is (laid-line k (text_at k w t)); fi
 mutual
   shape-laid : (t : s.Shape) (k : ℕ) (w : Blocks) → IsLaid k w t
   shape-laid (s.scalar x) k w = record { laid = laid-line k x; filled = tt }
+  shape-laid (s.number z) k w = record { laid = laid-line k _; filled = tt }
   shape-laid (s.text x) k w = record { laid = laid-line k _; filled = tt }
   shape-laid (s.list s.no_shapes) k w = record { laid = laid-line k (codes "[]"); filled = tt }
   shape-laid (s.list (s.shape t ts)) k w =

@@ -13,6 +13,7 @@ pub use Rattle.std.specs.Str.{bytes_eq, chars, IsUtf8}
 pub use denote.Shadow.{shadow}
 pub use denote.Text.{Utf8}
 pub use lib.Utf8.{encodes}
+unfoldable pub use lib.Utf8.{encode}
 pub use Rattle.snap_content.proofs.Ascii.{IsAscii-list_all, list_all-IsAscii}
 pub use Rattle.snap_content.specs.Lines.{ended}
 pub use Rattle.snap_content.specs.Plain.{Plain, plain}
@@ -28,6 +29,7 @@ pub use Rattle.snap_emit_values.specs.Bare.{IsBareBefore}
 pub use Rattle.snap_emit_values.specs.Columns.{IsBegun, blanks, break_at, mark_text, line_ends, shifted, block_text, child_text, text_at, items_at, pairs_at, gap}
 pub use Rattle.snap_emit_values.specs.Document.{dumped, body, document}
 pub use Rattle.snap_emit_values.specs.Emitted.{child_of, text_of_child, item_of, on_lines, list_text, pair_of, dict_text, key_of}
-pub use Rattle.snap_emit_values.specs.FromContent.{content_shape, pair_shape, field_shape, byte_shape, IsContentWithin, IsPairWithin, IsFieldWithin, IsByteWithin}
+pub use Rattle.snap_emit_values.specs.FromContent.{content_shape, pair_shape, field_shape, byte_shape, IsContentWithin, IsPairWithin, IsShapeWithin}
+pub use Rattle.snap_emit_values.specs.Nodes.{item_shapes, entry_shapes, node_shape, node_pair}
 pub use Rattle.snap_emit_values.specs.Places.{place}
-pub use Rattle.snap_emit_values.specs.Shape.{plain_shape, shape_of, pair_shapes, is_simple, is_flat, spelled}
+pub use Rattle.snap_emit_values.specs.Shape.{Shape, plain_shape, shape_of, pair_shapes, is_simple, is_flat, spelled}

@@ -1,6 +1,7 @@
 -- The text of a shape at a column: its first line where one stands, each further line behind as many blanks, an empty one behind none.
 -- The end of the last line is left out.
 use Rattle.std.specs.Prelude.{◌≡◌, ℕ, ◌+◌, zero, suc, List, [], ◌∷◌, ◌++◌, ◌==◌, Bool, if◌then◌else◌, codes, Option, None, Some}
+use Rattle.std.specs.Fmt.{signed_decimal}
 use Rattle.snap_content.specs.Spell.{spell_text}
 use Rattle.snap_print.specs.Blocks.{Blocks, before_more, is_inside, core, kept_ends, block_sign, empty_lines}
 use Rattle.snap_emit_values.specs.Shape as s
@@ -51,6 +52,7 @@ pair_text k w key value text value_text = key_text k key (s.is_flat value) text 
 abbrev mutual
   pub text_at : ℕ → Blocks → s.Shape → List ℕ
   text_at k w (s.scalar s) = s
+  text_at k w (s.number z) = signed_decimal z
   text_at k w (s.text s) = spell_text s
   text_at k w (s.list s.no_shapes) = codes "[]"
   text_at k w (s.list (s.shape t ts)) =

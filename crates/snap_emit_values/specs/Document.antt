@@ -3,7 +3,7 @@ use Rattle.std.specs.Prelude.{ℕ, List, [], ◌∷◌, ◌++◌, Bool, true, fa
 use Rattle.std.specs.List.{flat_map}
 use Rattle.snap_content.specs.Lines.{ended}
 use Rattle.snap_print.specs.Blocks.{Blocks}
-use Rattle.snap_emit_values.specs.Shape.{Shape, scalar, text, list, dict, Shapes, no_shapes, shape, ShapePairs, no_pairs, pair, block_in, lines}
+use Rattle.snap_emit_values.specs.Shape.{Shape, scalar, number, text, list, dict, Shapes, no_shapes, shape, ShapePairs, no_pairs, pair, block_in, lines}
 
 -- lines with a line's end between each two
 abbrev pub joined : List (List ℕ) → List ℕ
@@ -19,6 +19,7 @@ ends_child (Some s) below = true
 abbrev mutual
   pub ends_in_block : Blocks → Shape → Bool
   ends_in_block w (scalar s) = false
+  ends_in_block w (number z) = false
   ends_in_block w (text s) = false
   ends_in_block w (list ts) = items_end w ts
   ends_in_block w (dict ps) = pairs_end w ps

@@ -6,4 +6,5 @@ pub mod Document
 pub mod Bare
 pub mod Emitter
 pub mod FromContent
+pub mod Nodes
 pub mod Words

@@ -1,6 +1,6 @@
--- What is printed of a tree: scalars as they are spelled, texts, lists and dicts; and its lines. A text is kept as it is, since where it
--- stands says whether it is a literal block.
-use Rattle.std.specs.Prelude.{ℕ, List, [], ◌∷◌, ◌++◌, Bool, true, false, nat_le, if◌then◌else◌, length, map, codes, Option, None, Some}
+-- What is printed of a tree: scalars as they are spelled, whole numbers, texts, lists and dicts; and its lines. A text is kept as it is,
+-- since where it stands says whether it is a literal block.
+use Rattle.std.specs.Prelude.{ℕ, ℤ, List, [], ◌∷◌, ◌++◌, Bool, true, false, nat_le, if◌then◌else◌, length, map, codes, Option, None, Some}
 use Rattle.std.specs.Fmt.{signed_decimal}
 use Rattle.snap_content.specs.Plain as p
 use Rattle.snap_content.specs.Spell.{spelling, spell_bool, spell_text}
@@ -10,10 +10,11 @@ use Rattle.snap_yaml.specs.Value as v
 use Rattle.snap_yaml.specs.View.{value_of}
 use Rattle.snap_yaml.specs.declared.yaml.Yaml.{Yaml}
 
--- what is printed of a tree: a scalar as it is spelled, a text, a list, or a dict
+-- what is printed of a tree: a scalar as it is spelled, a whole number, a text, a list, or a dict
 mutual
   pub data Shape : Type 0 where
     scalar : List ℕ → Shape
+    number : ℤ → Shape
     text : List ℕ → Shape
     list : Shapes → Shape
     dict : ShapePairs → Shape
@@ -26,9 +27,19 @@ mutual
     no_pairs : ShapePairs
     pair : Shape → Shape → ShapePairs → ShapePairs
 
+-- lists of shapes, as a shape holds them
+abbrev pub shapes_of : List Shape → Shapes
+shapes_of [] = no_shapes
+shapes_of (t ∷ ts) = shape t (shapes_of ts)
+
+abbrev pub shape_pairs_of : List (Shape × Shape) → ShapePairs
+shape_pairs_of [] = no_pairs
+shape_pairs_of (e ∷ es) = pair e.0 e.1 (shape_pairs_of es)
+
 -- what is written for a scalar or an empty collection
 abbrev pub spelled : Shape → List ℕ
 spelled (scalar s) = s
+spelled (number z) = signed_decimal z
 spelled (text s) = spell_text s
 spelled (list _) = codes "[]"
 spelled (dict _) = codes "{}"
@@ -36,6 +47,7 @@ spelled (dict _) = codes "{}"
 -- a scalar or an empty collection
 abbrev pub is_flat : Shape → Bool
 is_flat (scalar s) = true
+is_flat (number z) = true
 is_flat (text s) = true
 is_flat (list no_shapes) = true
 is_flat (list (shape s ss)) = false
@@ -45,6 +57,7 @@ is_flat (dict (pair k v ps)) = false
 -- a key that is written before a colon
 abbrev pub is_simple : Shape → Bool
 is_simple (scalar s) = nat_le (length s) 1024
+is_simple (number z) = nat_le (length (signed_decimal z)) 1024
 is_simple (text s) = nat_le (length (spell_text s)) 1024
 is_simple (list _) = false
 is_simple (dict _) = false
@@ -52,6 +65,7 @@ is_simple (dict _) = false
 -- the text of what is written as a block, as an item or a value
 abbrev pub block_in : Blocks → Shape → Option (List ℕ)
 block_in w (scalar s) = None
+block_in w (number z) = None
 block_in w (text s) = if is_block w s then Some s else None
 block_in w (list ts) = None
 block_in w (dict ps) = None
@@ -79,6 +93,7 @@ before_pairs w (pair k v ps) = before_more w
 abbrev mutual
   pub lines : Blocks → Shape → List (List ℕ)
   lines w (scalar s) = s ∷ []
+  lines w (number z) = signed_decimal z ∷ []
   lines w (text s) = spell_text s ∷ []
   lines w (list no_shapes) = codes "[]" ∷ []
   lines w (list (shape t ts)) = marked (before_shapes w ts) 45 (block_in (before_shapes w ts) t) (lines (before_shapes w ts) t) ++ list_lines w ts
@@ -98,7 +113,7 @@ abbrev mutual
   pub plain_shape : p.Plain → Shape
   plain_shape p.null = scalar (spelling p.null)
   plain_shape (p.bool b) = scalar (spelling (p.bool b))
-  plain_shape (p.int z) = scalar (spelling (p.int z))
+  plain_shape (p.int z) = number z
   plain_shape (p.text s) = text s
   plain_shape (p.list items) = list (plain_shapes items)
   plain_shape (p.dict entries) = dict (plain_pairs entries)
@@ -115,7 +130,7 @@ abbrev mutual
 abbrev mutual
   pub value_shape : v.Value → Shape
   value_shape (v.real s) = scalar s
-  value_shape (v.integer z) = scalar (signed_decimal z)
+  value_shape (v.integer z) = number z
   value_shape (v.string s) = text s
   value_shape (v.boolean b) = scalar (spell_bool b)
   value_shape (v.array items) = list (value_shapes items)

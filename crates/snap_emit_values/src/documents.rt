@@ -2,12 +2,15 @@
 ghost use Rattle.std.specs.Prelude.{◌≡◌, ◌++◌, OnOk, OnErr, IfOk};
 ghost use Rattle.snap_emit_values.specs.Columns.{IsBegun};
 ghost use Rattle.snap_emit_values.specs.Document.{body, document, dumped};
+ghost use Rattle.snap_emit_values.specs.FromContent.{IsShapeWithin};
+ghost use Rattle.snap_emit_values.specs.Nodes.{node_shape};
 ghost use Rattle.snap_emit_values.specs.Places.{place};
 ghost use Rattle.snap_emit_values.specs.Shape.{shape_of};
 
 use crate::blocks::Blocks;
 use crate::emit::emit;
 use crate::ending::ends_in_block;
+use crate::node::Node;
 use snap_content::{OutOfMemory, Text};
 use snap_yaml::Yaml;
 use std::alloc::Global;
@@ -24,7 +27,7 @@ pub fn push_dump(
     ensures err { OnErr result (IsBegun out.old out.new (dumped (place blocks) (shape_of doc.now))) }
 {
     out.push_ascii(alloc, "---\n")?;
-    emit(out, alloc, doc, 0, blocks)?;
+    emit(out, alloc, Node::of_value(doc), 0, blocks)?;
     if ends_in_block(doc, blocks) {
         return out.push(alloc, '\n');
     }
@@ -35,14 +38,30 @@ pub fn push_dump(
 pub fn push_body(
     out: &mut Text,
     alloc: Global,
-    doc: &Yaml,
+    node: Node<'_>,
     blocks: Blocks,
 ) -> Result<(), OutOfMemory>
-    ensures ok { OnOk result (out.new ≡ out.old ++ body (place blocks) (shape_of doc.now)) }
-    ensures err { OnErr result (IsBegun out.old out.new (body (place blocks) (shape_of doc.now))) }
+    ensures ok { OnOk result (out.new ≡ out.old ++ body (place blocks) (node_shape node.entry)) }
+    ensures within { OnOk result (IsShapeWithin (node_shape node.entry)) }
+    ensures err { OnErr result (IsBegun out.old out.new (body (place blocks) (node_shape node.entry))) }
 {
-    emit(out, alloc, doc, 0, blocks)?;
+    emit(out, alloc, node, 0, blocks)?;
     out.push(alloc, '\n')
+}
+
+/// Adds `---` and the lines of the value, each with its end. When out of memory, a beginning of that was added.
+pub fn push_node(
+    out: &mut Text,
+    alloc: Global,
+    node: Node<'_>,
+    blocks: Blocks,
+) -> Result<(), OutOfMemory>
+    ensures ok { OnOk result (out.new ≡ out.old ++ document (place blocks) (node_shape node.entry)) }
+    ensures within { OnOk result (IsShapeWithin (node_shape node.entry)) }
+    ensures err { OnErr result (IsBegun out.old out.new (document (place blocks) (node_shape node.entry))) }
+{
+    out.push_ascii(alloc, "---\n")?;
+    push_body(out, alloc, node, blocks)
 }
 
 /// Adds `---` and the lines of the value, each with its end. When out of memory, a beginning of that was added.
@@ -55,8 +74,7 @@ pub fn push_document(
     ensures ok { OnOk result (out.new ≡ out.old ++ document (place blocks) (shape_of doc.now)) }
     ensures err { OnErr result (IsBegun out.old out.new (document (place blocks) (shape_of doc.now))) }
 {
-    out.push_ascii(alloc, "---\n")?;
-    push_body(out, alloc, doc, blocks)
+    push_node(out, alloc, Node::of_value(doc), blocks)
 }
 
 /// The text of a document of this value.

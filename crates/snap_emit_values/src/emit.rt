@@ -1,19 +1,22 @@
-//! The walk that writes a tree: each piece goes straight into the text, further lines after the blanks of their column.
+//! The walk that writes a value: each piece goes straight into the text, further lines after the blanks of their column.
 ghost use Rattle.std.specs.Prelude.{◌≡◌, ◌+◌, ◌^◌, ◌≤◌, ◌++◌, ◌∷◌, [], OnOk, OnErr, IfOk, IfErr, IsTrue};
 ghost use Rattle.std.specs.Char.{is_ascii};
-ghost use Rattle.std.specs.List.{list_all};
+ghost use Rattle.std.specs.List.{All, list_all};
+ghost use Rattle.std.specs.Str.{chars};
 ghost use Rattle.snap_emit_values.specs.Columns.{IsBegun, break_at, gap, text_at};
 ghost use Rattle.snap_emit_values.specs.Emitted.{child_of, text_of_child, item_of, list_text, pair_of, dict_text, key_of};
 ghost use Rattle.snap_emit_values.specs.Places.{place};
-ghost use Rattle.snap_emit_values.specs.Shape.{is_flat, shape_of};
+ghost use Rattle.snap_emit_values.specs.FromContent.{IsPairWithin, IsShapeWithin};
+ghost use Rattle.snap_emit_values.specs.Nodes.{item_shapes, entry_shapes, node_pair, node_shape};
+ghost use Rattle.snap_emit_values.specs.Shape.{is_flat};
 
 use crate::blanks::break_line;
 use crate::block::{is_block, push_block};
 use crate::blocks::Blocks;
-use crate::scalars::{push_spelled, push_spelled_text, push_word};
+use crate::node::{Entries, Items, Node};
+use crate::scalars::{char_text, push_spelled, push_spelled_str, push_word};
 use crate::written::is_simple_key;
 use snap_content::{OutOfMemory, Text};
-use snap_yaml::Yaml;
 use std::alloc::Global;
 
 /// Two columns further in. Where no number is left for the column, no memory would hold the blanks of its lines.
@@ -69,12 +72,12 @@ fn push_colon(
 }
 
 /// Whether the value is written on one line: a scalar or an empty collection.
-fn is_one_line(tree: &Yaml) -> bool
-    ensures { result ≡ is_flat (shape_of tree.now) }
+fn is_one_line(node: Node<'_>) -> bool
+    ensures { result ≡ is_flat (node_shape node.entry) }
 {
-    match tree {
-        Yaml::Array(items) => items.is_empty(),
-        Yaml::Hash(pairs) => pairs.is_empty(),
+    match node {
+        Node::List(items) => items.len() == 0,
+        Node::Dict(entries) => entries.len() == 0,
         _ => true,
     }
 }
@@ -83,54 +86,75 @@ fn is_one_line(tree: &Yaml) -> bool
 fn push_text(
     out: &mut Text,
     alloc: Global,
-    value: &Text,
+    value: &str,
     column: usize,
     blocks: Blocks,
 ) -> Result<(), OutOfMemory>
-    ensures ok { OnOk result (out.new ≡ out.old ++ text_of_child column (place blocks) value.now) }
-    ensures err { OnErr result (IsBegun out.old out.new (text_of_child column (place blocks) value.now)) }
+    ensures ok { OnOk result (out.new ≡ out.old ++ text_of_child column (place blocks) (chars value.now)) }
+    ensures err { OnErr result (IsBegun out.old out.new
+        (text_of_child column (place blocks) (chars value.now))) }
 {
-    if is_block(value.as_str(), blocks) {
-        return push_block(out, alloc, column, value.as_str(), blocks);
+    if is_block(value, blocks) {
+        return push_block(out, alloc, column, value, blocks);
     }
-    push_spelled_text(out, alloc, value)
+    push_spelled_str(out, alloc, value)
 }
 
-/// Adds the tree, whose first line begins where the text ends. Further lines begin at the column.
+/// The same of a text of one character.
+fn push_char(
+    out: &mut Text,
+    alloc: Global,
+    value: char,
+    column: usize,
+    blocks: Blocks,
+) -> Result<(), OutOfMemory>
+    ensures ok { OnOk result (out.new ≡ out.old ++ text_of_child column (place blocks) (value ∷ [])) }
+    ensures err { OnErr result (IsBegun out.old out.new
+        (text_of_child column (place blocks) (value ∷ []))) }
+{
+    let mut buffer = [0u8; 4];
+    push_text(out, alloc, char_text(value, &mut buffer), column, blocks)
+}
+
+/// Adds the value, whose first line begins where the text ends. Further lines begin at the column.
 /// When out of memory, the text has a beginning of that.
 #[cycle(emit)]
 pub fn emit(
     out: &mut Text,
     alloc: Global,
-    tree: &Yaml,
+    node: Node<'_>,
     column: usize,
     blocks: Blocks,
 ) -> Result<(), OutOfMemory>
-    ensures ok { OnOk result (out.new ≡ out.old ++ text_at column (place blocks) (shape_of tree.now)) }
+    ensures ok { OnOk result (out.new ≡ out.old ++ text_at column (place blocks) (node_shape node.entry)) }
+    ensures within { OnOk result (IsShapeWithin (node_shape node.entry)) }
     ensures err { OnErr result (IsBegun out.old out.new
-        (text_at column (place blocks) (shape_of tree.now))) }
+        (text_at column (place blocks) (node_shape node.entry))) }
 {
-    match tree {
-        Yaml::Array(items) => emit_items(out, alloc, items.as_slice(), column, blocks),
-        Yaml::Hash(pairs) => emit_pairs(out, alloc, pairs.as_slice(), column, blocks),
-        _ => push_spelled(out, alloc, tree),
+    match node {
+        Node::List(items) => emit_items(out, alloc, items, column, blocks),
+        Node::Dict(entries) => emit_entries(out, alloc, entries, column, blocks),
+        _ => push_spelled(out, alloc, node),
     }
 }
 
-/// Adds an item or a value: a literal block, or what is added of the tree by itself.
+/// Adds an item or a value: a literal block, or what is added of the value by itself.
 #[cycle(emit)]
 fn emit_child(
     out: &mut Text,
     alloc: Global,
-    child: &Yaml,
+    child: Node<'_>,
     column: usize,
     blocks: Blocks,
 ) -> Result<(), OutOfMemory>
-    ensures ok { OnOk result (out.new ≡ out.old ++ child_of column (place blocks) child.now) }
-    ensures err { OnErr result (IsBegun out.old out.new (child_of column (place blocks) child.now)) }
+    ensures ok { OnOk result (out.new ≡ out.old ++ child_of column (place blocks) (node_shape child.entry)) }
+    ensures within { OnOk result (IsShapeWithin (node_shape child.entry)) }
+    ensures err { OnErr result (IsBegun out.old out.new
+        (child_of column (place blocks) (node_shape child.entry))) }
 {
     match child {
-        Yaml::String(text) => push_text(out, alloc, text, column, blocks),
+        Node::Text(text) => push_text(out, alloc, text, column, blocks),
+        Node::Char(value) => push_char(out, alloc, value, column, blocks),
         _ => emit(out, alloc, child, column, blocks),
     }
 }
@@ -140,22 +164,26 @@ fn emit_child(
 fn emit_items(
     out: &mut Text,
     alloc: Global,
-    items: &[Yaml],
+    items: Items<'_>,
     column: usize,
     blocks: Blocks,
 ) -> Result<(), OutOfMemory>
-    ensures ok { OnOk result (out.new ≡ out.old ++ list_text column (place blocks) items.now) }
-    ensures err { OnErr result (IsBegun out.old out.new (list_text column (place blocks) items.now)) }
+    ensures ok { OnOk result (out.new ≡ out.old ++ list_text column (place blocks) (item_shapes items.entry)) }
+    ensures within { OnOk result (All IsShapeWithin (item_shapes items.entry)) }
+    ensures err { OnErr result (IsBegun out.old out.new
+        (list_text column (place blocks) (item_shapes items.entry))) }
 {
-    let Some((last, front)) = items.split_last() else {
+    let count = items.len();
+    if count == 0 {
         return push_word(out, alloc, "[]");
-    };
+    }
+    let last = count - 1;
     let inside = blocks.before_more();
-    for item in front {
-        emit_item(out, alloc, item, column, inside)?;
+    for index in 0..last {
+        emit_item(out, alloc, items.at(index), column, inside)?;
         break_line(out, alloc, column)?;
     }
-    emit_item(out, alloc, last, column, blocks)
+    emit_item(out, alloc, items.at(last), column, blocks)
 }
 
 /// Adds an item after its mark.
@@ -163,12 +191,14 @@ fn emit_items(
 fn emit_item(
     out: &mut Text,
     alloc: Global,
-    item: &Yaml,
+    item: Node<'_>,
     column: usize,
     blocks: Blocks,
 ) -> Result<(), OutOfMemory>
-    ensures ok { OnOk result (out.new ≡ out.old ++ item_of column (place blocks) item.now) }
-    ensures err { OnErr result (IsBegun out.old out.new (item_of column (place blocks) item.now)) }
+    ensures ok { OnOk result (out.new ≡ out.old ++ item_of column (place blocks) (node_shape item.entry)) }
+    ensures within { OnOk result (IsShapeWithin (node_shape item.entry)) }
+    ensures err { OnErr result (IsBegun out.old out.new
+        (item_of column (place blocks) (node_shape item.entry))) }
 {
     let inner = deeper(column)?;
     push_mark(out, alloc, "- ")?;
@@ -177,51 +207,73 @@ fn emit_item(
 
 /// Adds a dict: something follows each pair but the last.
 #[cycle(emit)]
-fn emit_pairs(
+fn emit_entries(
     out: &mut Text,
     alloc: Global,
-    pairs: &[(Yaml, Yaml)],
+    entries: Entries<'_>,
     column: usize,
     blocks: Blocks,
 ) -> Result<(), OutOfMemory>
-    ensures ok { OnOk result (out.new ≡ out.old ++ dict_text column (place blocks) pairs.now) }
-    ensures err { OnErr result (IsBegun out.old out.new (dict_text column (place blocks) pairs.now)) }
+    ensures ok { OnOk result (out.new ≡ out.old ++ dict_text column (place blocks) (entry_shapes entries.entry)) }
+    ensures within { OnOk result (All IsPairWithin (entry_shapes entries.entry)) }
+    ensures err { OnErr result (IsBegun out.old out.new
+        (dict_text column (place blocks) (entry_shapes entries.entry))) }
 {
-    let Some(((last_key, last_value), front)) = pairs.split_last() else {
+    let count = entries.len();
+    if count == 0 {
         return push_word(out, alloc, "{}");
-    };
-    let inner = deeper(column)?;
+    }
+    let last = count - 1;
     let inside = blocks.before_more();
-    for (key, value) in front {
-        emit_key(out, alloc, key, column, is_one_line(value), inside)?;
-        emit_child(out, alloc, value, inner, inside)?;
+    for index in 0..last {
+        emit_pair(out, alloc, entries.at(index), column, inside)?;
         break_line(out, alloc, column)?;
     }
+    emit_pair(out, alloc, entries.at(last), column, blocks)
+}
+
+/// Adds a key and its value.
+#[cycle(emit)]
+fn emit_pair(
+    out: &mut Text,
+    alloc: Global,
+    pair: (Node<'_>, Node<'_>),
+    column: usize,
+    blocks: Blocks,
+) -> Result<(), OutOfMemory>
+    ensures ok { OnOk result (out.new ≡ out.old ++ pair_of column (place blocks) (node_pair pair.entry)) }
+    ensures within { OnOk result (IsPairWithin (node_pair pair.entry)) }
+    ensures err { OnErr result (IsBegun out.old out.new
+        (pair_of column (place blocks) (node_pair pair.entry))) }
+{
+    let (key, value) = pair;
+    let inner = deeper(column)?;
     emit_key(
         out,
         alloc,
-        last_key,
+        key,
         column,
-        is_one_line(last_value),
-        inside,
+        is_one_line(value),
+        blocks.before_more(),
     )?;
-    emit_child(out, alloc, last_value, inner, blocks)
+    emit_child(out, alloc, value, inner, blocks)
 }
 
 /// Adds a key up to its value. A key is never a block.
 #[cycle(emit)]
-pub fn emit_key(
+fn emit_key(
     out: &mut Text,
     alloc: Global,
-    key: &Yaml,
+    key: Node<'_>,
     column: usize,
     is_one_line: bool,
     blocks: Blocks,
 ) -> Result<(), OutOfMemory>
     ensures ok { OnOk result (out.new
-        ≡ out.old ++ key_of column (place blocks) key.now is_one_line) }
+        ≡ out.old ++ key_of column (place blocks) (node_shape key.entry) is_one_line) }
+    ensures within { OnOk result (IsShapeWithin (node_shape key.entry)) }
     ensures err { OnErr result (IsBegun out.old out.new
-        (key_of column (place blocks) key.now is_one_line)) }
+        (key_of column (place blocks) (node_shape key.entry) is_one_line)) }
 {
     let inner = deeper(column)?;
     if is_simple_key(key) {

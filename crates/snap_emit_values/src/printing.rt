@@ -1,4 +1,4 @@
-//! Trees, printed through their values.
+//! Trees, printed as they are.
 ghost use Rattle.std.specs.Prelude.{◌≡◌, ◌++◌, OnOk, OnErr, IfOk};
 ghost use Rattle.snap_content.specs.Plain.{plain};
 ghost use Rattle.snap_content.specs.View.{tree};
@@ -8,8 +8,8 @@ ghost use Rattle.snap_emit_values.specs.Columns.{IsBegun};
 ghost use Rattle.snap_emit_values.specs.FromContent.{IsContentWithin};
 
 use crate::blocks::Blocks;
-use crate::documents::{push_body, push_document};
-use crate::from_content::yaml_of;
+use crate::documents::{push_body, push_node};
+use crate::node::Node;
 use snap_content::{Content, OutOfMemory, Text};
 use std::alloc::Global;
 
@@ -24,8 +24,7 @@ pub fn print_document(
     ensures within { OnOk result (IsContentWithin content.now) }
     ensures err { OnErr result (IsBegun out.old out.new (document_of (blocks_if literal) (plain (tree content.now)))) }
 {
-    let made = yaml_of(alloc, content)?;
-    push_document(out, alloc, &made, Blocks::of_text(literal))
+    push_node(out, alloc, Node::of_tree(content), Blocks::of_text(literal))
 }
 
 /// Adds the text of the plain form. When out of memory, a beginning of that was added.
@@ -39,8 +38,7 @@ pub fn print_body(
     ensures within { OnOk result (IsContentWithin content.now) }
     ensures err { OnErr result (IsBegun out.old out.new (text_of (blocks_if literal) (plain (tree content.now)))) }
 {
-    let made = yaml_of(alloc, content)?;
-    push_body(out, alloc, &made, Blocks::of_text(literal))
+    push_body(out, alloc, Node::of_tree(content), Blocks::of_text(literal))
 }
 
 /// `---` and the text of the plain form.

@@ -1,19 +1,22 @@
 //! Scalars, written straight into a text.
-ghost use Rattle.std.specs.Prelude.{◌≡◌, ◌++◌, ◌∷◌, [], OnOk, OnErr, ◌<◌, false, IsTrue};
+ghost use Rattle.std.specs.Prelude.{◌≡◌, ◌++◌, ◌∷◌, [], OnOk, OnErr, ◌<◌, false, IsTrue, pos};
 ghost use Rattle.std.specs.Char.{is_ascii};
 ghost use Rattle.std.specs.List.{flat_map, list_all};
 ghost use Rattle.std.specs.Fmt.{signed_decimal, digit_glyph};
 ghost use Rattle.std.specs.Str.{chars};
-ghost use Rattle.snap_content.specs.Spell.{escaped, escaped_code, quoted, spell_text, spell_bool};
+ghost use Rattle.snap_content.specs.Readable.{IsNumber};
+ghost use Rattle.snap_content.specs.Spell.{escaped, escaped_code, quoted, spell_text};
 ghost use Rattle.snap_emit_values.specs.Bare.{IsBareBefore};
 ghost use Rattle.snap_emit_values.specs.Columns.{IsBegun};
-ghost use Rattle.snap_emit_values.specs.Shape.{spelled, shape_of};
+ghost use Rattle.snap_emit_values.specs.FromContent.{IsWordWithin};
+ghost use Rattle.snap_emit_values.specs.Nodes.{node_shape};
+ghost use Rattle.snap_emit_values.specs.Shape.{spelled};
 
+use crate::node::Node;
 use crate::quotes::is_quoted;
 use itoa::Buffer;
 use snap_content::characters::{before_rest, split_first};
 use snap_content::{OutOfMemory, Text};
-use snap_yaml::Yaml;
 use std::alloc::Global;
 
 /// A hexadecimal digit.
@@ -110,23 +113,39 @@ fn push_quoted(out: &mut Text, alloc: Global, value: &str) -> Result<(), OutOfMe
 }
 
 /// Adds the text as it is spelled: in double quotes where it needs them. When out of memory, a beginning of that was added.
+pub fn push_spelled_str(out: &mut Text, alloc: Global, value: &str) -> Result<(), OutOfMemory>
+    ensures ok { OnOk result (out.new ≡ out.old ++ spell_text (chars value.now)) }
+    ensures err { OnErr result (IsBegun out.old out.new (spell_text (chars value.now))) }
+{
+    if is_quoted(value) {
+        push_quoted(out, alloc, value)
+    } else {
+        push_run(out, alloc, value)
+    }
+}
+
+/// The same of a text.
 pub fn push_spelled_text(out: &mut Text, alloc: Global, value: &Text) -> Result<(), OutOfMemory>
     ensures ok { OnOk result (out.new ≡ out.old ++ spell_text value.now) }
     ensures err { OnErr result (IsBegun out.old out.new (spell_text value.now)) }
 {
-    if is_quoted(value.as_str()) {
-        push_quoted(out, alloc, value.as_str())
-    } else {
-        push_all(out, alloc, value)
-    }
+    push_spelled_str(out, alloc, value.as_str())
 }
 
-/// Adds a text.
-fn push_all(out: &mut Text, alloc: Global, value: &Text) -> Result<(), OutOfMemory>
-    ensures ok { OnOk result (out.new ≡ out.old ++ value.now) }
-    ensures err { OnErr result (IsBegun out.old out.new value.now) }
+/// A character as a text.
+pub fn char_text(value: char, buffer: &mut [u8; 4]) -> &str
+    ensures { chars result.now ≡ value ∷ [] }
 {
-    out.push_text(alloc, value)
+    value.encode_utf8(buffer)
+}
+
+/// The same of a text of one character.
+fn push_spelled_char(out: &mut Text, alloc: Global, value: char) -> Result<(), OutOfMemory>
+    ensures ok { OnOk result (out.new ≡ out.old ++ spell_text (value ∷ [])) }
+    ensures err { OnErr result (IsBegun out.old out.new (spell_text (value ∷ []))) }
+{
+    let mut buffer = [0u8; 4];
+    push_spelled_str(out, alloc, char_text(value, &mut buffer))
 }
 
 /// Adds ASCII characters.
@@ -141,6 +160,27 @@ pub fn push_word(out: &mut Text, alloc: Global, word: &str) -> Result<(), OutOfM
 /// Adds the number in base ten.
 fn push_number(out: &mut Text, alloc: Global, value: i64) -> Result<(), OutOfMemory>
     ensures ok { OnOk result (out.new ≡ out.old ++ signed_decimal value) }
+    ensures within { IsNumber value }
+    ensures err { OnErr result (IsBegun out.old out.new (signed_decimal value)) }
+{
+    let mut buffer = Buffer::new();
+    out.push_ascii(alloc, buffer.format(value))
+}
+
+/// The same of a number of 128 bits without a sign.
+fn push_natural(out: &mut Text, alloc: Global, value: u128) -> Result<(), OutOfMemory>
+    ensures ok { OnOk result (out.new ≡ out.old ++ signed_decimal (pos value)) }
+    ensures within { IsNumber (pos value) }
+    ensures err { OnErr result (IsBegun out.old out.new (signed_decimal (pos value))) }
+{
+    let mut buffer = Buffer::new();
+    out.push_ascii(alloc, buffer.format(value))
+}
+
+/// The same of a number of 128 bits with a sign.
+fn push_wide(out: &mut Text, alloc: Global, value: i128) -> Result<(), OutOfMemory>
+    ensures ok { OnOk result (out.new ≡ out.old ++ signed_decimal value) }
+    ensures within { IsNumber value }
     ensures err { OnErr result (IsBegun out.old out.new (signed_decimal value)) }
 {
     let mut buffer = Buffer::new();
@@ -148,19 +188,22 @@ fn push_number(out: &mut Text, alloc: Global, value: i64) -> Result<(), OutOfMem
 }
 
 /// Adds what is written for a scalar or an empty collection.
-pub fn push_spelled(out: &mut Text, alloc: Global, tree: &Yaml) -> Result<(), OutOfMemory>
-    ensures ok { OnOk result (out.new ≡ out.old ++ spelled (shape_of tree.now)) }
-    ensures err { OnErr result (IsBegun out.old out.new (spelled (shape_of tree.now))) }
+pub fn push_spelled(out: &mut Text, alloc: Global, node: Node<'_>) -> Result<(), OutOfMemory>
+    ensures ok { OnOk result (out.new ≡ out.old ++ spelled (node_shape node.entry)) }
+    ensures within { IsWordWithin (node_shape node.entry) }
+    ensures err { OnErr result (IsBegun out.old out.new (spelled (node_shape node.entry))) }
 {
-    match tree {
-        Yaml::Real(text) => push_all(out, alloc, text),
-        Yaml::Integer(value) => push_number(out, alloc, *value),
-        Yaml::String(text) => push_spelled_text(out, alloc, text),
-        Yaml::Boolean(true) => push_word(out, alloc, "true"),
-        Yaml::Boolean(false) => push_word(out, alloc, "false"),
-        Yaml::Array(_) => push_word(out, alloc, "[]"),
-        Yaml::Hash(_) => push_word(out, alloc, "{}"),
-        Yaml::Null => push_word(out, alloc, "~"),
-        Yaml::BadValue => push_word(out, alloc, "~"),
+    match node {
+        Node::Null => push_word(out, alloc, "~"),
+        Node::Bool(true) => push_word(out, alloc, "true"),
+        Node::Bool(false) => push_word(out, alloc, "false"),
+        Node::Integer(value) => push_number(out, alloc, value),
+        Node::Natural(value) => push_natural(out, alloc, value),
+        Node::Wide(value) => push_wide(out, alloc, value),
+        Node::Real(text) => push_run(out, alloc, text),
+        Node::Char(value) => push_spelled_char(out, alloc, value),
+        Node::Text(text) => push_spelled_str(out, alloc, text),
+        Node::List(_) => push_word(out, alloc, "[]"),
+        Node::Dict(_) => push_word(out, alloc, "{}"),
     }
 }

@@ -1,11 +1,14 @@
 //! How many characters a scalar is written with, found without writing it.
-ghost use Rattle.std.specs.Prelude.{true, ◌≡◌, ◌≤◌, ◌<◌, ◌^◌, length};
+ghost use Rattle.std.specs.Prelude.{true, [], ◌∷◌, pos, ◌≡◌, ◌≤◌, ◌<◌, ◌^◌, length};
 ghost use Rattle.std.specs.Fmt.{signed_decimal};
 ghost use Rattle.std.specs.Str.{chars};
 ghost use Rattle.snap_content.specs.Spell.{escaped, quoted, spell_text};
+ghost use Rattle.snap_emit_values.specs.Nodes.{node_shape};
 ghost use Rattle.snap_emit_values.specs.Shape.{is_simple, spelled, shape_of};
 
+use crate::node::Node;
 use crate::quotes::is_quoted;
+use crate::scalars::char_text;
 use itoa::Buffer;
 use snap_content::characters::split_first;
 use snap_yaml::Yaml;
@@ -56,6 +59,14 @@ fn string_len(value: &str) -> u128
     }
 }
 
+/// How many characters a text of one character is written with.
+fn char_len(value: char) -> u128
+    ensures { result ≡ length (spell_text (value ∷ [])) }
+{
+    let mut buffer = [0u8; 4];
+    string_len(char_text(value, &mut buffer))
+}
+
 /// How many digits and signs a number is written with.
 fn number_len(value: i64) -> u128
     ensures { result ≡ length (signed_decimal value) }
@@ -64,19 +75,45 @@ fn number_len(value: i64) -> u128
     buffer.format(value).len() as u128
 }
 
+/// The same of a number of 128 bits without a sign.
+fn natural_len(value: u128) -> u128
+    ensures { result ≡ length (signed_decimal (pos value)) }
+{
+    let mut buffer = Buffer::new();
+    buffer.format(value).len() as u128
+}
+
+/// The same of a number of 128 bits with a sign.
+fn wide_len(value: i128) -> u128
+    ensures { result ≡ length (signed_decimal value) }
+{
+    let mut buffer = Buffer::new();
+    buffer.format(value).len() as u128
+}
+
 /// How many characters a scalar or an empty collection is written with.
+fn node_len(node: Node<'_>) -> u128
+    ensures { result ≡ length (spelled (node_shape node.entry)) }
+{
+    match node {
+        Node::Null => 1,
+        Node::Bool(true) => 4,
+        Node::Bool(false) => 5,
+        Node::Integer(value) => number_len(value),
+        Node::Natural(value) => natural_len(value),
+        Node::Wide(value) => wide_len(value),
+        Node::Real(text) => characters(text),
+        Node::Char(value) => char_len(value),
+        Node::Text(text) => string_len(text),
+        Node::List(_) | Node::Dict(_) => 2,
+    }
+}
+
+/// The same of a value.
 pub fn written_len(scalar: &Yaml) -> u128
     ensures { result ≡ length (spelled (shape_of scalar.now)) }
 {
-    match scalar {
-        Yaml::Real(text) => characters(text.as_str()),
-        Yaml::Integer(value) => number_len(*value),
-        Yaml::String(text) => string_len(text.as_str()),
-        Yaml::Boolean(true) => 4,
-        Yaml::Boolean(false) => 5,
-        Yaml::Array(_) | Yaml::Hash(_) => 2,
-        Yaml::Null | Yaml::BadValue => 1,
-    }
+    node_len(Node::of_value(scalar))
 }
 
 /// Whether the text is told without counting to be written with at most 1,024 characters: no character takes more than six.
@@ -97,13 +134,13 @@ fn is_bare_and_short(text: &str) -> bool
 }
 
 /// Whether the key is written before a colon.
-pub fn is_simple_key(key: &Yaml) -> bool
-    ensures { result ≡ is_simple (shape_of key.now) }
+pub fn is_simple_key(key: Node<'_>) -> bool
+    ensures { result ≡ is_simple (node_shape key.entry) }
 {
     match key {
-        Yaml::Array(_) | Yaml::Hash(_) => false,
-        Yaml::String(text) if is_short(text.as_str()) => true,
-        Yaml::String(text) if is_bare_and_short(text.as_str()) => true,
-        _ => written_len(key) <= 1024,
+        Node::List(_) | Node::Dict(_) => false,
+        Node::Text(text) if is_short(text) => true,
+        Node::Text(text) if is_bare_and_short(text) => true,
+        _ => node_len(key) <= 1024,
     }
 }

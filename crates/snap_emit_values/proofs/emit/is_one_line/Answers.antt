@@ -1,8 +1,11 @@
-use Rattle.snap_emit_values.proofs.Trees.{flat_array, flat_hash}
+use Rattle.snap_emit_values.proofs.Prelude.{sym, ap, ◌∙◌, eqb, item_shapes, entry_shapes, node_shape, is_flat}
+use Rattle.snap_emit_values.proofs.Trees.{flat_list, flat_dict}
 use Rattle.snap_emit_values.proofs.emit.is_one_line.Goals as goal
 
-pub returns-in-Array : goal.returns-in-Array
-returns-in-Array c = flat_array _ _ _ c.in-Array.is c.is_empty.ensures
+pub returns-in-List : goal.returns-in-List
+returns-in-List c =
+    ap (λ n. eqb n 0) c.len.ensures ∙ sym (flat_list (item_shapes c.in-List.items)) ∙ sym (ap (λ n. is_flat (node_shape n)) c.in-List.is)
 
-pub returns-in-Hash : goal.returns-in-Hash
-returns-in-Hash c = flat_hash _ _ _ c.in-Hash.is c.is_empty-in-Hash.ensures
+pub returns-in-Dict : goal.returns-in-Dict
+returns-in-Dict c =
+    ap (λ n. eqb n 0) c.len-in-Dict.ensures ∙ sym (flat_dict (entry_shapes c.in-Dict.entries)) ∙ sym (ap (λ n. is_flat (node_shape n)) c.in-Dict.is)
