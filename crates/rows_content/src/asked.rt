@@ -8,6 +8,7 @@ use crate::orders::{key_orders_line, orders_line};
 use crate::texts::{lent_line, text_line};
 use crate::trees::{copy_line, inside_line, read_line, sort_line};
 use crate::values::value_line;
+use crate::walks::walk_line;
 use rows::{first_column, tree_of_column};
 use snap_content::{Content, Text};
 use std::alloc::Global;
@@ -15,7 +16,7 @@ use std::alloc::Global;
 /// The answer to the question of that name.
 pub(crate) fn answered(alloc: Global, name: &str, columns: &str) -> Result<Text, anyhow::Error> {
     match name {
-        "sort" | "copy" | "held" | "read" | "inside" => of_one_tree(alloc, name, columns),
+        "sort" | "copy" | "held" | "read" | "inside" | "walk" => of_one_tree(alloc, name, columns),
         "key" | "key_order" | "order" => of_trees(alloc, name, columns),
         "value" => value_line(alloc, columns),
         "text" => text_line(alloc, columns),
@@ -45,6 +46,7 @@ fn told_of_tree(
         "copy" => Ok(copy_line(alloc, tree)?),
         "held" => held_line(alloc, tree),
         "inside" => inside_line(alloc, tree, others),
+        "walk" => walk_line(alloc, tree),
         _ => Ok(read_line(alloc, tree)?),
     }
 }

@@ -10,6 +10,7 @@
 //! - `held TREE`: how many bytes, items, pairs or fields the tree holds, whether a copy of these is equal, and what the copy is.
 //! - `read TREE`: the text that is read of the tree, and how many items are.
 //! - `inside TREE TREE`: the first tree, where the second one is written inside its wrappers.
+//! - `walk TREE`: the tree after a walk that puts `None` in place of each text and goes into all but tuples, and how many nodes it visited.
 //! - `value TYPE TEXT..`: the tree that is made of a value of that type.
 //! - `text STEP..`: the text that the steps make, and how many characters a copy has. A step is the name of a call, and a text:
 //!   none for `from_ascii`, which makes `d`, and for `push_ascii`, which adds `c`.
@@ -30,6 +31,7 @@ mod orders;
 mod texts;
 mod trees;
 mod values;
+mod walks;
 
 use crate::asked::answered;
 use rows::{answer_rows, first_column};
