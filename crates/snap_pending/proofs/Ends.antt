@@ -1,5 +1,5 @@
 -- The ends of saving, exit by exit.
-use Rattle.snap_pending.proofs.Prelude.{◌≡◌, ℕ, Bool, false, List, Option, Some, Result, Ok, Err, ap, sym, ◌∙◌, subst, OnOk, OnErr, IsErrOf, Error, FailedParsingYaml, UnexpectedDataType, MissingField, FileIo, FloatText, JsonKey, NotText, NoFile, OutOfMemory, CallEnd, SavingEnd}
+use Rattle.snap_pending.proofs.Prelude.{◌≡◌, ℕ, Bool, false, List, Result, Ok, Err, subst, OnOk, OnErr, IsErrOf, Error, FailedParsingYaml, UnexpectedDataType, MissingField, FileIo, FloatText, JsonKey, NotText, NoFile, OutOfMemory, CallEnd, SavingEnd}
 
 -- what was printed was written, or failed
 pub saved : {T : Type 0} → (path : List ℕ) (refused : Bool) (result : Result T Error) → refused ≡ false → CallEnd path result → SavingEnd path refused result

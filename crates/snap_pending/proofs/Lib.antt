@@ -5,6 +5,7 @@ mod Records
 mod Lists
 mod LastRun
 mod Parts
+mod Texts
 mod LinesRead
 mod MetaBack
 mod RecordBack

@@ -1,5 +1,5 @@
 -- A record is told by what JSON keeps of it.
-use Rattle.snap_pending.proofs.Prelude.{◌≡◌, ℕ, ◌^◌, ◌<◌, pos, Bool, false, List, Option, None, Some, refl, ap, sym, ◌∙◌, subst, lt-ltb, IfSome, codes, option_map, if◌then◌else◌, Tree, string, TreePairs, no_pairs, pair, json_plain, json_pairs, last_value, last_filled, text_value, line_value, text_pair, meta_tree, text_in, SnapshotContents, normal, IsHeldBack, MayBeBack, IsBack, HasShortLine, HasShortLines, Held, Pending, held_tree, tree_or_none, record_of, HoldsText, TellsMeta, TellsHeld, MayTell, TellsRecord}
+use Rattle.snap_pending.proofs.Prelude.{◌≡◌, ℕ, pos, false, List, Option, None, Some, refl, ap, sym, ◌∙◌, subst, IfSome, codes, option_map, Tree, string, TreePairs, no_pairs, pair, json_plain, json_pairs, last_value, last_filled, text_value, line_value, text_pair, meta_tree, text_in, SnapshotContents, normal, IsHeldBack, MayBeBack, IsBack, HasShortLine, HasShortLines, Held, Pending, held_tree, tree_or_none, record_of, HoldsText, TellsMeta, TellsHeld, MayTell, TellsRecord}
 use Rattle.snap_content.specs.Plain as p
 use Rattle.snap_fields.proofs.Made.{short-line}
 use Rattle.snap_pending.proofs.MetaBack.{meta-back}
