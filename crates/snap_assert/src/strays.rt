@@ -74,6 +74,8 @@ pub fn stray_paths<S: Store>(
     };
     let names = named::list(alloc, store, folder)?;
     let mut strays = strays_among(alloc, folder, file, names.as_slice())?;
-    strays.sort()?;
+    if strays.sort().is_err() {
+        return Err(Error::OutOfMemory);
+    }
     Ok(strays)
 }

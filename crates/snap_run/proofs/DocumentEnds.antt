@@ -1,5 +1,5 @@
 -- What one document leaves.
-use Rattle.snap_run.proofs.Prelude.{◌≡◌, ◌&&◌, not, inl, inr, ℕ, List, [], ◌∷◌, ◌++◌, map, Option, Some, refl, sym, ap, ◌∙◌, subst, Result, Ok, Err, encode_utf8_all, append-nil, empty, get, Rose, Files, HoldsFront, asked_path, verdict_of, is_failure, RequestView, Spells, ReadsAs, RunWords, place_by, settings_by, printed_by, asked_by, assertion_by, line_text, line_of, KeptBy, IsOwn, FaultIsOwn, words_of, Ran, AssertionStops, IsInWork, MemoryFails, LineFails, IsDocumentAnswered, CountedIf, is_store_fault, DocumentError, Outcome, Runner, step_keeps}
+use Rattle.snap_run.proofs.Prelude.{◌≡◌, ◌&&◌, not, inl, inr, ℕ, List, [], ◌∷◌, ◌++◌, map, Option, Some, refl, sym, ap, ◌∙◌, subst, Result, Ok, Err, encode_utf8_all, append-nil, empty, get, Rose, Files, outside, HoldsFront, asked_path, verdict_of, is_failure, RequestView, Spells, ReadsAs, RunWords, place_by, settings_by, printed_by, asked_by, assertion_by, line_text, line_of, KeptBy, IsOwn, FaultIsOwn, words_of, Ran, AssertionStops, IsInWork, MemoryFails, LineFails, IsDocumentAnswered, CountedIf, is_store_fault, DocumentError, Outcome, Runner, step_keeps}
 use Rattle.std.specs.Result.{IfErr, IsErrAnd}
 use Rattle.snap_content.specs.Tree.{Tree}
 use Rattle.snap_print.specs.Blocks.{blocks_if}
@@ -89,7 +89,7 @@ line_is words document outcome line bytes f g d told encoded =
 
 -- a document was answered, and its line is written
 pub document_ran : (words : RunWords) (document : List ℕ) (outcome : Outcome) (line bytes : List ℕ) (f g : Option Files) (w v : Option (List ℕ)) (d : IsDocumentAnswered words document outcome f g)
-    → line ≡ line_text outcome.verdict outcome.path → bytes ≡ encode_utf8_all line → ((x : List ℕ) → w ≡ Some x → v ≡ Some (x ++ bytes)) → Ran words (document ∷ []) (d.answer ∷ []) f g w v
+    → line ≡ line_text outcome.verdict outcome.path → bytes ≡ encode_utf8_all line → ((x : List ℕ) → w ≡ Some x → v ≡ Some (x ++ bytes)) → Ran words (document ∷ []) (d.answer ∷ []) (outside f w) (outside g v)
 document_ran words document outcome line bytes f g w v d told encoded wrote = record {
   reads = (d.reads, tt);
   allowed = λ m e. (d.allowed m e, tt);
@@ -99,7 +99,7 @@ document_ran words document outcome line bytes f g w v d told encoded wrote = re
 
 -- a document was answered, and a part of its line is written
 pub line_fails : (words : RunWords) (document : List ℕ) (outcome : Outcome) (line bytes : List ℕ) (f g : Option Files) (w v : Option (List ℕ)) (d : IsDocumentAnswered words document outcome f g)
-    → line ≡ line_text outcome.verdict outcome.path → bytes ≡ encode_utf8_all line → ((x : List ℕ) → w ≡ Some x → HoldsFront bytes x v) → LineFails words document f g w v
+    → line ≡ line_text outcome.verdict outcome.path → bytes ≡ encode_utf8_all line → ((x : List ℕ) → w ≡ Some x → HoldsFront bytes x v) → LineFails words document (outside f w) (outside g v)
 line_fails words document outcome line bytes f g w v d told encoded wrote = record {
   answer = d.answer;
   reads = d.reads;

@@ -9,6 +9,7 @@ pub use Rattle.snap_assert.specs.Steps.{asked_path, verdict_of, is_failure}
 pub use Rattle.snap_assert.specs.declared.outcome.Outcome.{Outcome}
 pub use Rattle.snap_io.specs.Causes.{Rose, Counted, CountedIf, is_fault}
 pub use Rattle.snap_io.specs.Files.{Files}
+pub use Rattle.snap_io.specs.Outside.{Outside, outside}
 pub use Rattle.snap_io.specs.Streams.{HoldsFront}
 pub use Rattle.snap_run_requests.specs.Cut.{documents}
 pub use Rattle.snap_run_requests.specs.Requests.{RequestView, Spells, ReadsAs, Reads}

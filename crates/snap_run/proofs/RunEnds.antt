@@ -1,5 +1,5 @@
 -- What the program's run comes to.
-use Rattle.snap_run.proofs.Prelude.{◌≡◌, ◌≤◌, ◌+◌, ℕ, Bool, true, false, List, Option, None, Some, refl, sym, ap, ◌∙◌, subst, inl, inr, length, arith, Files, RunWords, words_mean, documents, words_of, Stopped, RunCause, Ended, RunsTo, RunsBy, RunsFrom, LengthCause, CountedIf, says_read_fault, says_write_fault, says_file_fault, AreSpelled, IsSteady, EndsWell, status_at, DocumentError, Runner, Status, AllPassed, SomeFailed, BadWords, BadRequest, ReadFault, OutOfMemory, InputTooLong}
+use Rattle.snap_run.proofs.Prelude.{◌≡◌, ◌≤◌, ◌+◌, ℕ, Bool, true, false, List, Option, None, Some, refl, sym, ap, ◌∙◌, subst, inl, inr, length, arith, Outside, RunWords, words_mean, documents, words_of, Stopped, RunCause, Ended, RunsTo, RunsBy, RunsFrom, LengthCause, CountedIf, says_read_fault, says_write_fault, says_file_fault, AreSpelled, IsSteady, EndsWell, status_at, DocumentError, Runner, Status, AllPassed, SomeFailed, BadWords, BadRequest, ReadFault, OutOfMemory, InputTooLong}
 use Rattle.snap_io_streams.specs.Streams.{TakesExactly}
 use Rattle.snap_run.specs.declared.document_error.DocumentError.TheVariants as error
 use Rattle.snap_run.specs.declared.status.Status.TheVariants.{FileIo, WriteFault}
@@ -8,21 +8,21 @@ use Rattle.snap_run.proofs.Completeness.{ends_well, not_rose}
 use Rattle.snap_io_streams.proofs.Pieces.{exactly_long}
 
 -- where the run stops before any document nothing is changed
-pub bad_words : (words : Option RunWords) (left : Option (List ℕ)) (f : Option Files) (w : Option (List ℕ)) → RunsFrom BadWords words left f f w w
-bad_words None left f w = before_all BadWords None left f f w w (λ docs. (refl, refl))
-bad_words (Some said) left f w = before_all BadWords (Some said) left f f w w (λ docs. (refl, refl))
+pub bad_words : (words : Option RunWords) (left : Option (List ℕ)) (o : Outside) → RunsFrom BadWords words left o o
+bad_words None left o = before_all BadWords None left o o (λ docs. (refl, refl))
+bad_words (Some said) left o = before_all BadWords (Some said) left o o (λ docs. (refl, refl))
 
-pub no_memory : (words : Option RunWords) (left : Option (List ℕ)) (f : Option Files) (w : Option (List ℕ)) → RunsFrom OutOfMemory words left f f w w
-no_memory None left f w = before_all OutOfMemory None left f f w w (λ docs. (refl, refl))
-no_memory (Some said) left f w = before_all OutOfMemory (Some said) left f f w w (λ docs. inl (refl, refl))
+pub no_memory : (words : Option RunWords) (left : Option (List ℕ)) (o : Outside) → RunsFrom OutOfMemory words left o o
+no_memory None left o = before_all OutOfMemory None left o o (λ docs. (refl, refl))
+no_memory (Some said) left o = before_all OutOfMemory (Some said) left o o (λ docs. inl (refl, refl))
 
-pub read_fault : (words : Option RunWords) (left : Option (List ℕ)) (f : Option Files) (w : Option (List ℕ)) → RunsFrom ReadFault words left f f w w
-read_fault None left f w = before_all ReadFault None left f f w w (λ docs. (refl, refl))
-read_fault (Some said) left f w = before_all ReadFault (Some said) left f f w w (λ docs. (refl, refl))
+pub read_fault : (words : Option RunWords) (left : Option (List ℕ)) (o : Outside) → RunsFrom ReadFault words left o o
+read_fault None left o = before_all ReadFault None left o o (λ docs. (refl, refl))
+read_fault (Some said) left o = before_all ReadFault (Some said) left o o (λ docs. (refl, refl))
 
-pub too_long : (words : Option RunWords) (left : Option (List ℕ)) (f : Option Files) (w : Option (List ℕ)) → RunsFrom InputTooLong words left f f w w
-too_long None left f w = before_all InputTooLong None left f f w w (λ docs. (refl, refl))
-too_long (Some said) left f w = before_all InputTooLong (Some said) left f f w w (λ docs. (refl, refl))
+pub too_long : (words : Option RunWords) (left : Option (List ℕ)) (o : Outside) → RunsFrom InputTooLong words left o o
+too_long None left o = before_all InputTooLong None left o o (λ docs. (refl, refl))
+too_long (Some said) left o = before_all InputTooLong (Some said) left o o (λ docs. (refl, refl))
 
 said_is : (words : Option RunWords) (runner : Runner) (said : RunWords) → words ≡ Some said → words_of runner ≡ said → words ≡ Some (words_of runner)
 said_is words runner said is same = is ∙ ap Some (sym same)
@@ -32,27 +32,27 @@ abbrev ended_status : Bool → Status
 ended_status true = SomeFailed
 ended_status false = AllPassed
 
-ended_runs : (fails : Bool) (said : RunWords) (docs : List (List ℕ)) (f g : Option Files) (w v : Option (List ℕ)) → Ended fails said docs f g w v → RunsTo (ended_status fails) said docs f g w v
-ended_runs true said docs f g w v e = e
-ended_runs false said docs f g w v e = e
+ended_runs : (fails : Bool) (said : RunWords) (docs : List (List ℕ)) (a b : Outside) → Ended fails said docs a b → RunsTo (ended_status fails) said docs a b
+ended_runs true said docs a b e = e
+ended_runs false said docs a b e = e
 
 -- the run came to its end
-pub finished : (fails found : Bool) (words : Option RunWords) (runner : Runner) (said : RunWords) (bytes : List ℕ) (left : Option (List ℕ)) (f g : Option Files) (w v : Option (List ℕ))
+pub finished : (fails found : Bool) (words : Option RunWords) (runner : Runner) (said : RunWords) (bytes : List ℕ) (left : Option (List ℕ)) (a b : Outside)
     → found ≡ fails → words ≡ Some said → words_of runner ≡ said → ((xs : List ℕ) → left ≡ Some xs → bytes ≡ xs)
-    → Ended found (words_of runner) (documents bytes) f g w v
-    → RunsFrom (ended_status fails) words left f g w v
-finished fails found words runner said bytes left f g w v found_is is same told ended =
-    let Runs : Option RunWords → Type 0 = λ o. RunsFrom (ended_status fails) o left f g w v in
+    → Ended found (words_of runner) (documents bytes) a b
+    → RunsFrom (ended_status fails) words left a b
+finished fails found words runner said bytes left a b found_is is same told ended =
+    let Runs : Option RunWords → Type 0 = λ o. RunsFrom (ended_status fails) o left a b in
     subst Runs (sym (said_is words runner said is same)) (record {
       input = bytes;
       told = told;
-      runs = ended_runs fails (words_of runner) (documents bytes) f g w v (subst (λ b. Ended b (words_of runner) (documents bytes) f g w v) found_is ended);
+      runs = ended_runs fails (words_of runner) (documents bytes) a b (subst (λ so. Ended so (words_of runner) (documents bytes) a b) found_is ended);
     })
 
 -- what holds of each status that tells of a document, holds of the status at which a run stopped
-pub of_stopped : (P : Status → Type 0) (status : Status) (words : RunWords) (docs : List (List ℕ)) (f g : Option Files) (w v : Option (List ℕ)) → Stopped status words docs f g w v
+pub of_stopped : (P : Status → Type 0) (status : Status) (words : RunWords) (docs : List (List ℕ)) (a b : Outside) → Stopped status words docs a b
     → ((n : ℕ) → P (BadRequest n)) → ((n : ℕ) (path : List ℕ) → P (FileIo n path)) → P WriteFault → P OutOfMemory → P status
-of_stopped P status words docs f g w v s bad file write memory = subst P (sym s.status_is) (of_error (length s.done + 1) s.error)
+of_stopped P status words docs a b s bad file write memory = subst P (sym s.status_is) (of_error (length s.done + 1) s.error)
   where
     of_error : (n : ℕ) (e : DocumentError) → P (status_at n e)
     of_error n error.NoRequest = bad n
@@ -61,28 +61,28 @@ of_stopped P status words docs f g w v s bad file write memory = subst P (sym s.
     of_error n error.OutOfMemory = memory
 
 -- the run stopped at a document
-pub stopped : (status : Status) (words : Option RunWords) (runner : Runner) (said : RunWords) (bytes : List ℕ) (left : Option (List ℕ)) (f g : Option Files) (w v : Option (List ℕ))
+pub stopped : (status : Status) (words : Option RunWords) (runner : Runner) (said : RunWords) (bytes : List ℕ) (left : Option (List ℕ)) (a b : Outside)
     → words ≡ Some said → words_of runner ≡ said → ((xs : List ℕ) → left ≡ Some xs → bytes ≡ xs)
-    → Stopped status (words_of runner) (documents bytes) f g w v
-    → RunsFrom status words left f g w v
-stopped status words runner said bytes left f g w v is same told s =
-    let Runs : Option RunWords → Type 0 = λ o. RunsFrom status o left f g w v in
-    let To : Status → Type 0 = λ x. Stopped x (words_of runner) (documents bytes) f g w v → RunsTo x (words_of runner) (documents bytes) f g w v in
+    → Stopped status (words_of runner) (documents bytes) a b
+    → RunsFrom status words left a b
+stopped status words runner said bytes left a b is same told s =
+    let Runs : Option RunWords → Type 0 = λ o. RunsFrom status o left a b in
+    let To : Status → Type 0 = λ x. Stopped x (words_of runner) (documents bytes) a b → RunsTo x (words_of runner) (documents bytes) a b in
     subst Runs (sym (said_is words runner said is same)) (record {
       input = bytes;
       told = told;
-      runs = of_stopped To status (words_of runner) (documents bytes) f g w v s (λ n r. r) (λ n path r. r) (λ r. r) (λ r. inr r) s;
+      runs = of_stopped To status (words_of runner) (documents bytes) a b s (λ n r. r) (λ n path r. r) (λ r. r) (λ r. inr r) s;
     })
 
 -- without faults, a run over documents that spell requests ends well
-pub complete : (status : Status) (words : List (List ℕ)) (limit : ℕ) (left left' : Option (List ℕ)) (sb sn kb kn fb fn : ℕ) (f g : Option Files) (w v : Option (List ℕ))
-    → RunCause words status → RunsFrom status (words_mean words) left f g w v → LengthCause limit left left' status → CountedIf (says_read_fault status) sb sn → CountedIf (says_write_fault status) kb kn → CountedIf (says_file_fault status) fb fn
+pub complete : (status : Status) (words : List (List ℕ)) (limit : ℕ) (left left' : Option (List ℕ)) (sb sn kb kn fb fn : ℕ) (a b : Outside)
+    → RunCause words status → RunsFrom status (words_mean words) left a b → LengthCause limit left left' status → CountedIf (says_read_fault status) sb sn → CountedIf (says_write_fault status) kb kn → CountedIf (says_file_fault status) fb fn
     → (input : List ℕ) (said : RunWords) → left ≡ Some input → words_mean words ≡ Some said → AreSpelled (documents input) → length input ≤ limit
     → IsSteady sb sn → IsSteady kb kn → IsSteady fb fn → EndsWell status
-complete status words limit left left' sb sn kb kn fb fn f g w v by_words run by_length by_source by_sink by_store input said told is spelled within source sink store =
+complete status words limit left left' sb sn kb kn fb fn a b by_words run by_length by_source by_sink by_store input said told is spelled within source sink store =
     let spelled_run : AreSpelled (documents run.input) = subst (λ x. AreSpelled (documents x)) (sym (run.told input told)) spelled in
-    let To : Option RunWords → Type 0 = λ o. RunsBy status o (documents run.input) f g w v in
-    ends_well status said (documents run.input) f g w v spelled_run (subst To is run.runs)
+    let To : Option RunWords → Type 0 = λ o. RunsBy status o (documents run.input) a b in
+    ends_well status said (documents run.input) a b spelled_run (subst To is run.runs)
     (λ e. let none : words_mean words ≡ None = subst (RunCause words) e by_words in let clash = sym none ∙ is in cc clash)
     (λ n p e. not_rose fb fn store (subst (λ s. CountedIf (says_file_fault s) fb fn) e by_store))
     (λ e. not_rose sb sn source (subst (λ s. CountedIf (says_read_fault s) sb sn) e by_source))

@@ -1,5 +1,5 @@
 -- What a whole run keeps.
-use Rattle.snap_run.proofs.Prelude.{◌≡◌, inl, inr, ℕ, false, List, [], ◌∷◌, ◌++◌, Option, None, Some, refl, sym, ◌∙◌, ap, subst, get, Files, Answer, RunWords, asked_by, requests_of, step_of, files_after, documents, Keeps, IsKeptOrGone, is_written, may_change, RequestView, Reads, Ran, Stopped, StopsAt, IsInWork, MemoryFails, LineFails, RunsTo, RunsBy, RunsFrom, DocumentError, Status, gone_after, step_keeps}
+use Rattle.snap_run.proofs.Prelude.{◌≡◌, inl, inr, ℕ, false, List, [], ◌∷◌, ◌++◌, Option, None, Some, refl, sym, ◌∙◌, ap, subst, get, Files, Outside, Answer, RunWords, asked_by, requests_of, step_of, files_after, documents, Keeps, IsKeptOrGone, is_written, may_change, RequestView, Reads, Ran, Stopped, StopsAt, IsInWork, MemoryFails, LineFails, RunsTo, RunsBy, RunsFrom, DocumentError, Status, gone_after, step_keeps}
 use Rattle.std.proofs.lemmas.List.Elements.{All-head, All-tail, All-cons, All-nil}
 use Rattle.std.specs.List.{All}
 use Rattle.snap_content.proofs.Booleans.{some_same}
@@ -55,8 +55,8 @@ then_read (d ∷ done) document later (r ∷ rs) last reads read = (reads.0, the
 same_keeps : (words : RunWords) (docs : List (List ℕ)) (f g : Option Files) → g ≡ f → KeptByRun (Some words) docs f g
 same_keeps words docs f g same m told = record { requests = []; read = tt; files = m; told = same ∙ told; unwritten = λ q h. inl refl; others = λ q h. refl }
 
-ran_keeps : (words : RunWords) (docs : List (List ℕ)) (answers : List Answer) (f g : Option Files) (w v : Option (List ℕ)) → Ran words docs answers f g w v → KeptByRun (Some words) docs f g
-ran_keeps words docs answers f g w v r m told = record {
+ran_keeps : (words : RunWords) (docs : List (List ℕ)) (answers : List Answer) (a b : Outside) → Ran words docs answers a b → KeptByRun (Some words) docs a.files b.files
+ran_keeps words docs answers a b r m told = record {
   requests = requests_of answers;
   read = all_read docs (requests_of answers) r.reads;
   files = files_after words answers m;
@@ -81,8 +81,8 @@ memory_keeps : (words : RunWords) (document : List ℕ) (f g : Option Files) →
 memory_keeps words document f g (inl same) = same_keeps words (document ∷ []) f g same
 memory_keeps words document f g (inr work) = work_keeps words document f g work
 
-line_keeps : (words : RunWords) (document : List ℕ) (f g : Option Files) (w v : Option (List ℕ)) → LineFails words document f g w v → KeptByRun (Some words) (document ∷ []) f g
-line_keeps words document f g w v s m told = record {
+line_keeps : (words : RunWords) (document : List ℕ) (a b : Outside) → LineFails words document a b → KeptByRun (Some words) (document ∷ []) a.files b.files
+line_keeps words document a b s m told = record {
   requests = s.answer.request ∷ [];
   read = (s.reads, tt);
   files = step_of words s.answer m;
@@ -91,11 +91,11 @@ line_keeps words document f g w v s m told = record {
   others = λ q h. step_other words s.answer m q (All-head (IsSpared words may_change q) s.answer.request [] h);
 }
 
-stop_keeps : (words : RunWords) (e : DocumentError) (document : List ℕ) (f g : Option Files) (w v : Option (List ℕ)) → StopsAt words e document f g w v → KeptByRun (Some words) (document ∷ []) f g
-stop_keeps words error.NoRequest document f g w v s = same_keeps words (document ∷ []) f g s.0
-stop_keeps words (error.FileIo named) document f g w v s = work_keeps words document f g s.1.work
-stop_keeps words error.WriteFault document f g w v s = line_keeps words document f g w v s
-stop_keeps words error.OutOfMemory document f g w v s = memory_keeps words document f g s.1
+stop_keeps : (words : RunWords) (e : DocumentError) (document : List ℕ) (a b : Outside) → StopsAt words e document a b → KeptByRun (Some words) (document ∷ []) a.files b.files
+stop_keeps words error.NoRequest document a b s = same_keeps words (document ∷ []) a.files b.files s.0
+stop_keeps words (error.FileIo named) document a b s = work_keeps words document a.files b.files s.1.work
+stop_keeps words error.WriteFault document a b s = line_keeps words document a b s
+stop_keeps words error.OutOfMemory document a b s = memory_keeps words document a.files b.files s.1
 
 all_front : (P : RequestView → Type 0) (xs ys : List RequestView) → All P (xs ++ ys) → All P xs
 all_front P [] ys h = All-nil P
@@ -106,11 +106,11 @@ all_back P [] ys h = h
 all_back P (x ∷ xs) ys h = all_back P xs ys (All-tail P x (xs ++ ys) h)
 
 -- the documents before the one that stopped the run, and then that one
-stopped_keeps : (words : RunWords) (end : Status) (docs : List (List ℕ)) (f g : Option Files) (w v : Option (List ℕ)) → Stopped end words docs f g w v → KeptByRun (Some words) docs f g
-stopped_keeps words end docs f g w v s m told =
+stopped_keeps : (words : RunWords) (end : Status) (docs : List (List ℕ)) (a b : Outside) → Stopped end words docs a b → KeptByRun (Some words) docs a.files b.files
+stopped_keeps words end docs a b s m told =
     let before = requests_of s.answers in
     let middle = files_after words s.answers m in
-    let last = stop_keeps words s.error s.document s.between g s.sent v s.stops middle (s.ran.stands m told) in
+    let last = stop_keeps words s.error s.document s.between b s.stops middle (s.ran.stands m told) in
     record {
       requests = before ++ last.requests;
       read = subst (λ d. AreRead d (before ++ last.requests)) (sym s.cut) (then_read s.done s.document s.later before last.requests s.ran.reads last.read);
@@ -125,24 +125,24 @@ stopped_keeps words end docs f g w v s m told =
     }
 
 -- whatever the status is
-runs_keep : (words : RunWords) (end : Status) (docs : List (List ℕ)) (f g : Option Files) (w v : Option (List ℕ)) → RunsTo end words docs f g w v → KeptByRun (Some words) docs f g
-runs_keep words status.AllPassed docs f g w v r = ran_keeps words docs r.answers f g w v r.ran
-runs_keep words status.SomeFailed docs f g w v r = ran_keeps words docs r.answers f g w v r.ran
-runs_keep words status.BadWords docs f g w v r = same_keeps words docs f g r.0
-runs_keep words (status.BadRequest n) docs f g w v r = stopped_keeps words (status.BadRequest n) docs f g w v r
-runs_keep words (status.Refused n kind) docs f g w v r = absurd r
-runs_keep words (status.FileIo n path) docs f g w v r = stopped_keeps words (status.FileIo n path) docs f g w v r
-runs_keep words status.ReadFault docs f g w v r = same_keeps words docs f g r.0
-runs_keep words status.WriteFault docs f g w v r = stopped_keeps words status.WriteFault docs f g w v r
-runs_keep words status.OutOfMemory docs f g w v (inl r) = same_keeps words docs f g r.0
-runs_keep words status.OutOfMemory docs f g w v (inr r) = stopped_keeps words status.OutOfMemory docs f g w v r
-runs_keep words status.InputTooLong docs f g w v r = same_keeps words docs f g r.0
+runs_keep : (words : RunWords) (end : Status) (docs : List (List ℕ)) (a b : Outside) → RunsTo end words docs a b → KeptByRun (Some words) docs a.files b.files
+runs_keep words status.AllPassed docs a b r = ran_keeps words docs r.answers a b r.ran
+runs_keep words status.SomeFailed docs a b r = ran_keeps words docs r.answers a b r.ran
+runs_keep words status.BadWords docs a b r = same_keeps words docs a.files b.files r.0
+runs_keep words (status.BadRequest n) docs a b r = stopped_keeps words (status.BadRequest n) docs a b r
+runs_keep words (status.Refused n kind) docs a b r = absurd r
+runs_keep words (status.FileIo n path) docs a b r = stopped_keeps words (status.FileIo n path) docs a b r
+runs_keep words status.ReadFault docs a b r = same_keeps words docs a.files b.files r.0
+runs_keep words status.WriteFault docs a b r = stopped_keeps words status.WriteFault docs a b r
+runs_keep words status.OutOfMemory docs a b (inl r) = same_keeps words docs a.files b.files r.0
+runs_keep words status.OutOfMemory docs a b (inr r) = stopped_keeps words status.OutOfMemory docs a b r
+runs_keep words status.InputTooLong docs a b r = same_keeps words docs a.files b.files r.0
 
-by_words : (words : Option RunWords) (end : Status) (docs : List (List ℕ)) (f g : Option Files) (w v : Option (List ℕ)) → RunsBy end words docs f g w v → KeptByRun words docs f g
-by_words None end docs f g w v r = r.0
-by_words (Some words) end docs f g w v r = runs_keep words end docs f g w v r
+by_words : (words : Option RunWords) (end : Status) (docs : List (List ℕ)) (a b : Outside) → RunsBy end words docs a b → KeptByRun words docs a.files b.files
+by_words None end docs a b r = r.0
+by_words (Some words) end docs a b r = runs_keep words end docs a b r
 
-pub run_keeps : (end : Status) (words : Option RunWords) (left : Option (List ℕ)) (input : List ℕ) (f g : Option Files) (w v : Option (List ℕ)) → RunsFrom end words left f g w v → left ≡ Some input
-    → KeptByRun words (documents input) f g
-run_keeps end words left input f g w v r told =
-    subst (λ t. KeptByRun words (documents t) f g) (r.told input told) (by_words words end (documents r.input) f g w v r.runs)
+pub run_keeps : (end : Status) (words : Option RunWords) (left : Option (List ℕ)) (input : List ℕ) (a b : Outside) → RunsFrom end words left a b → left ≡ Some input
+    → KeptByRun words (documents input) a.files b.files
+run_keeps end words left input a b r told =
+    subst (λ t. KeptByRun words (documents t) a.files b.files) (r.told input told) (by_words words end (documents r.input) a b r.runs)

@@ -1,5 +1,5 @@
 -- How a run over documents goes on from one to the next.
-use Rattle.snap_run.proofs.Prelude.{◌≡◌, ◌||◌, Bool, true, false, ℕ, ◌+◌, List, [], ◌∷◌, ◌++◌, length, take, drop, Option, Some, refl, sym, ◌∙◌, ap, subst, arith, append_assoc, length-append, append-nil, Files, documents, RequestView, Reads, Answer, RunWords, step_of, line_of, requests_of, AreAllowed, files_after, lines_of, answer_fails, some_fails, Ran, RanOne, Stopped, StopsAt, Ended, status_at, DocumentError, Status}
+use Rattle.snap_run.proofs.Prelude.{◌≡◌, ◌||◌, Bool, true, false, ℕ, ◌+◌, List, [], ◌∷◌, ◌++◌, length, take, drop, Option, Some, refl, sym, ◌∙◌, ap, subst, arith, append_assoc, length-append, append-nil, Files, Outside, documents, RequestView, Reads, Answer, RunWords, step_of, line_of, requests_of, AreAllowed, files_after, lines_of, answer_fails, some_fails, Ran, RanOne, Stopped, StopsAt, Ended, status_at, DocumentError, Status}
 
 requests_of-append : (a b : List Answer) → requests_of (a ++ b) ≡ requests_of a ++ requests_of b
 requests_of-append [] b = refl
@@ -23,16 +23,16 @@ lines_of-append : (words : RunWords) (a b : List Answer) → lines_of words (a +
 lines_of-append words [] b = refl
 lines_of-append words (x ∷ a) b = ap (λ t. line_of words x ++ t) (lines_of-append words a b) ∙ sym (append_assoc (line_of words x) (lines_of words a) (lines_of words b))
 
-pub nothing_run : (words : RunWords) (f : Option Files) (w : Option (List ℕ)) → Ran words [] [] f f w w
-nothing_run words f w = record { reads = tt; allowed = λ m e. tt; stands = λ m e. e; lines = λ x e. e ∙ ap Some (sym (append-nil x)) }
+pub nothing_run : (words : RunWords) (o : Outside) → Ran words [] [] o o
+nothing_run words o = record { reads = tt; allowed = λ m e. tt; stands = λ m e. e; lines = λ x e. e ∙ ap Some (sym (append-nil x)) }
 
 -- one run and then another
-pub Ran-append : (words : RunWords) (ds es : List (List ℕ)) (a b : List Answer) (f g h : Option Files) (w v u : Option (List ℕ)) → Ran words ds a f g w v → Ran words es b g h v u → Ran words (ds ++ es) (a ++ b) f h w u
-Ran-append words ds es a b f g h w v u p q = record {
+pub Ran-append : (words : RunWords) (ds es : List (List ℕ)) (a b : List Answer) (x y z : Outside) → Ran words ds a x y → Ran words es b y z → Ran words (ds ++ es) (a ++ b) x z
+Ran-append words ds es a b x y z p q = record {
   reads = subst (Reads (ds ++ es)) (sym (requests_of-append a b)) (Reads-append ds es (requests_of a) (requests_of b) p.reads q.reads);
   allowed = λ m e. AreAllowed-append words a b m (p.allowed m e) (q.allowed (files_after words a m) (p.stands m e));
   stands = λ m e. q.stands (files_after words a m) (p.stands m e) ∙ ap Some (sym (files_after-append words a b m));
-  lines = λ x e. q.lines (x ++ lines_of words a) (p.lines x e) ∙ ap Some (append_assoc x (lines_of words a) (lines_of words b) ∙ ap (λ t. x ++ t) (sym (lines_of-append words a b)));
+  lines = λ w e. q.lines (w ++ lines_of words a) (p.lines w e) ∙ ap Some (append_assoc w (lines_of words a) (lines_of words b) ∙ ap (λ t. w ++ t) (sym (lines_of-append words a b)));
 }
 
 some_fails-append : (words : RunWords) (a b : List Answer) → some_fails words (a ++ b) ≡ (some_fails words a || some_fails words b)
@@ -54,39 +54,39 @@ one_more_fails words answers answer fails failed before now =
     alone false = refl
 
 -- n documents of all were run, and these bytes are left
-pub record IsRun (words : RunWords) (all : List (List ℕ)) (rest : List ℕ) (n : ℕ) (fails : Bool) (files files' : Option Files) (written written' : Option (List ℕ)) : Type 0 where
+pub record IsRun (words : RunWords) (all : List (List ℕ)) (rest : List ℕ) (n : ℕ) (fails : Bool) (before after : Outside) : Type 0 where
   pub done : List (List ℕ)
   pub answers : List Answer
   pub cut : all ≡ done ++ documents rest
   pub number : n ≡ length done
-  pub ran : Ran words done answers files files' written written'
+  pub ran : Ran words done answers before after
   pub failing : some_fails words answers ≡ fails
 
-pub begins : (words : RunWords) (input : List ℕ) (f : Option Files) (w : Option (List ℕ)) → IsRun words (documents input) input 0 false f f w w
-begins words input f w = record { done = []; answers = []; cut = refl; number = refl; ran = nothing_run words f w; failing = refl }
+pub begins : (words : RunWords) (input : List ℕ) (o : Outside) → IsRun words (documents input) input 0 false o o
+begins words input o = record { done = []; answers = []; cut = refl; number = refl; ran = nothing_run words o; failing = refl }
 
-pub goes_on : (words : RunWords) (all : List (List ℕ)) (rest d later : List ℕ) (n : ℕ) (fails failed : Bool) (f g h : Option Files) (w v u : Option (List ℕ))
-    → documents rest ≡ d ∷ documents later → IsRun words all rest n fails f g w v → RanOne words d failed g h v u → IsRun words all later (n + 1) (fails || failed) f h w u
-goes_on words all rest d later n fails failed f g h w v u first r q = record {
+pub goes_on : (words : RunWords) (all : List (List ℕ)) (rest d later : List ℕ) (n : ℕ) (fails failed : Bool) (x y z : Outside)
+    → documents rest ≡ d ∷ documents later → IsRun words all rest n fails x y → RanOne words d failed y z → IsRun words all later (n + 1) (fails || failed) x z
+goes_on words all rest d later n fails failed x y z first r q = record {
   done = r.done ++ d ∷ [];
   answers = r.answers ++ q.answer ∷ [];
   cut = r.cut ∙ ap (λ t. r.done ++ t) first ∙ sym (append_assoc r.done (d ∷ []) (documents later));
   number = omega (arith, r.number, length-append r.done (d ∷ []));
-  ran = Ran-append words r.done (d ∷ []) r.answers (q.answer ∷ []) f g h w v u r.ran q.ran;
+  ran = Ran-append words r.done (d ∷ []) r.answers (q.answer ∷ []) x y z r.ran q.ran;
   failing = one_more_fails words r.answers q.answer fails failed r.failing q.failing;
 }
 
-pub ends : (words : RunWords) (all : List (List ℕ)) (rest : List ℕ) (n : ℕ) (fails : Bool) (f g : Option Files) (w v : Option (List ℕ)) → length rest ≡ 0 → IsRun words all rest n fails f g w v → Ended fails words all f g w v
-ends words all [] n fails f g w v none r = record {
+pub ends : (words : RunWords) (all : List (List ℕ)) (rest : List ℕ) (n : ℕ) (fails : Bool) (x y : Outside) → length rest ≡ 0 → IsRun words all rest n fails x y → Ended fails words all x y
+ends words all [] n fails x y none r = record {
   answers = r.answers;
-  ran = subst (λ ds. Ran words ds r.answers f g w v) (sym (r.cut ∙ append-nil r.done)) r.ran;
+  ran = subst (λ ds. Ran words ds r.answers x y) (sym (r.cut ∙ append-nil r.done)) r.ran;
   failing = r.failing;
 }
-ends words all (b ∷ rest) n fails f g w v none r = absurd (omega arith)
+ends words all (b ∷ rest) n fails x y none r = absurd (omega arith)
 
-pub stops : (words : RunWords) (all : List (List ℕ)) (rest d later : List ℕ) (n : ℕ) (fails : Bool) (e : DocumentError) (status : Status) (f g h : Option Files) (w v u : Option (List ℕ))
-    → documents rest ≡ d ∷ documents later → IsRun words all rest n fails f g w v → StopsAt words e d g h v u → status ≡ status_at (n + 1) e → Stopped status words all f h w u
-stops words all rest d later n fails e status f g h w v u first r s is = record {
+pub stops : (words : RunWords) (all : List (List ℕ)) (rest d later : List ℕ) (n : ℕ) (fails : Bool) (e : DocumentError) (status : Status) (x y z : Outside)
+    → documents rest ≡ d ∷ documents later → IsRun words all rest n fails x y → StopsAt words e d y z → status ≡ status_at (n + 1) e → Stopped status words all x z
+stops words all rest d later n fails e status x y z first r s is = record {
   done = r.done;
   document = d;
   later = documents later;
@@ -94,8 +94,7 @@ stops words all rest d later n fails e status f g h w v u first r s is = record 
   error = e;
   status_is = is ∙ ap (λ k. status_at (k + 1) e) r.number;
   answers = r.answers;
-  between = g;
-  sent = v;
+  between = y;
   ran = r.ran;
   stops = s;
 }

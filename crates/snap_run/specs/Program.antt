@@ -1,6 +1,6 @@
 -- What the system sees of a run.
 use Rattle.std.specs.Prelude.{◌≡◌, ◌⊎◌, ℕ, Bool, true, false, List, [], ◌∷◌, ◌++◌, Option, None, Some, encode_utf8_all}
-use Rattle.snap_io.specs.Files.{Files}
+use Rattle.snap_io.specs.Outside.{Outside, Given}
 use Rattle.snap_io.specs.Streams.{HoldsFront}
 use Rattle.snap_run.specs.Answers.{words_mean, text_asked}
 use Rattle.snap_run.specs.Describe.{code_of, description}
@@ -24,25 +24,25 @@ tells_document _ = false
 -- what standard error was told: the message, or a part of its front where the sink failed; or nothing, where there was no memory for
 -- the message of a document
 pub record IsSaid (status : Status) (before now : ℕ) (written written' : Option (List ℕ)) : Type 0 where
-  pub front : (w : List ℕ) → written ≡ Some w → HoldsFront (message status) w written'
+  pub front : Given written (λ w. HoldsFront (message status) w written')
   pub whole : (w : List ℕ) → written ≡ Some w → IsSteady before now → (written' ≡ Some (w ++ message status)) ⊎ ((tells_document status ≡ true) × (written' ≡ Some w))
 
 -- the run of these words ended with this status
-pub record IsRunOf (words : List (List ℕ)) (status : Status) (left : Option (List ℕ)) (files files' : Option Files) (written written' : Option (List ℕ)) : Type 0 where
+pub record IsRunOf (words : List (List ℕ)) (status : Status) (left : Option (List ℕ)) (before after : Outside) : Type 0 where
   pub words_cause : WordsCause words status
-  pub told : (text : List ℕ) → text_asked words ≡ Some text → IsTold text status written written'
-  pub runs : text_asked words ≡ None → RunsFrom status (words_mean words) left files files' written written'
+  pub told : (text : List ℕ) → text_asked words ≡ Some text → IsTold text status before.written after.written
+  pub runs : text_asked words ≡ None → RunsFrom status (words_mean words) left before after
 
 -- there was no memory for the words, and nothing was begun
-pub record IsNotBegun (status : Status) (files files' : Option Files) (written written' : Option (List ℕ)) : Type 0 where
+pub record IsNotBegun (status : Status) (before after : Outside) : Type 0 where
   pub memory : status ≡ OutOfMemory
-  pub files_same : files' ≡ files
-  pub written_same : written' ≡ written
+  pub files_same : after.files ≡ before.files
+  pub written_same : after.written ≡ before.written
 
 -- how the program ended: with the exit status of one status, which is that of the run of its words
-pub record Ends (code : ℕ) (words : List (List ℕ)) (left : Option (List ℕ)) (files files' : Option Files) (written written' : Option (List ℕ))
-    (before now : ℕ) (errors errors' : Option (List ℕ)) : Type 0 where
+pub record Ends (code : ℕ) (words : List (List ℕ)) (left : Option (List ℕ)) (before after : Outside)
+    (faults faults' : ℕ) (errors errors' : Option (List ℕ)) : Type 0 where
   pub status : Status
   pub code_is : code ≡ code_of status
-  pub run : IsRunOf words status left files files' written written' ⊎ IsNotBegun status files files' written written'
-  pub said : IsSaid status before now errors errors'
+  pub run : IsRunOf words status left before after ⊎ IsNotBegun status before after
+  pub said : IsSaid status faults faults' errors errors'

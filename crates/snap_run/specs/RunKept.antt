@@ -3,6 +3,7 @@ use Rattle.std.specs.Prelude.{◌≡◌, ℕ, Bool, false, List, [], ◌∷◌, 
 use Rattle.std.specs.FinMap.{get}
 use Rattle.std.specs.List.{All}
 use Rattle.snap_io.specs.Files.{Files}
+use Rattle.snap_io.specs.Outside.{Given}
 use Rattle.snap_run.specs.Answers.{RunWords, asked_by}
 use Rattle.snap_assert.specs.Kept.{IsKeptOrGone, is_written, may_change}
 use Rattle.snap_run_requests.specs.Requests.{RequestView, ReadsAs}
@@ -31,4 +32,4 @@ pub record RunKeeps (words : RunWords) (documents : List (List ℕ)) (m : Files)
 -- what a whole run keeps; without words of a run nothing is changed
 abbrev pub KeptByRun : Option RunWords → List (List ℕ) → Option Files → Option Files → Type 0
 KeptByRun None documents files files' = files' ≡ files
-KeptByRun (Some words) documents files files' = (m : Files) → files ≡ Some m → RunKeeps words documents m files'
+KeptByRun (Some words) documents files files' = Given files (λ m. RunKeeps words documents m files')

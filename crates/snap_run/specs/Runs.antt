@@ -1,6 +1,7 @@
 -- What a run over many documents leaves, and where it stops.
 use Rattle.std.specs.Prelude.{◌≡◌, ◌⊎◌, ℕ, ◌+◌, List, ◌∷◌, ◌++◌, [], Bool, true, false, length, Option, Some}
 use Rattle.snap_io.specs.Files.{Files}
+use Rattle.snap_io.specs.Outside.{Outside, Given, Becomes}
 use Rattle.snap_io.specs.Streams.{HoldsFront}
 use Rattle.snap_run_requests.specs.Requests.{RequestView, Spells, ReadsAs, Reads}
 use Rattle.snap_run.specs.Refused.{status_at}
@@ -14,16 +15,16 @@ use Rattle.snap_run.specs.declared.status.Status.{Status}
 
 -- these documents were run with these answers: each was read as its answer's request, and where the store and the
 -- sink tell, each pass is allowed, the files are those after all steps, and the lines are written
-pub record Ran (words : RunWords) (documents : List (List ℕ)) (answers : List Answer) (files files' : Option Files) (written written' : Option (List ℕ)) : Type 0 where
+pub record Ran (words : RunWords) (documents : List (List ℕ)) (answers : List Answer) (before after : Outside) : Type 0 where
   pub reads : Reads documents (requests_of answers)
-  pub allowed : (m : Files) → files ≡ Some m → AreAllowed words answers m
-  pub stands : (m : Files) → files ≡ Some m → files' ≡ Some (files_after words answers m)
-  pub lines : (w : List ℕ) → written ≡ Some w → written' ≡ Some (w ++ lines_of words answers)
+  pub allowed : Given before.files (λ m. AreAllowed words answers m)
+  pub stands : Becomes before.files after.files (λ m. files_after words answers m)
+  pub lines : Becomes before.written after.written (λ w. w ++ lines_of words answers)
 
 -- the same of one document, and whether its answer fails
-pub record RanOne (words : RunWords) (document : List ℕ) (fails : Bool) (files files' : Option Files) (written written' : Option (List ℕ)) : Type 0 where
+pub record RanOne (words : RunWords) (document : List ℕ) (fails : Bool) (before after : Outside) : Type 0 where
   pub answer : Answer
-  pub ran : Ran words (document ∷ []) (answer ∷ []) files files' written written'
+  pub ran : Ran words (document ∷ []) (answer ∷ []) before after
   pub failing : answer_fails words answer ≡ fails
 
 -- the document's request was in work: what no assertion at its path may change is as before
@@ -38,12 +39,12 @@ pub record FileFails (words : RunWords) (document named : List ℕ) (files files
   pub own : IsOwn words.update (asked_by words work.request).path named
 
 -- the document was run, and a part of its line is written
-pub record LineFails (words : RunWords) (document : List ℕ) (files files' : Option Files) (written written' : Option (List ℕ)) : Type 0 where
+pub record LineFails (words : RunWords) (document : List ℕ) (before after : Outside) : Type 0 where
   pub answer : Answer
   pub reads : ReadsAs document answer.request
-  pub allowed : (m : Files) → files ≡ Some m → IsAllowed words answer m
-  pub stands : (m : Files) → files ≡ Some m → files' ≡ Some (step_of words answer m)
-  pub line : (w : List ℕ) → written ≡ Some w → HoldsFront (line_of words answer) w written'
+  pub allowed : Given before.files (λ m. IsAllowed words answer m)
+  pub stands : Becomes before.files after.files (λ m. step_of words answer m)
+  pub line : Given before.written (λ w. HoldsFront (line_of words answer) w after.written)
 
 -- memory was out: before anything was changed, or in the work on the document's request
 abbrev pub MemoryFails : RunWords → List ℕ → Option Files → Option Files → Type 0
@@ -56,8 +57,8 @@ pub record IsDocumentAnswered (words : RunWords) (document : List ℕ) (outcome 
   pub verdict : outcome.verdict ≡ verdict_of words.update answer.passed
   pub fails : outcome.fails ≡ answer_fails words answer
   pub path : outcome.path ≡ (asked_by words answer.request).path
-  pub allowed : (m : Files) → files ≡ Some m → IsAllowed words answer m
-  pub stands : (m : Files) → files ≡ Some m → files' ≡ Some (step_of words answer m)
+  pub allowed : Given files (λ m. IsAllowed words answer m)
+  pub stands : Becomes files files' (λ m. step_of words answer m)
 
 -- what stands where a document comes to no answer
 abbrev pub AssertionStops : RunWords → DocumentError → List ℕ → Option Files → Option Files → Type 0
@@ -67,14 +68,14 @@ AssertionStops words WriteFault document files files' = ⊥
 AssertionStops words OutOfMemory document files files' = MemoryFails words document files files'
 
 -- what stands where a document stops the run
-abbrev pub StopsAt : RunWords → DocumentError → List ℕ → Option Files → Option Files → Option (List ℕ) → Option (List ℕ) → Type 0
-StopsAt words NoRequest document files files' written written' = (files' ≡ files) × (written' ≡ written) × ((r : RequestView) → Spells document r → ⊥)
-StopsAt words (FileIo named) document files files' written written' = (written' ≡ written) × FileFails words document named files files'
-StopsAt words WriteFault document files files' written written' = LineFails words document files files' written written'
-StopsAt words OutOfMemory document files files' written written' = (written' ≡ written) × MemoryFails words document files files'
+abbrev pub StopsAt : RunWords → DocumentError → List ℕ → Outside → Outside → Type 0
+StopsAt words NoRequest document before after = (after.files ≡ before.files) × (after.written ≡ before.written) × ((r : RequestView) → Spells document r → ⊥)
+StopsAt words (FileIo named) document before after = (after.written ≡ before.written) × FileFails words document named before.files after.files
+StopsAt words WriteFault document before after = LineFails words document before after
+StopsAt words OutOfMemory document before after = (after.written ≡ before.written) × MemoryFails words document before.files after.files
 
 -- the documents before one were run, that one stops the run, and the status tells of it
-pub record Stopped (status : Status) (words : RunWords) (documents : List (List ℕ)) (files files' : Option Files) (written written' : Option (List ℕ)) : Type 0 where
+pub record Stopped (status : Status) (words : RunWords) (documents : List (List ℕ)) (before after : Outside) : Type 0 where
   pub done : List (List ℕ)
   pub document : List ℕ
   pub later : List (List ℕ)
@@ -82,10 +83,9 @@ pub record Stopped (status : Status) (words : RunWords) (documents : List (List 
   pub error : DocumentError
   pub status_is : status ≡ status_at (length done + 1) error
   pub answers : List Answer
-  pub between : Option Files
-  pub sent : Option (List ℕ)
-  pub ran : Ran words done answers files between written sent
-  pub stops : StopsAt words error document between files' sent written'
+  pub between : Outside
+  pub ran : Ran words done answers before between
+  pub stops : StopsAt words error document between after
 
 -- whether it is the store that failed
 abbrev pub is_store_fault : DocumentError → Bool

@@ -1,6 +1,6 @@
 -- What a status says of a whole run.
 use Rattle.std.specs.Prelude.{◌≡◌, ◌⊎◌, ◌≤◌, ◌<◌, ◌-◌, ◌+◌, ◌∷◌, ◌++◌, ◌^◌, ℕ, Bool, true, false, List, [], length, Option, None, Some}
-use Rattle.snap_io.specs.Files.{Files}
+use Rattle.snap_io.specs.Outside.{Outside, Given, Becomes}
 use Rattle.snap_io.specs.Streams.{HoldsFront}
 use Rattle.snap_run_requests.specs.Cut.{documents}
 use Rattle.snap_run_requests.specs.Requests.{RequestView, Spells}
@@ -22,42 +22,42 @@ WordsCause words _ = ((said : RunWords) × (words_mean words ≡ Some said)) ⊎
 
 -- a text that was asked for was written, or a part of its front where the sink failed
 abbrev pub IsTold : List ℕ → Status → Option (List ℕ) → Option (List ℕ) → Type 0
-IsTold text AllPassed written written' = (w : List ℕ) → written ≡ Some w → written' ≡ Some (w ++ text)
-IsTold text WriteFault written written' = (w : List ℕ) → written ≡ Some w → HoldsFront text w written'
+IsTold text AllPassed written written' = Becomes written written' (λ w. w ++ text)
+IsTold text WriteFault written written' = Given written (λ w. HoldsFront text w written')
 IsTold text _ written written' = ⊥
 
-abbrev pub IsUnchanged : Option Files → Option Files → Option (List ℕ) → Option (List ℕ) → Type 0
-IsUnchanged files files' written written' = (files' ≡ files) × (written' ≡ written)
+abbrev pub IsUnchanged : Outside → Outside → Type 0
+IsUnchanged before after = (after.files ≡ before.files) × (after.written ≡ before.written)
 
 -- the run came to its end, and some answer fails or none does
-pub record Ended (fails : Bool) (words : RunWords) (docs : List (List ℕ)) (files files' : Option Files) (written written' : Option (List ℕ)) : Type 0 where
+pub record Ended (fails : Bool) (words : RunWords) (docs : List (List ℕ)) (before after : Outside) : Type 0 where
   pub answers : List Answer
-  pub ran : Ran words docs answers files files' written written'
+  pub ran : Ran words docs answers before after
   pub failing : some_fails words answers ≡ fails
 
 -- what each status says of the documents, the files and the lines
-abbrev pub RunsTo : Status → RunWords → List (List ℕ) → Option Files → Option Files → Option (List ℕ) → Option (List ℕ) → Type 0
-RunsTo AllPassed words docs files files' written written' = Ended false words docs files files' written written'
-RunsTo SomeFailed words docs files files' written written' = Ended true words docs files files' written written'
-RunsTo BadWords words docs files files' written written' = IsUnchanged files files' written written'
-RunsTo (BadRequest n) words docs files files' written written' = Stopped (BadRequest n) words docs files files' written written'
-RunsTo (Refused n kind) words docs files files' written written' = ⊥
-RunsTo (FileIo n path) words docs files files' written written' = Stopped (FileIo n path) words docs files files' written written'
-RunsTo ReadFault words docs files files' written written' = IsUnchanged files files' written written'
-RunsTo WriteFault words docs files files' written written' = Stopped WriteFault words docs files files' written written'
-RunsTo OutOfMemory words docs files files' written written' = IsUnchanged files files' written written' ⊎ Stopped OutOfMemory words docs files files' written written'
-RunsTo InputTooLong words docs files files' written written' = IsUnchanged files files' written written'
+abbrev pub RunsTo : Status → RunWords → List (List ℕ) → Outside → Outside → Type 0
+RunsTo AllPassed words docs before after = Ended false words docs before after
+RunsTo SomeFailed words docs before after = Ended true words docs before after
+RunsTo BadWords words docs before after = IsUnchanged before after
+RunsTo (BadRequest n) words docs before after = Stopped (BadRequest n) words docs before after
+RunsTo (Refused n kind) words docs before after = ⊥
+RunsTo (FileIo n path) words docs before after = Stopped (FileIo n path) words docs before after
+RunsTo ReadFault words docs before after = IsUnchanged before after
+RunsTo WriteFault words docs before after = Stopped WriteFault words docs before after
+RunsTo OutOfMemory words docs before after = IsUnchanged before after ⊎ Stopped OutOfMemory words docs before after
+RunsTo InputTooLong words docs before after = IsUnchanged before after
 
 -- without words of a run nothing is changed
-abbrev pub RunsBy : Status → Option RunWords → List (List ℕ) → Option Files → Option Files → Option (List ℕ) → Option (List ℕ) → Type 0
-RunsBy status None docs files files' written written' = IsUnchanged files files' written written'
-RunsBy status (Some words) docs files files' written written' = RunsTo status words docs files files' written written'
+abbrev pub RunsBy : Status → Option RunWords → List (List ℕ) → Outside → Outside → Type 0
+RunsBy status None docs before after = IsUnchanged before after
+RunsBy status (Some words) docs before after = RunsTo status words docs before after
 
 -- the run is over the bytes that the source had left, where it tells them, and else over some bytes
-pub record RunsFrom (status : Status) (words : Option RunWords) (left : Option (List ℕ)) (files files' : Option Files) (written written' : Option (List ℕ)) : Type 0 where
+pub record RunsFrom (status : Status) (words : Option RunWords) (left : Option (List ℕ)) (before after : Outside) : Type 0 where
   pub input : List ℕ
   pub told : (xs : List ℕ) → left ≡ Some xs → input ≡ xs
-  pub runs : RunsBy status words (documents input) files files' written written'
+  pub runs : RunsBy status words (documents input) before after
 
 -- the source was read to its end, within the limit
 pub record IsReadToEnd (limit : ℕ) (left left' : Option (List ℕ)) : Type 0 where

@@ -1,5 +1,6 @@
 //! One run as the system sees it: words in, lines and a message out, an exit status.
 ghost use Rattle.std.specs.Prelude.{◌≡◌, ◌⊎◌, ◌++◌, ◌∷◌, [], true, IfOk, MatchOption};
+ghost use Rattle.snap_io.specs.Outside.{outside};
 ghost use Rattle.snap_run.specs.Describe.{code_of, description};
 ghost use Rattle.snap_run.specs.Arguments.{arguments_of, words_given};
 ghost use Rattle.snap_run.specs.Program.{IsSaid, IsRunOf, IsNotBegun, Ends, message, tells_document};
@@ -71,9 +72,10 @@ fn run_arguments<S: Source, K: Sink, F: Store>(
     store: &mut F,
 ) -> Status
     ensures { IsRunOf (words_given (arguments_of arguments)) result (S.left source.old)
-        (F.files store.old) (F.files store.new) (K.written sink.old) (K.written sink.new)
-        ⊎ IsNotBegun result (F.files store.old) (F.files store.new) (K.written sink.old)
-        (K.written sink.new) }
+        (outside (F.files store.old) (K.written sink.old))
+        (outside (F.files store.new) (K.written sink.new))
+        ⊎ IsNotBegun result (outside (F.files store.old) (K.written sink.old))
+        (outside (F.files store.new) (K.written sink.new)) }
 {
     match words_in(alloc, arguments) {
         Ok(words) => run(alloc, &words, source, sink, store),
@@ -92,9 +94,9 @@ pub fn program<S: Source, K: Sink, E: Sink, F: Store>(
     store: &mut F,
 ) -> u8
     ensures { Ends result (words_given (arguments_of arguments)) (S.left source.old)
-        (F.files store.old) (F.files store.new)
-        (K.written sink.old) (K.written sink.new) (E.faults errors.old) (E.faults errors.new)
-        (E.written errors.old) (E.written errors.new) }
+        (outside (F.files store.old) (K.written sink.old))
+        (outside (F.files store.new) (K.written sink.new))
+        (E.faults errors.old) (E.faults errors.new) (E.written errors.old) (E.written errors.new) }
 {
     let status = run_arguments(alloc, arguments, source, sink, store);
     conclude(alloc, &status, errors)

@@ -1,6 +1,7 @@
 //! One document, and many in turn.
 ghost use Rattle.std.specs.Prelude.{◌≡◌, ◌<◌, ◌≤◌, ◌^◌, List, ℕ, IfOk, IfErr, length, true};
 ghost use Rattle.snap_io.specs.Causes.{Counted};
+ghost use Rattle.snap_io.specs.Outside.{outside};
 ghost use Rattle.snap_run_requests.specs.Cut.{documents};
 ghost use Rattle.snap_assert_place.specs.Place.{names_file, place_of};
 ghost use Rattle.snap_run.specs.Runner.{IsReady, words_of};
@@ -127,9 +128,11 @@ fn run_document<K: Sink, F: Store>(
 ) -> Result<bool, DocumentError>
     requires { IsReady runner.now }
     ensures ok { IfOk result (λ fails. RanOne (words_of runner.now) document.now fails
-        (F.files store.old) (F.files store.new) (K.written sink.old) (K.written sink.new)) }
+        (outside (F.files store.old) (K.written sink.old))
+        (outside (F.files store.new) (K.written sink.new))) }
     ensures err { IfErr result (λ error. StopsAt (words_of runner.now) error document.now
-        (F.files store.old) (F.files store.new) (K.written sink.old) (K.written sink.new)) }
+        (outside (F.files store.old) (K.written sink.old))
+        (outside (F.files store.new) (K.written sink.new))) }
     ensures store_count { Counted is_store_fault (F.faults store.old) (F.faults store.new) result }
     ensures sink_count { Counted is_sink_fault (K.faults sink.old) (K.faults sink.new) result }
 {
@@ -152,10 +155,11 @@ pub fn run_documents<K: Sink, F: Store>(
     requires ready { IsReady runner.now }
     requires short { length input.now < 2 ^ 63 }
     ensures finished { IfOk result (λ fails. Ended fails (words_of runner.now) (documents input.now)
-        (F.files store.old) (F.files store.new) (K.written sink.old) (K.written sink.new)) }
+        (outside (F.files store.old) (K.written sink.old))
+        (outside (F.files store.new) (K.written sink.new))) }
     ensures stopped { IfErr result (λ status. Stopped status (words_of runner.now)
-        (documents input.now) (F.files store.old) (F.files store.new) (K.written sink.old)
-        (K.written sink.new)) }
+        (documents input.now) (outside (F.files store.old) (K.written sink.old))
+        (outside (F.files store.new) (K.written sink.new))) }
     ensures store_count { Counted says_file_fault (F.faults store.old) (F.faults store.new) result }
     ensures sink_count { Counted says_write_fault (K.faults sink.old) (K.faults sink.new) result }
 {

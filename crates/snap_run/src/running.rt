@@ -1,6 +1,7 @@
 //! All that the program does.
 ghost use Rattle.std.specs.Prelude.{◌≡◌, ◌≤◌, ◌+◌, List, ℕ, None, Some, MatchOption, length, false};
 ghost use Rattle.snap_io.specs.Causes.{CountedIf};
+ghost use Rattle.snap_io.specs.Outside.{outside};
 ghost use Rattle.snap_run_requests.specs.Cut.{documents};
 ghost use Rattle.snap_run.specs.Answers.{RunWords, words_mean, text_asked};
 ghost use Rattle.snap_run.specs.RunKept.{KeptByRun};
@@ -28,7 +29,8 @@ fn run_words<S: Source, K: Sink, F: Store>(
 ) -> Status
     ensures words { RunCause words.now result }
     ensures runs { RunsFrom result (words_mean words.now) (S.left source.old)
-        (F.files store.old) (F.files store.new) (K.written sink.old) (K.written sink.new) }
+        (outside (F.files store.old) (K.written sink.old))
+        (outside (F.files store.new) (K.written sink.new)) }
     ensures length { LengthCause input_limit (S.left source.old) (S.left source.new) result }
     ensures taken { TakesAtMost (input_limit + 1) (S.left source.old) (S.left source.new) }
     ensures read { CountedIf (says_read_fault result) (S.faults source.old) (S.faults source.new) }
@@ -78,7 +80,8 @@ pub fn run<S: Source, K: Sink, F: Store>(
         → (source.new ≡ source.old) × (store.new ≡ store.old) }
     ensures runs { text_asked words.now ≡ None
         → RunsFrom result (words_mean words.now) (S.left source.old)
-        (F.files store.old) (F.files store.new) (K.written sink.old) (K.written sink.new) }
+        (outside (F.files store.old) (K.written sink.old))
+        (outside (F.files store.new) (K.written sink.new)) }
     // Whatever the status is: no file is written but those of the mode, so the approved ones only in place.
     ensures kept { (input : List ℕ) → text_asked words.now ≡ None → S.left source.old ≡ Some input
         → KeptByRun (words_mean words.now) (documents input) (F.files store.old)
