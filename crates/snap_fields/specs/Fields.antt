@@ -23,6 +23,7 @@ line_number _ = None
 abbrev pub tree_line : Tree → Option ℕ
 tree_line t = line_number (whole_number_in (resolved t))
 
+-- the tree is nil, seen inside its wrappers
 abbrev pub is_nil : Tree → Bool
 is_nil t = is_nil_tree (resolved t)
 
@@ -43,9 +44,10 @@ last_in name = last_by (λ key value. is_key name key)
 abbrev pub last_filled_in : List ℕ → TreePairs → Option Tree
 last_filled_in name = last_by (λ key value. is_key name key && not (is_nil value))
 
--- a field of another type is as if it were not there
+-- the text under a name; a field of another type is as if it were not there
 abbrev pub text_at : List ℕ → TreePairs → Option (List ℕ)
 text_at name pairs = option_and_then tree_text (last_in name pairs)
 
+-- the number of a line under a name, which is below 2^32
 abbrev pub line_at : List ℕ → TreePairs → Option ℕ
 line_at name pairs = option_and_then tree_line (last_in name pairs)
