@@ -4,7 +4,7 @@ use crate::columns::add_taken;
 use rows::first_column;
 use snap_assert::Settings;
 use snap_content::{Content, OutOfMemory, Text};
-use snap_select::{ContentPath, FnRedactor, PathItem, Redaction, Redactor, SelectError};
+use snap_select::{ContentPath, FnRedactor, PathItem, Redactor, SelectError};
 use std::alloc::Global;
 
 /// Puts its number in place of each value.
@@ -38,7 +38,7 @@ pub(crate) fn function_line(alloc: Global, selector: &str) -> Result<Text, anyho
             Content::from_str(alloc, "[id]")
         },
     )?);
-    let taken = settings.add_dynamic_redaction(selector, function);
+    let taken = settings.add_fn_redaction(selector, function);
     taken_line(alloc, &settings, taken)
 }
 
@@ -52,7 +52,7 @@ pub(crate) fn depth_line(alloc: Global, selector: &str) -> Result<Text, anyhow::
             Ok(Content::U64(path.len() as u64))
         },
     )?);
-    let taken = settings.add_dynamic_redaction(selector, function);
+    let taken = settings.add_fn_redaction(selector, function);
     taken_line(alloc, &settings, taken)
 }
 
@@ -61,8 +61,8 @@ pub(crate) fn object_line(alloc: Global, columns: &str) -> Result<Text, anyhow::
     let (selector, digits) = first_column(columns);
     let number = digits.parse::<u8>().unwrap_or(0);
     let mut settings = Settings::new(alloc)?;
-    let object = Redaction::Dynamic(Box::new(alloc, Numbered(number))?);
-    let taken = settings.add_redaction(selector, object);
+    let object = Box::new(alloc, Numbered(number))?;
+    let taken = settings.add_dynamic_redaction(selector, object);
     taken_line(alloc, &settings, taken)
 }
 

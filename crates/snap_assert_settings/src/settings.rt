@@ -118,9 +118,26 @@ impl Settings {
         self.redactions.add(alloc, selector, replacement)
     }
 
+    /// Adds a redaction by an object of the caller's at the end: in place of each value that the selector hits stands what the
+    /// object answers. After a refusal and after want of memory the settings are as they were.
+    pub fn add_dynamic_redaction(
+        &mut self,
+        selector: &str,
+        func: Box<dyn Redactor>,
+    ) -> Result<(), SelectError>
+        ensures ok { OnOk result ((parts : Parts) × IsSelector (chars selector.now) parts
+            × (redactions_in self.new
+            ≡ redactions_in self.old ++ redaction_at parts (Redaction.Dynamic func) ∷ [])) }
+        ensures refused { IfErr result (λ e. IsRefused (chars selector.now) e) }
+        ensures err { OnErr result (redactions_in self.new ≡ redactions_in self.old) }
+        ensures others { settings_of self.new ≡ settings_of self.old }
+    {
+        self.add_redaction(selector, Redaction::Dynamic(func))
+    }
+
     /// Adds a redaction by a stored function at the end: in place of each value that the selector hits stands what the
     /// function answers. After a refusal and after want of memory the settings are as they were.
-    pub fn add_dynamic_redaction(
+    pub fn add_fn_redaction(
         &mut self,
         selector: &str,
         function: FnRedactor,
