@@ -1,8 +1,7 @@
 mod Prelude
-mod Sizes
 mod Printing
 mod Magnitudes
-mod PlainRead
+mod Building
 mod ReadBack
 mod LaidTrees
 mod Parsing

@@ -1,5 +1,5 @@
 -- What the documents of a text are read as.
-use Rattle.snap_emit.proofs.Prelude.{◌≡◌, ℕ, Bool, true, false, List, [], ◌∷◌, map, Option, Some, None, option_map, Result, Ok, Err, refl, sym, ap, subst, ◌∙◌, IfOk, IfErr, IsOkAnd, Plain, plain, content_of, IsWithin, tree, Content, value_of, read_value, plain_read, has_number_text, is_number_first}
+use Rattle.snap_emit.proofs.Prelude.{◌≡◌, ℕ, Bool, true, false, List, [], ◌∷◌, map, Option, Some, None, option_map, Result, Ok, Err, refl, sym, ap, subst, ◌∙◌, IfOk, IfErr, IfOk-weaker, IsOkAnd, Plain, plain, content_of, IsWithin, tree, Content, read_value, plain_read, has_number_text, is_number_first}
 use Rattle.std.proofs.Common.{inl, inr}
 use Rattle.std.specs.Prelude.{◌≢◌}
 use Rattle.snap_scan_tokens.specs.Place.{before_nul}
@@ -21,13 +21,19 @@ use Rattle.snap_parse.specs.Loaded.{AreLoadedOf, AreValuesOf}
 use Rattle.snap_parse.specs.TextNodes.{AreNodesOf}
 use Rattle.snap_parse.proofs.OneText.{HasValue, printed-value, json-value, laid-one-value}
 use Rattle.snap_emit.specs.LayoutTrees.{layout_plain, layout_keeps}
+use Rattle.snap_emit.specs.Built.{IsOneOf, IsLoadedFrom, HasBuilt, HoldsLoaded}
+use Rattle.snap_emit.specs.declared.builder.Builder.{Builder}
+use Rattle.snap_parse.proofs.Folds.{stream-steps}
+use Rattle.snap_parse.specs.Steps.{start, steps}
+use Rattle.snap_parse_events.proofs.WholeStreams.{whole-streams}
+use Rattle.snap_parse_events.specs.declared.event.Event.{Event}
+use Rattle.snap_content.specs.declared.memory.OutOfMemory as m
 use Rattle.snap_emit.specs.Parsed.{IsUnspelled, RefusalEnd, IsErrorOf, IsRefusalIn}
-use Rattle.snap_emit.specs.Readings.{is_aliased, IsDocument, IsLoadedOf, IsTreeOf, IsHeaderTreeOf, IsOnly, IsOfStream, IsReasonOf, IsHeaderReasonOf, IsReasonIn, IsNoDocument, IsTreeIn, IsHeaderIn, IsStrict, IsLenient}
+use Rattle.snap_emit.specs.Readings.{is_aliased, IsLoadedOf, IsLoadedIn, IsTreeOf, IsHeaderTreeOf, IsOnly, IsOfStream, IsReasonOf, IsHeaderReasonOf, IsReasonIn, IsNoDocument, IsTreeIn, IsHeaderIn, IsStrict, IsLenient}
 use Rattle.snap_emit.specs.Spelled.{SpellsHeader, IsPrintedOf, IsTextOf, IsHeaderOf}
 use Rattle.snap_content.specs.declared.error.Error.{Error}
 use Rattle.snap_content.specs.declared.error.Error.TheVariants.{FailedParsingYaml, UnexpectedDataType, MissingField, FileIo, FloatText, JsonKey, NotText, NoFile, OutOfMemory}
 use Rattle.snap_emit.specs.declared.loaded.Loaded.{Loaded}
-use Rattle.snap_emit.specs.declared.loaded.OneDocument.{OneDocument}
 use Rattle.snap_emit.specs.declared.reading.Header.{Header}
 use Rattle.snap_emit.specs.declared.refusal.Refusal.{Refusal}
 use Rattle.snap_emit.specs.declared.refusal.Refusal.TheVariants.{NoYaml, NotOneDocument, Alias, NoTree, Number}
@@ -123,45 +129,76 @@ header-in text t keeps (Err NoTree) f h = absurd (none-read f.node h.node t (one
 header-in text t keeps (Err Number) f h = absurd h
 
 -- one document of several is none, and one alone is that of the values
-pub one-in : (nodes : List Node) (values : List Value) (aliased : Bool) (document : OneDocument) → AreValuesOf nodes values aliased → values ≡ value_of document.value ∷ []
-    → document.has_alias ≡ aliased → IsOnly (λ node. IsDocument node document) nodes
-one-in [] values aliased document h is same = let none : [] ≡ value_of document.value ∷ [] = sym h.are ∙ is in absurd (cc)
-one-in (n ∷ []) values aliased document h is same =
-    let first : document_value n ∷ [] ≡ value_of document.value ∷ [] = sym h.are ∙ is in
-    record { node = n; alone = refl; holds = record { value = cc; alias = same ∙ h.told } }
-one-in (n ∷ m ∷ ns) values aliased document h is same =
-    let more : document_value n ∷ document_value m ∷ map document_value ns ≡ value_of document.value ∷ [] = sym h.are ∙ is in absurd (cc)
+one-in : (nodes : List Node) (values : List Value) (aliased : Bool) (loaded : Loaded) → AreValuesOf nodes values aliased → IsOneOf values aliased loaded
+    → IsOnly (λ node. IsLoadedOf node loaded) nodes
+one-in [] values aliased loaded h is = let none : [] ≡ is.value ∷ [] = sym h.are ∙ is.alone in absurd (cc)
+one-in (n ∷ []) values aliased loaded h is =
+    let first : document_value n ∷ [] ≡ is.value ∷ [] = sym h.are ∙ is.alone in
+    let same : is.value ≡ document_value n = cc in
+    record {
+      node = n;
+      alone = refl;
+      holds = record {
+        content = is.content ∙ ap (λ x. option_map content_of (plain_read x)) same;
+        number = is.number ∙ ap is_number_first same;
+        alias = is.alias ∙ h.told;
+      };
+    }
+one-in (n ∷ m ∷ ns) values aliased loaded h is =
+    let more : document_value n ∷ document_value m ∷ map document_value ns ≡ is.value ∷ [] = sym h.are ∙ is.alone in absurd (cc)
 
-pub none-in : (nodes : List Node) (values : List Value) (aliased : Bool) → AreValuesOf nodes values aliased → ((v : Value) → values ≡ v ∷ [] → ⊥) → IsNoDocument nodes NotOneDocument
-none-in nodes values aliased h none = λ node same. none (document_value node) (h.are ∙ ap (map document_value) same)
+-- what was loaded is the one document's, or there is not one
+pub loaded-in : (nodes : List Node) (values : List Value) (aliased : Bool) (r : Result Loaded Refusal) → AreValuesOf nodes values aliased
+    → IsLoadedFrom values aliased r → IsLoadedIn nodes r
+loaded-in nodes values aliased (Ok loaded) h is = one-in nodes values aliased loaded h is
+loaded-in nodes values aliased (Err (NoYaml fault)) h is = is
+loaded-in nodes values aliased (Err NotOneDocument) h is = λ node same. is (document_value node) (h.are ∙ ap (map document_value) same)
+loaded-in nodes values aliased (Err Alias) h is = is
+loaded-in nodes values aliased (Err NoTree) h is = is
+loaded-in nodes values aliased (Err Number) h is = is
 
 -- the same of a whole stream of events
-pub one-of-stream : (values : List Value) (aliased : Bool) (document : OneDocument) → AreLoadedOf values aliased → values ≡ value_of document.value ∷ []
-    → document.has_alias ≡ aliased → IsOfStream (λ node. IsDocument node document)
-one-of-stream values aliased document h is same =
+pub loaded-of-stream : (values : List Value) (aliased : Bool) (r : Result Loaded Refusal) → AreLoadedOf values aliased → IsLoadedFrom values aliased r
+    → IfOk r (λ loaded. IsOfStream (λ node. IsLoadedOf node loaded))
+loaded-of-stream values aliased (Err why) h is = tt
+loaded-of-stream values aliased (Ok loaded) h is =
     let nodes : List Node = h.loaded.nodes in
     let values_are : AreValuesOf nodes values aliased = record { are = h.loaded.are; told = h.told ∙ ap has_alias h.loaded.of_nodes } in
-    let one = one-in nodes values aliased document values_are is same in
+    let one = one-in nodes values aliased loaded values_are is in
     record { node = one.node; stream = subst IsStream (h.loaded.of_nodes ∙ ap stream_events one.alone) h.loaded.stream; holds = one.holds }
 
--- what is made of a document
-abbrev pub IsMadeOf : OneDocument → Loaded → Type 0
-IsMadeOf document loaded = (option_map tree loaded.content ≡ option_map content_of (plain_read (value_of document.value)))
-    × ((loaded.has_number_text ≡ is_number_first (value_of document.value)) × (loaded.has_alias ≡ document.has_alias))
+-- a builder that got the events of these documents, and one that got a whole stream
+pub built-in : (b : Builder) (r : Result (Result Loaded Refusal) m.OutOfMemory) (nodes : List Node) → HasBuilt b (stream_events nodes)
+    → IfOk r (λ read. HoldsLoaded b read) → IfOk r (λ read. IsLoadedIn nodes read)
+built-in b r nodes told h =
+    let events = stream_events nodes in
+    IfOk-weaker r (λ read. HoldsLoaded b read) (λ read. IsLoadedIn nodes read)
+    (λ read holds. loaded-in nodes (steps events start).documents (has_alias events) read (record { are = stream-steps nodes; told = refl }) (holds events told)) h
 
-loaded-of : (node : Node) (document : OneDocument) (loaded : Loaded) → IsMadeOf document loaded → IsDocument node document → IsLoadedOf node loaded
-loaded-of node document loaded made is = record {
-  content = made.0 ∙ ap (λ x. option_map content_of (plain_read x)) is.value;
-  number = made.1.0 ∙ ap is_number_first is.value;
-  alias = made.1.1 ∙ is.alias;
-}
+pub built-of-stream : (b : Builder) (r : Result (Result Loaded Refusal) m.OutOfMemory) (events : List Event) → IsStream events → HasBuilt b events
+    → IfOk r (λ read. HoldsLoaded b read) → IfOk r (λ read. IfOk read (λ loaded. IsOfStream (λ node. IsLoadedOf node loaded)))
+built-of-stream b r events stream told h =
+    let d = whole-streams events stream in
+    let f : List Event → List Value = λ es. (steps es start).documents in
+    IfOk-weaker r (λ read. HoldsLoaded b read) (λ read. IfOk read (λ loaded. IsOfStream (λ node. IsLoadedOf node loaded)))
+    (λ read holds. loaded-of-stream (steps events start).documents (has_alias events) read
+    (record { loaded = record { events = events; stream = stream; nodes = d.0; of_nodes = d.1; are = ap f d.1 ∙ stream-steps d.0 }; told = refl })
+    (holds events told)) h
 
-pub loaded-in : (nodes : List Node) (document : OneDocument) (loaded : Loaded) → IsMadeOf document loaded → IsOnly (λ node. IsDocument node document) nodes
-    → IsOnly (λ node. IsLoadedOf node loaded) nodes
-loaded-in nodes document loaded made h = record { node = h.node; alone = h.alone; holds = loaded-of h.node document loaded made h.holds }
+loaded-cause : (text : List ℕ) (values : List Value) (aliased : Bool) (r : Result Loaded Refusal) → IsLoadedFrom values aliased r
+    → IfErr r (λ why. IsReasonIn text why)
+loaded-cause text values aliased (Ok loaded) is = tt
+loaded-cause text values aliased (Err (NoYaml fault)) is = absurd is
+loaded-cause text values aliased (Err NotOneDocument) is = tt
+loaded-cause text values aliased (Err Alias) is = tt
+loaded-cause text values aliased (Err NoTree) is = tt
+loaded-cause text values aliased (Err Number) is = tt
 
-pub loaded-of-stream : (document : OneDocument) (loaded : Loaded) → IsMadeOf document loaded → IsOfStream (λ node. IsDocument node document) → IsOfStream (λ node. IsLoadedOf node loaded)
-loaded-of-stream document loaded made h = record { node = h.node; stream = h.stream; holds = loaded-of h.node document loaded made h.holds }
+pub built-cause : (text : List ℕ) (b : Builder) (r : Result (Result Loaded Refusal) m.OutOfMemory) (events : List Event) → HasBuilt b events
+    → IfOk r (λ read. HoldsLoaded b read) → IfOk r (λ read. IfErr read (λ why. IsReasonIn text why))
+built-cause text b r events told h =
+    IfOk-weaker r (λ read. HoldsLoaded b read) (λ read. IfErr read (λ why. IsReasonIn text why))
+    (λ read holds. loaded-cause text (steps events start).documents (has_alias events) read (holds events told)) h
 
 -- what was loaded is a tree
 record ReadAs (o : Option Plain) (made : Content) : Type 0 where

@@ -4,4 +4,5 @@ pub mod Parsed
 pub mod Examples
 pub mod LayoutTrees
 pub mod Spelled
+pub mod Built
 pub mod Readings

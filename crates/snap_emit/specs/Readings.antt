@@ -8,12 +8,10 @@ use Rattle.snap_scan_tokens.specs.declared.info.ScanError.TheVariants.{OutOfMemo
 use Rattle.snap_scan.specs.Sound.{IsFounded}
 use Rattle.snap_parse_events.specs.Nodes.{Node, stream_events}
 use Rattle.snap_parse_events.specs.Streams.{IsStream}
-use Rattle.snap_yaml.specs.View.{value_of}
 use Rattle.snap_parse.specs.Aliases.{has_alias}
 use Rattle.snap_parse.specs.Documents.{document_value}
 use Rattle.snap_emit.specs.PlainRead.{plain_read, has_number_text, is_number_first}
 use Rattle.snap_emit.specs.declared.loaded.Loaded.{Loaded}
-use Rattle.snap_emit.specs.declared.loaded.OneDocument.{OneDocument}
 use Rattle.snap_emit.specs.declared.refusal.Refusal.{Refusal}
 use Rattle.snap_emit.specs.declared.refusal.Refusal.TheVariants.{NoYaml, NotOneDocument, Alias, NoTree, Number}
 use Rattle.snap_emit.specs.declared.reading.Header.{Header}
@@ -21,11 +19,6 @@ use Rattle.snap_emit.specs.declared.reading.Header.{Header}
 -- an alias stands in the document
 abbrev pub is_aliased : Node → Bool
 is_aliased node = has_alias (stream_events (node ∷ []))
-
--- the value of the document, and whether an alias stands in it
-pub record IsDocument (node : Node) (document : OneDocument) : Type 0 where
-  pub value : value_of document.value ≡ document_value node
-  pub alias : document.has_alias ≡ is_aliased node
 
 -- what was made of a document: its tree, if it is one, whether a number comes first that is no whole number of 128 bits, and
 -- whether an alias stands in it
@@ -94,10 +87,6 @@ IsNoDocument nodes NotOneDocument = (node : Node) → nodes ≢ node ∷ []
 IsNoDocument nodes Alias = ⊥
 IsNoDocument nodes NoTree = ⊥
 IsNoDocument nodes Number = ⊥
-
-abbrev pub IsDocumentIn : List Node → Result OneDocument Refusal → Type 0
-IsDocumentIn nodes (Ok document) = IsOnly (λ node. IsDocument node document) nodes
-IsDocumentIn nodes (Err why) = IsNoDocument nodes why
 
 abbrev pub IsLoadedIn : List Node → Result Loaded Refusal → Type 0
 IsLoadedIn nodes (Ok loaded) = IsOnly (λ node. IsLoadedOf node loaded) nodes

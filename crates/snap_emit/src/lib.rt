@@ -2,14 +2,17 @@
 //! It hands on what the crates below print and read, with paths in its refusals,
 //! and says in laws what holds of every printed text.
 //!
-//! In the order in which data flows: `whole` (texts of whole numbers), `from_value` (the tree of a value), `refusal` (why a text
-//! is no tree), `loaded` (the document of a text as a tree), `reading` (the tree of a text, or why there is none), `pieces`
-//! (numbers that stand in a text), `yaml` (the calls that every crate above makes), `laws`.
+//! In the order in which data flows: `whole` (texts of whole numbers), `made` (what a node is as a tree), `frame` (what is open),
+//! `builder` (the tree of a document, from events), `refusal` (why a text is no tree), `loaded` (the document of a text as a tree),
+//! `reading` (the tree of a text, or why there is none), `pieces` (numbers that stand in a text), `yaml` (the calls that every crate
+//! above makes), `laws`.
 #![tactic(auto)]
 
-mod from_value;
+mod builder;
+mod frame;
 pub mod laws;
 mod loaded;
+mod made;
 mod pieces;
 pub mod reading;
 pub mod refusal;

@@ -1,9 +1,8 @@
 //! What the emitter sees of a `Yaml` or of a tree: one level, lent.
-ghost use Rattle.std.specs.Prelude.{◌≡◌, ◌<◌, length, get_or};
+ghost use Rattle.std.specs.Prelude.{◌≡◌, ◌<◌, length, get_or, pos};
 ghost use Rattle.snap_emit_values.specs.FromContent.{content_shape};
 ghost use Rattle.snap_emit_values.specs.Nodes.{item_shapes, entry_shapes, node_shape, node_pair};
 ghost use Rattle.snap_emit_values.specs.Shape.{number, shape_of};
-ghost use Rattle.std.specs.Prelude.{pos};
 
 use snap_content::{Content, Text};
 use snap_yaml::Yaml;
