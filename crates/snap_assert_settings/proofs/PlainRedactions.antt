@@ -12,7 +12,7 @@ plain_puts : {X : Type 0} {P : X → Type 0} {Y : Type 0} {Q : Y → Type 0} {g 
 plain_puts objects redaction (Static content) c steps out is h = subst (λ x. Puts objects x c steps out) is h
 plain_puts objects redaction Sorted c steps out is h = subst (λ x. Puts objects x c steps out) is h
 
-plain_redacted : {X : Type 0} {P : X → Type 0} {Y : Type 0} {Q : Y → Type 0} {g : _} (objects : Objects X P) (rs : List (RedactionView (Redaction X Y P Q g)))
+pub plain_redacted : {X : Type 0} {P : X → Type 0} {Y : Type 0} {Q : Y → Type 0} {g : _} (objects : Objects X P) (rs : List (RedactionView (Redaction X Y P Q g)))
     (ps : List (Selector × Replacement)) (c out : Tree) → rs ≡ map redaction_for ps → RedactedBy objects rs c out → out ≡ redacted_by (replacements_of ps) c
 plain_redacted objects rs [] c out is h = subst (λ l. RedactedBy objects l c out) is h
 plain_redacted objects rs (p ∷ ps) c out is h =

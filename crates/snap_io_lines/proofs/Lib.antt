@@ -1,3 +1,3 @@
 mod Prelude
 mod Cutting
-mod Pieces
+pub mod Pieces

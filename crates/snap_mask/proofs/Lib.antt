@@ -1,0 +1,9 @@
+mod Prelude
+mod KeptKeys
+mod RulesRead
+mod Begun
+mod LinesRead
+mod RecordsWritten
+mod LinesCut
+mod Runs
+mod Complete

@@ -1,0 +1,18 @@
+use Rattle.snap_mask.proofs.Prelude.{◌≡◌, ◌<◌, ◌≤◌, ◌+◌, ℕ, List, Some, length, SpendsOf, IsAhead, ReplacementView, AreRules}
+use Rattle.snap_mask.proofs.Runs.{SoFar}
+use Rattle.snap_mask.proofs.masking.mask_lines.Given as goal
+
+abbrev pub invariant-lines : goal.invariant-lines
+invariant-lines g l = record {
+  so_far : (rules : List ReplacementView) (input w : List ℕ) → AreRules l.fn.rules rules → g.S.Source.left l.fn.source ≡ Some input → g.K.Sink.written l.fn.sink ≡ Some w
+      → SoFar rules input w l.held (g.S.Source.left l.source) (g.K.Sink.written l.sink) l.number;
+  ahead : (input : List ℕ) → g.S.Source.left l.fn.source ≡ Some input → (rest : List ℕ) × IsAhead l.held (g.S.Source.left l.source) rest;
+  spent : SpendsOf 1099511627777 l.budget (g.S.Source.left l.fn.source) (g.S.Source.left l.source);
+  some : 0 < l.budget;
+  bound : l.number + (l.budget + length l.held) ≤ 1099511627777;
+  read_count : g.S.Source.faults l.source ≡ g.S.Source.faults l.fn.source;
+  write_count : g.K.Sink.faults l.sink ≡ g.K.Sink.faults l.fn.sink;
+}
+
+abbrev pub decreases-lines : goal.decreases-lines
+decreases-lines g l = l.budget + length l.held
