@@ -1,5 +1,5 @@
 -- A run without faults over spelled requests ends well.
-use Rattle.snap_run.proofs.Prelude.{◌≡◌, ℕ, List, [], ◌∷◌, ◌++◌, length, ◌+◌, Option, inl, inr, subst, arith, Rose, Outside, RequestView, Spells, RunWords, StopsAt, status_at, RunsTo, AreSpelled, IsSteady, EndsWell, DocumentError, Status, AllPassed, SomeFailed, BadWords, BadRequest, Refused, ReadFault, OutOfMemory, InputTooLong}
+use Rattle.snap_run.proofs.Prelude.{◌≡◌, ℕ, List, [], ◌∷◌, ◌++◌, length, ◌+◌, inl, inr, subst, arith, Rose, Outside, RequestView, Spells, RunWords, StopsAt, status_at, RunsTo, AreSpelled, IsSteady, EndsWell, DocumentError, Status, AllPassed, SomeFailed, BadWords, BadRequest, Refused, ReadFault, OutOfMemory, InputTooLong}
 use Rattle.std.specs.Prelude.{refl}
 use Rattle.snap_run.specs.declared.document_error.DocumentError.TheVariants as error
 use Rattle.snap_run.specs.declared.status.Status.TheVariants.{FileIo, WriteFault}

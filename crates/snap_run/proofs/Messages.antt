@@ -1,5 +1,5 @@
 -- What standard error is told.
-use Rattle.snap_run.proofs.Prelude.{true, ◌≡◌, inl, ◌≤◌, ℕ, List, [], ◌∷◌, ◌++◌, length, Option, Some, Result, Ok, Err, OnOk, OnErr, refl, sym, ◌∙◌, ap, subst, arith, encode_utf8_all, take_all, Counted, is_fault, Rose, HoldsFront, IsSteady, Status, message, IsSaid}
+use Rattle.snap_run.proofs.Prelude.{true, ◌≡◌, inl, ℕ, List, [], ◌∷◌, ◌++◌, length, Option, Some, Result, Ok, Err, OnOk, OnErr, refl, sym, ◌∙◌, ap, subst, arith, encode_utf8_all, take_all, Counted, is_fault, Rose, HoldsFront, IsSteady, Status, message, IsSaid}
 use Rattle.snap_run.specs.Describe.{description}
 use Rattle.snap_run.specs.Program.{tells_document}
 use Rattle.snap_run.specs.declared.status.Status.TheVariants as status

@@ -1,5 +1,5 @@
 -- What a run over many documents leaves, and where it stops.
-use Rattle.std.specs.Prelude.{◌≡◌, ◌⊎◌, ℕ, ◌+◌, List, ◌∷◌, ◌++◌, [], Bool, true, false, length, Option, Some}
+use Rattle.std.specs.Prelude.{◌≡◌, ◌⊎◌, ℕ, ◌+◌, List, ◌∷◌, ◌++◌, [], Bool, true, false, length, Option}
 use Rattle.snap_io.specs.Files.{Files}
 use Rattle.snap_io.specs.Outside.{Outside, Given, Becomes}
 use Rattle.snap_io.specs.Streams.{HoldsFront}

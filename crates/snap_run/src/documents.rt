@@ -54,14 +54,7 @@ fn place_of_request(
         ≡ place_at runner.now.workspace module_name file line expr) }
 {
     let workspace = runner.workspace.try_clone(alloc)?;
-    Ok(Place::of_file(
-        workspace,
-        Text::empty(),
-        module_name,
-        file,
-        line,
-        expr,
-    ))
+    Ok(Place::of_file(workspace, Text::empty(), module_name, file, line, expr))
 }
 
 /// Reads one document and makes its assertion.
