@@ -1,3 +1,4 @@
 pub mod Split
 pub mod TreePaths
 pub mod Paths
+pub mod Setting

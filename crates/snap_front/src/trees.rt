@@ -17,7 +17,7 @@ fn is_same_text(left: &str, right: &str) -> bool
 }
 
 /// Whether the key of an entry is this text.
-fn is_key(key: &Content, name: &str) -> bool
+pub(crate) fn is_key(key: &Content, name: &str) -> bool
     ensures { result ≡ is_key (chars name.now) (tree key.now) }
 {
     match key {
