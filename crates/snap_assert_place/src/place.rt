@@ -48,14 +48,7 @@ impl Place {
         if !is_file_path(file.as_str()) {
             return Err(BadPlace);
         }
-        Ok(Place::of_file(
-            workspace,
-            function,
-            module_name,
-            file,
-            line,
-            expr,
-        ))
+        Ok(Place::of_file(workspace, function, module_name, file, line, expr))
     }
 
     /// The same, where the file is known to be the path of one.

@@ -64,9 +64,7 @@ pub(crate) fn redactions_of_pairs(
         return Ok(Vec::new(alloc));
     };
     match value.as_slice() {
-        None => Err(RequestError::NoRequest(Reason::Key(KeyFault::WrongKind(
-            Key::Redactions,
-        )))),
+        None => Err(RequestError::NoRequest(Reason::Key(KeyFault::WrongKind(Key::Redactions)))),
         Some(items) => read_redactions(alloc, items),
     }
 }
@@ -165,9 +163,7 @@ fn read_put(alloc: Global, pairs: &[(Content, Content)]) -> Result<Replacement, 
         (None, Some(sort)) => match sort.as_bool() {
             Some(true) => Ok(Replacement::Sorted),
             Some(false) => Err(Stop::Fault(RedactionFault::NothingPut)),
-            None => Err(Stop::Fault(RedactionFault::Key(KeyFault::WrongKind(
-                Key::Sort,
-            )))),
+            None => Err(Stop::Fault(RedactionFault::Key(KeyFault::WrongKind(Key::Sort)))),
         },
         (None, None) => Err(Stop::Fault(RedactionFault::NothingPut)),
     }

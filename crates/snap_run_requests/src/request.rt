@@ -128,9 +128,7 @@ fn with_value(head: Head, value: Option<Content>) -> Result<Request, RequestErro
 {
     let Some(value) = value else {
         drop(head);
-        return Err(RequestError::NoRequest(Reason::Key(KeyFault::Missing(
-            Key::Value,
-        ))));
+        return Err(RequestError::NoRequest(Reason::Key(KeyFault::Missing(Key::Value))));
     };
     let Head {
         module_name,
@@ -154,10 +152,7 @@ fn with_value(head: Head, value: Option<Content>) -> Result<Request, RequestErro
 }
 
 /// The request that a map of these pairs is. Its value is taken out of the pairs.
-fn request_of_pairs(
-    alloc: Global,
-    pairs: Vec<(Content, Content)>,
-) -> Result<Request, RequestError>
+fn request_of_pairs(alloc: Global, pairs: Vec<(Content, Content)>) -> Result<Request, RequestError>
     ensures { MatchResult result
         (λ request. IsRequest (map (pair_trees pairs.items)) (request_of request))
         (λ error. IsTreeEnd (map (pair_trees pairs.items)) error) }
