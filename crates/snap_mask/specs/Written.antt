@@ -27,6 +27,7 @@ RefusesRecord rules JsonKey line = IsRefused rules error.JsonKey line
 RefusesRecord rules WriteFault line = Unit {0}
 RefusesRecord rules OutOfMemory line = Unit {0}
 
+-- a stop that tells that the sink failed
 abbrev pub is_write_fault : RecordStop → Bool
 is_write_fault WriteFault = true
 is_write_fault _ = false

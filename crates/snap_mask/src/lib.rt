@@ -3,7 +3,7 @@
 //!
 //! In the order in which data flows: `rules` (what the words ask for), `beginning` (what a JSON text may begin with), `record`
 //! (a line to its record), `writing`, `masking` (the loop over the lines), `status` and `usage` (what is said of a run, and of
-//! the program), `command` (the run that the arguments ask for), `laws`.
+//! the program), `command` (the run that the arguments ask for).
 #![tactic(auto)]
 
 mod beginning;
