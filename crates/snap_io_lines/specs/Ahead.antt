@@ -26,6 +26,7 @@ pub record Spends (budget budget' : ℕ) (all : List ℕ) (left : Option (List �
   pub given : GivesFront all front left
   pub size : length front + budget' ≡ budget
 
+-- the same of a source, where it tells what it has left
 abbrev pub SpendsOf : ℕ → ℕ → Option (List ℕ) → Option (List ℕ) → Type 0
 SpendsOf budget budget' left left' = (xs : List ℕ) → left ≡ Some xs → Spends budget budget' xs left'
 
@@ -40,6 +41,7 @@ pub record IsLastLine (line all held : List ℕ) (left : Option (List ℕ)) : Ty
   pub is : all ≡ line
   pub ahead : IsAhead held left []
 
+-- the line was taken from what is ahead, with its end or as the last one
 abbrev pub TakesLine : LineEnd → List ℕ → List ℕ → List ℕ → Option (List ℕ) → Type 0
 TakesLine Ended line all held left = IsEndedLine line all held left
 TakesLine Last line all held left = IsLastLine line all held left
@@ -52,6 +54,7 @@ pub record IsLong (all : List ℕ) : Type 0 where
   pub unbroken : Lacks 10 front
   pub long : line_limit < length front
 
+-- an error that tells that the source failed
 abbrev pub is_read_fault : LineError → Bool
 is_read_fault Fault = true
 is_read_fault LineTooLong = false
