@@ -105,8 +105,8 @@ put_open r (dict_open ps b None) = dict_open ps b (if r.bad then None else Some 
 put_open r (dict_open ps b (Some k)) = dict_open (behind ps (both k.tree r.tree)) (b || (is_some ps && (k.number || (is_some k.tree && r.number)))) None
 
 abbrev pub put_read_at : Reading → Documents → Option Reading → List Open → BuildState
-put_read_at r documents node [] = record { documents = documents; node = Some r; held = [] }
-put_read_at r documents node (o ∷ os) = record { documents = documents; node = node; held = put_open r o ∷ os }
+put_read_at r documents whole [] = record { documents = documents; node = Some r; held = [] }
+put_read_at r documents whole (o ∷ os) = record { documents = documents; node = whole; held = put_open r o ∷ os }
 
 abbrev pub put_read : Reading → BuildState → BuildState
 put_read r s = put_read_at r s.documents s.node s.held
