@@ -123,8 +123,8 @@ closed_read (list_open ts b) = record { tree = seq_read ts; number = b; bad = fa
 closed_read (dict_open ps b k) = record { tree = map_read ps; number = b; bad = false }
 
 abbrev pub close_read_at : Documents → Option Reading → List Open → BuildState
-close_read_at documents node [] = record { documents = documents; node = node; held = [] }
-close_read_at documents node (o ∷ os) = put_read_at (closed_read o) documents node os
+close_read_at documents whole [] = record { documents = documents; node = whole; held = [] }
+close_read_at documents whole (o ∷ os) = put_read_at (closed_read o) documents whole os
 
 abbrev pub close_read : BuildState → BuildState
 close_read s = close_read_at s.documents s.node s.held
