@@ -1,6 +1,6 @@
 //! Sinks in memory, and what a sink of any kind takes.
 //!
-//! A step is `write TEXT`, or for a sink that may fail `fail NUMBER..`, which lists the calls that fail. Behind the answers to the
+//! A step is `write TEXT`, or for a sink that may fail `fail NUMBER..`, which lists the calls that fail. After the answers to the
 //! steps stands what is written then.
 use crate::columns::{add_bytes, cut_word, numbers_of};
 use rows::{add_number_column, add_text_column, text_of};

@@ -15,6 +15,6 @@ splits-file_of d w p h k =
     let P : List ℕ → Type 0 = λ t. FallsInto t (document_of off d) (text_of w p) in
     subst P (append_assoc (document_of off d) (codes "---\n") (text_of w p)) (file-split off w d p (printed-rows off d h) (printed-rows w p k))
 
--- a line's end behind a text is no part of its normal form
+-- a line's end after a text is no part of its normal form
 pub normal-ended : (text : List ℕ) → normal (text ++ 10 ∷ []) ≡ normal text
 normal-ended text = ap unreturned (trimmed-push text 10 refl)

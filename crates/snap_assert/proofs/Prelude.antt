@@ -10,7 +10,7 @@ pub use Rattle.std.specs.Prelude.{IfOk, is_some, encode_utf8_all, IsSome}
 pub use Rattle.std.specs.Str.{bytes_eq, chars, IsUtf8}
 pub use Rattle.snap_content.proofs.Booleans.{some_same, or_left, not_true}
 pub use Rattle.snap_content.specs.Plain.{Plain, dict, Entries, entry, no_entries}
-pub use Rattle.snap_content.specs.Readable.{IsWithin}
+pub use Rattle.snap_print.specs.Readable.{IsWithin}
 pub use Rattle.snap_content.specs.declared.error.Error.{Error}
 pub use Rattle.snap_content.specs.declared.error.Error.TheVariants.{FailedParsingYaml, UnexpectedDataType, MissingField, FileIo, FloatText, JsonKey, NotText, NoFile, OutOfMemory}
 pub use Rattle.snap_io.specs.Files.{Files, SameBut, MayBeGone}

@@ -1,7 +1,7 @@
 -- When a tree passes against a file.
 use Rattle.std.specs.Prelude.{◌≡◌, ◌↔◌, ◌⊎◌, ℕ, Bool, true, false, List, Option, None}
 use Rattle.snap_content.specs.Plain.{Plain, dict, Entries}
-use Rattle.snap_content.specs.Readable.{IsWithin}
+use Rattle.snap_print.specs.Readable.{IsWithin}
 use Rattle.snap_print.specs.Blocks.{Blocks}
 use Rattle.snap_print.specs.Lines.{text_of}
 use Rattle.snap_text.specs.Legacy.{legacy}

@@ -1,4 +1,4 @@
-//! What pending payloads leave behind: files that go with each assertion.
+//! What pending payloads leave after: files that go with each assertion.
 ghost use Rattle.std.specs.Prelude.{◌≡◌, Some, IfOk, map};
 ghost use Rattle.std.specs.List.{filter};
 ghost use Rattle.std.specs.Str.{chars};

@@ -14,7 +14,7 @@ normal path base tail is =
 same_part : (b : Bool) (inner outer : Apart) → b ≡ true → (if b then inner else outer) ≡ inner
 same_part b inner outer h = ap (λ x. if x then inner else outer) h
 
--- of a list behind another, that is left
+-- of a list after another, that is left
 apart-front : (xs ys : List (List ℕ)) → apart (xs ++ ys) xs ≡ record { path = ys; base = [] }
 apart-front [] [] = refl
 apart-front [] (y ∷ ys) = refl

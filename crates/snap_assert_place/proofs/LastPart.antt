@@ -1,4 +1,4 @@
--- The last part of a path: a text without a slash is its own, and in any other it stands behind the last slash.
+-- The last part of a path: a text without a slash is its own, and in any other it stands after the last slash.
 use Rattle.snap_assert_place.proofs.Prelude.{◌≡◌, ◌==◌, ◌||◌, ℕ, Bool, true, false, cond, List, [], ◌∷◌, ◌++◌, refl, ap, ◌∙◌, holds_slash, last_part, or_left, or_right}
 
 pub whole : (t : List ℕ) → holds_slash t ≡ false → last_part t ≡ t

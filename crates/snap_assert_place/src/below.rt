@@ -17,7 +17,7 @@ fn is_name(text: &str) -> bool
     is_component(text) && !holds_slash(text)
 }
 
-/// Whether the path has a component, so that a slash stands behind it and in front of a name.
+/// Whether the path has a component, so that a slash stands after it and in front of a name.
 fn has_component(path: &str) -> bool
     requires { IsOfParts (chars path.now) }
     ensures { result ≡ true → front_of (chars path.now) ≡ chars path.now ++ 47 ∷ [] }
@@ -25,7 +25,7 @@ fn has_component(path: &str) -> bool
     !is_same(path, "") && !is_same(path, "/")
 }
 
-/// The name behind the path and a slash.
+/// The name after the path and a slash.
 fn push_name(alloc: Global, path: Text, name: &Text) -> Result<Text, OutOfMemory>
     ensures { IfOk result (λ made. made ≡ (path ++ 47 ∷ []) ++ name.now) }
 {

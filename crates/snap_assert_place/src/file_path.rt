@@ -6,7 +6,7 @@ ghost use Rattle.snap_assert_place.specs.Place.{holds_slash, last_part, names_fi
 
 use snap_content::characters::{is_same, split_first};
 
-/// What stands behind the last slash.
+/// What stands after the last slash.
 fn last_part_of(path: &str) -> &str
     ensures { chars result.now ≡ last_part (chars path.now) }
 {

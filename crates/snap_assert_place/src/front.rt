@@ -1,4 +1,4 @@
-//! What stands behind the front of a text.
+//! What stands after the front of a text.
 ghost use Rattle.std.specs.Prelude.{◌≡◌, None, Some, MatchOption, IsTrue};
 ghost use Rattle.std.specs.Char.{is_ascii};
 ghost use Rattle.std.specs.List.{list_all};

@@ -4,7 +4,7 @@ ghost use Rattle.snap_assert_place.specs.Place.{PlaceView, holds_slash, last_par
 ghost use Rattle.snap_assert_place.specs.SnapshotPath.{path_of};
 ghost use Rattle.snap_assert_settings.specs.Settings.{new_settings};
 
-/// The last part of a path is what stands behind its last slash, and the whole path where it has none.
+/// The last part of a path is what stands after its last slash, and the whole path where it has none.
 pub const fn last_part_is_behind_the_slash()
     ensures alone { (part : List ℕ) → holds_slash part ≡ false → last_part part ≡ part }
     ensures behind { (front part : List ℕ) → holds_slash part ≡ false

@@ -65,7 +65,7 @@ impl Redactions {
         Ok(made)
     }
 
-    /// Adds a redaction at the end. After a refusal and after want of memory the redactions are as they were.
+    /// Adds a redaction at the end. After a refusal and after running out of memory the redactions are as they were.
     pub fn add(
         &mut self,
         alloc: Global,
@@ -87,7 +87,7 @@ impl Redactions {
         }
     }
 
-    /// Adds a redaction at the end. After want of memory the redactions are as they were.
+    /// Adds a redaction at the end. After running out of memory the redactions are as they were.
     pub fn push(
         &mut self,
         selector: Selector<'static>,
@@ -101,7 +101,7 @@ impl Redactions {
         Ok(())
     }
 
-    /// The tree with each redaction applied to it in turn. The one error is want of memory.
+    /// The tree with each redaction applied to it in turn. The one error is out of memory.
     pub fn apply(&self, alloc: Global, content: Content) -> Result<Content, OutOfMemory>
         ensures { IfOk result (λ made. RedactedBy (λ v. (⟦<dyn Redactor as Redactor>⟧ v).allows)
             (redactions_of self.now) (tree content) (tree made)) }

@@ -72,7 +72,7 @@ impl Settings {
         false
     }
 
-    /// What stands behind the name and an `@`; none where it is empty.
+    /// What stands after the name and an `@`; none where it is empty.
     pub fn snapshot_suffix(&self) -> Option<&str>
         ensures { option_map (λ suffix. chars suffix.now) result
             ≡ shown_text (settings_of self.now).suffix }
@@ -101,7 +101,7 @@ impl Settings {
         self.snapshot_path.as_str()
     }
 
-    /// Adds a redaction at the end. After a refusal and after want of memory the settings are as they were.
+    /// Adds a redaction at the end. After a refusal and after running out of memory the settings are as they were.
     pub fn add_redaction(
         &mut self,
         selector: &str,
@@ -119,7 +119,7 @@ impl Settings {
     }
 
     /// Adds a redaction by an object of the caller's at the end: in place of each value that the selector hits stands what the
-    /// object answers. After a refusal and after want of memory the settings are as they were.
+    /// object answers. After a refusal and after running out of memory the settings are as they were.
     pub fn add_dynamic_redaction(
         &mut self,
         selector: &str,
@@ -136,7 +136,7 @@ impl Settings {
     }
 
     /// Adds a redaction by a stored function at the end: in place of each value that the selector hits stands what the
-    /// function answers. After a refusal and after want of memory the settings are as they were.
+    /// function answers. After a refusal and after running out of memory the settings are as they were.
     pub fn add_fn_redaction(
         &mut self,
         selector: &str,
@@ -152,8 +152,8 @@ impl Settings {
         self.add_redaction(selector, Redaction::Function(function))
     }
 
-    /// Has the lists that the selector hits put in order, behind the redactions so far.
-    /// After a refusal and after want of memory the settings are as they were.
+    /// Has the lists that the selector hits put in order, after the redactions so far.
+    /// After a refusal and after running out of memory the settings are as they were.
     pub fn sort_selector(&mut self, selector: &str) -> Result<(), SelectError>
         ensures ok { OnOk result ((parts : Parts) × IsSelector (chars selector.now) parts
             × (redactions_in self.new
@@ -166,7 +166,7 @@ impl Settings {
     }
 
     /// Takes these redactions in place of all. The first text that is no selector is refused.
-    /// After a refusal and after want of memory the settings are as they were.
+    /// After a refusal and after running out of memory the settings are as they were.
     pub fn set_redactions(&mut self, redactions: Vec<(Text, Redaction)>) -> Result<(), SelectError>
         ensures ok { OnOk result (AreRedactions redactions.items (redactions_in self.new)) }
         ensures refused { IfErr result (λ e. AreRefused redactions.items e) }
@@ -194,7 +194,7 @@ impl Settings {
     }
 
     /// The tree that is printed: its maps sorted where that is set, and then each redaction in turn. The one error is
-    /// want of memory.
+    /// out of memory.
     pub fn printed_tree(&self, alloc: Global, content: Content) -> Result<Content, OutOfMemory>
         ensures printed { IfOk result (λ made. PrintsAs (λ v. (⟦<dyn Redactor as Redactor>⟧ v).allows)
             self.now (tree content) (tree made)) }

@@ -1,4 +1,4 @@
--- Trees in front of others, and what is left of a list behind a place.
+-- Trees in front of others, and what is left of a list after a place.
 use Rattle.snap_content.proofs.Prelude.{◌≡◌, ℕ, zero, suc, ◌+◌, ◌<◌, ◌≤◌, List, [], ◌∷◌, ◌++◌, map, get_or, set, take, drop, length, refl, sym, ap, ◌∙◌, arith, add-one, drop-cons, drop-set-lt, tree, item_trees, pair_tree, pair_trees, field_trees, Content, count, count_items, count_pairs, count_fields}
 use Rattle.snap_content.specs.Tree as t
 

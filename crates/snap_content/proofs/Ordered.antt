@@ -3,7 +3,7 @@ use Rattle.snap_content.proofs.Prelude.{◌≡◌, ℕ, List, [], ◌∷◌, len
 use Rattle.snap_content.specs.Tree as t
 use Rattle.snap_content.proofs.Views.{tree-Struct, tree-StructVariant}
 
--- an order that comes behind others which are equal
+-- an order that comes after others which are equal
 behind : (first then : Ordering) → first ≡ Equal → then ≡ ordering_then first then
 behind first then is = ap (λ o. ordering_then o then) (sym is)
 

@@ -10,11 +10,8 @@ pub mod Plain
 pub mod Front
 pub mod Numbers
 pub mod Quotes
-pub mod Typed
-pub mod Spell
 pub mod Lines
 pub mod Meanings
-pub mod Readable
 pub mod Orders
 pub mod Compared
 pub mod TotalOrder

@@ -1,4 +1,4 @@
--- The order of trees is total: it is that of their parts, written one behind the other.
+-- The order of trees is total: it is that of their parts, written one after the other.
 use Rattle.std.proofs.Common.{◌≡◌, ℕ, ℤ, pos, List, [], ◌∷◌, Bool, true, false, refl, sym, ap, ◌∙◌}
 use Rattle.std.specs.declared.cmp.Ordering.{Ordering}
 use Rattle.std.specs.declared.cmp.Ordering.TheVariants.{Less, Equal, Greater}

@@ -13,7 +13,7 @@ impl Content {
     ghost use Rattle.snap_content.specs.contracts.content.Content.{the_row};
     ghost use Rattle.snap_content.specs.Lending.{LendsTree, box_row, with_wrapped};
 
-    /// The tree behind wrappers: `Some`, newtype structs and newtype variants.
+    /// The tree inside wrappers: `Some`, newtype structs and newtype variants.
     pub fn resolve_inner(&self) -> &Content
         ensures { tree result.now ≡ resolved (tree self.now) }
     {
@@ -25,7 +25,7 @@ impl Content {
         }
     }
 
-    /// The tree behind wrappers, to be changed. What is written there stands inside the same wrappers.
+    /// The tree inside wrappers, to be changed. What is written there stands inside the same wrappers.
     pub fn resolve_inner_mut(&mut self) -> &mut Content
         ensures* writes_back { sem 𝓛 (LendsTree self.entry result (rewrapped (tree self.old))) }
         ensures value { tree result.now ≡ resolved (tree self.old) }
@@ -71,7 +71,7 @@ impl Content {
         boxed
     }
 
-    /// The text of a `String`, behind wrappers.
+    /// The text of a `String`, inside wrappers.
     pub fn as_str(&self) -> Option<&str>
         ensures { option_map (λ text. chars text.now) result ≡ text_in (resolved (tree self.now)) }
     {
@@ -81,7 +81,7 @@ impl Content {
         }
     }
 
-    /// The bytes of a `Bytes`, behind wrappers.
+    /// The bytes of a `Bytes`, inside wrappers.
     pub fn as_bytes(&self) -> Option<&[u8]>
         ensures { option_copied result ≡ bytes_in (resolved (tree self.now)) }
     {
@@ -91,7 +91,7 @@ impl Content {
         }
     }
 
-    /// The value of a `Bool`, behind wrappers.
+    /// The value of a `Bool`, inside wrappers.
     pub fn as_bool(&self) -> Option<bool>
         ensures { result ≡ bool_in (resolved (tree self.now)) }
     {
@@ -101,7 +101,7 @@ impl Content {
         }
     }
 
-    /// The items of a `Seq`, `Tuple` or `TupleVariant`, behind wrappers. A `TupleStruct` has none.
+    /// The items of a `Seq`, `Tuple` or `TupleVariant`, inside wrappers. A `TupleStruct` has none.
     pub fn as_slice(&self) -> Option<&[Content]>
         ensures { option_map (λ items. item_trees items.now) result
             ≡ items_in (resolved (tree self.now)) }
@@ -114,14 +114,14 @@ impl Content {
         }
     }
 
-    /// Whether the tree is `None` or `Unit`, behind wrappers.
+    /// Whether the tree is `None` or `Unit`, inside wrappers.
     pub fn is_nil(&self) -> bool
         ensures { result ≡ is_nil_tree (resolved (tree self.now)) }
     {
         matches!(self.resolve_inner(), Content::None | Content::Unit)
     }
 
-    /// The whole number, behind wrappers, where it fits.
+    /// The whole number, inside wrappers, where it fits.
     pub fn as_u64(&self) -> Option<u64>
         ensures { result ≡ fitting_u64 (whole_number_in (resolved (tree self.now))) }
     {
@@ -139,7 +139,7 @@ impl Content {
             _ => None,
         }
     }
-    /// The whole number, behind wrappers, where it fits.
+    /// The whole number, inside wrappers, where it fits.
     pub fn as_u128(&self) -> Option<u128>
         ensures { result ≡ fitting_u128 (whole_number_in (resolved (tree self.now))) }
     {
@@ -158,7 +158,7 @@ impl Content {
         }
     }
 
-    /// The whole number, behind wrappers, where it fits.
+    /// The whole number, inside wrappers, where it fits.
     pub fn as_i64(&self) -> Option<i64>
         ensures { result ≡ fitting_i64 (whole_number_in (resolved (tree self.now))) }
     {
@@ -177,7 +177,7 @@ impl Content {
         }
     }
 
-    /// The whole number, behind wrappers, where it fits.
+    /// The whole number, inside wrappers, where it fits.
     pub fn as_i128(&self) -> Option<i128>
         ensures { result ≡ fitting_i128 (whole_number_in (resolved (tree self.now))) }
     {

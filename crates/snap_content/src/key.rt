@@ -21,7 +21,7 @@ pub enum Key<'a> {
 }
 
 impl Content {
-    /// The key behind wrappers. A character counts as its number.
+    /// The key inside wrappers. A character counts as its number.
     pub fn as_key(&self) -> Key<'_>
         ensures { key_value result ≡ key_of (tree self.now) }
     {

@@ -7,7 +7,7 @@ use crate::content::Content;
 use crate::lists::{Fields, Items, Pairs};
 use std::cmp::Ordering;
 
-/// The first of these orders that is not `Equal`. What stands behind it is not computed.
+/// The first of these orders that is not `Equal`. What stands after it is not computed.
 macro_rules! in_turn {
     ($last:expr) => { $last };
     ($first:expr, $($next:expr),+) => {

@@ -22,7 +22,7 @@ macro_rules! around {
 impl Content {
     /// Sorts the entries of each map by their keys; entries with equal keys keep their order.
     /// Children come first, keys and values alike, so that keys compare as what they become.
-    /// After want of memory some maps are sorted, and the others stand as before.
+    /// After running out of memory some maps are sorted, and the others stand as before.
     #[cycle(sort)]
     pub fn sort_maps(&mut self, alloc: Global) -> Result<(), OutOfMemory>
         ensures ok { OnOk result (Sorted (tree self.old) (tree self.new)) }
@@ -30,13 +30,13 @@ impl Content {
     {
         let whole = mem::replace(self, Content::Unit);
         let (whole, outcome) = sort_inside(whole, alloc);
-        // Ended by a call, since each goal behind has the steps of what the sort itself ends.
+        // Ended by a call, since each later goal has the steps of what the sort itself ends.
         drop(mem::replace(self, whole));
         outcome
     }
 }
 
-/// The tree comes back after want of memory too.
+/// The tree comes back after running out of memory too.
 #[cycle(sort)]
 fn sort_inside(node: Content, alloc: Global) -> (Content, Result<(), OutOfMemory>)
     ensures ok { OnOk result.1 (Sorted (tree node) (tree result.0)) }
@@ -165,7 +165,7 @@ fn sort_pair(pair: &mut (Content, Content), alloc: Global) -> Result<(), OutOfMe
     pair.1.sort_maps(alloc)
 }
 
-/// The entries by their keys; those with equal keys keep their order. After want of memory they stand as before.
+/// The entries by their keys; those with equal keys keep their order. After running out of memory they stand as before.
 fn sort_entries(entries: &mut [(Content, Content)], alloc: Global) -> Result<(), OutOfMemory>
     ensures ok { OnOk result (InKeyOrder (map pair_tree entries.old) (map pair_tree entries.new)) }
     ensures partly { AsBeforeOrInKeyOrder

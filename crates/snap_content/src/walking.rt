@@ -22,7 +22,7 @@ impl Content {
     {
         if visit(self) {
             let whole = mem::replace(self, Content::Unit);
-            // Ended by a call, since each goal behind has the steps of what the walk itself ends.
+            // Ended by a call, since each later goal has the steps of what the walk itself ends.
             drop(mem::replace(self, walk_inside(whole, visit)));
         }
     }

@@ -2,7 +2,7 @@
 use Rattle.snap_emit.proofs.Prelude.{◌≡◌, ℕ, ℤ, Bool, true, false, List, Option, Some, None, refl, sym, ap, ◌||◌, not, if◌then◌else◌, option_map, option_and_then, codes, plain_read, plains_read, entries_read, has_number_text, have_number_texts, are_number_texts_in, is_whole}
 use Rattle.std.specs.Str.{bytes_eq}
 use Rattle.snap_content.specs.Plain as p
-use Rattle.snap_content.specs.Typed as t
+use Rattle.snap_print.specs.Typed as t
 use Rattle.snap_parse_laws.specs.Forms.{square, curly}
 use Rattle.snap_parse_laws.specs.Layouts as w
 use Rattle.snap_yaml.specs.Through.{plain_typed}

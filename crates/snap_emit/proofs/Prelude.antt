@@ -10,7 +10,7 @@ pub use denote.Shadow.{shadow}
 pub use denote.Text.{Utf8}
 pub use Rattle.snap_content.proofs.Booleans.{or_left, or_right, or_nothing}
 pub use Rattle.snap_content.specs.Plain.{Plain, plain, content_of}
-pub use Rattle.snap_content.specs.Readable.{IsWithin, IsNumber, AreWithin, AreEntriesWithin}
+pub use Rattle.snap_print.specs.Readable.{IsWithin, IsNumber, AreWithin, AreEntriesWithin}
 pub use Rattle.snap_content.specs.View.{tree, pair_tree, item_trees, pair_list, pair_trees, Pairs}
 pub use Rattle.snap_content.specs.declared.content.Content.{Content, Map}
 pub use Rattle.snap_parse.proofs.PrintedValues.{document-read}

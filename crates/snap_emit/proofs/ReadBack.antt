@@ -2,8 +2,8 @@
 use Rattle.snap_emit.proofs.Prelude.{◌≡◌, ℕ, ℤ, Bool, true, false, not, ◌||◌, List, Option, Some, option_map, if◌then◌else◌, refl, sym, ap, ◌∙◌, option_and_then, IsNumber, IsWithin, AreWithin, AreEntriesWithin, typed_word, read_value, read_values, read_pairs, document-read, off, is_whole, plain_read, plains_read, entries_read, has_number_text, have_number_texts, are_number_texts_in, or_from}
 use Rattle.std.specs.Fmt.{signed_decimal}
 use Rattle.snap_content.specs.Plain as p
-use Rattle.snap_content.specs.Typed.{has_64_bits, number_in}
-use Rattle.snap_content.specs.Typed as t
+use Rattle.snap_print.specs.Typed.{has_64_bits, number_in}
+use Rattle.snap_print.specs.Typed as t
 use Rattle.snap_yaml.specs.Through.{plain_typed}
 use Rattle.snap_yaml.specs.Typing.{typed_yaml}
 use Rattle.snap_yaml.specs.Value as v

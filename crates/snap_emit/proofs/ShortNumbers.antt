@@ -5,7 +5,7 @@ use Rattle.std.specs.Str.{bytes_eq}
 use borrow.Author.Tests.{ltb-true}
 use Rattle.snap_content.specs.Numbers.{is_integer_text}
 use Rattle.snap_content.specs.Plain as p
-use Rattle.snap_content.specs.Typed.{number_in, has_64_bits, has_128_bits, is_null_word}
+use Rattle.snap_print.specs.Typed.{number_in, has_64_bits, has_128_bits, is_null_word}
 use Rattle.snap_content.proofs.PlainMade.{plain_made}
 use Rattle.snap_scan_tokens.specs.declared.token.TScalarStyle.{TScalarStyle}
 use Rattle.snap_scan_tokens.specs.declared.token.TScalarStyle.TheVariants as style

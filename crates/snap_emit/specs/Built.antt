@@ -44,7 +44,7 @@ is_word_value (array vs) = false
 is_word_value (hash ps) = false
 is_word_value _ = true
 
--- an item before others and behind others, where there is each of them
+-- an item before others and after others, where there is each of them
 abbrev pub before : {X : Type 0} → Option X → Option (List X) → Option (List X)
 before None xs = None
 before (Some x) None = None

@@ -1,7 +1,7 @@
 -- Bare words whose meaning was worked out by hand. `negsuc n` is the number -(n + 1).
 use Rattle.std.specs.Prelude.{◌≡◌, pos, negsuc, [], ◌∷◌, true, false, codes}
 use Rattle.snap_content.specs.Plain.{null, bool, int, text, list, dict, item, no_items, entry, no_entries}
-use Rattle.snap_content.specs.Typed.{typed, value, real}
+use Rattle.snap_print.specs.Typed.{typed, value, real}
 use Rattle.snap_parse_laws.specs.LayoutExamples.{hand_header, hand_request, hand_list}
 use Rattle.snap_emit.specs.LayoutTrees.{layout_plain, layout_keeps}
 

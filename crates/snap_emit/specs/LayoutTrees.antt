@@ -1,7 +1,7 @@
 -- What a layout spells: its plain tree, and whether a number stands in it that is kept as its text.
 use Rattle.std.specs.Prelude.{◌||◌, ◌++◌, ℕ, List, Bool, true, false}
 use Rattle.snap_content.specs.Plain as p
-use Rattle.snap_content.specs.Typed.{Typed, value, real, typed}
+use Rattle.snap_print.specs.Typed.{Typed, value, real, typed}
 use Rattle.snap_parse_laws.specs.Forms.{square, curly, line_ends}
 use Rattle.snap_parse_laws.specs.Layouts as w
 use Rattle.snap_parse_laws.specs.LayoutTexts.{characters}

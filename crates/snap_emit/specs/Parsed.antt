@@ -1,7 +1,7 @@
 -- What a reading comes to.
 use Rattle.std.specs.Prelude.{◌≡◌, ℕ, List, true, false, Result, Ok, Err}
 use Rattle.snap_content.specs.Plain.{Plain, content_of}
-use Rattle.snap_content.specs.Readable.{IsWithin}
+use Rattle.snap_print.specs.Readable.{IsWithin}
 use Rattle.snap_content.specs.View.{tree}
 use Rattle.snap_content.specs.declared.content.Content.{Content}
 use Rattle.snap_content.specs.declared.error.Error.{Error}

@@ -5,7 +5,7 @@ use Rattle.snap_content.specs.Plain as p
 use Rattle.snap_content.specs.Tree.{Tree}
 use Rattle.snap_content.specs.View.{tree}
 use Rattle.snap_content.specs.declared.content.Content.{Content}
-use Rattle.snap_content.specs.Typed.{number_in, has_128_bits}
+use Rattle.snap_print.specs.Typed.{number_in, has_128_bits}
 use Rattle.snap_yaml.specs.Value.{Value, real, integer, string, boolean, array, hash, null, bad_value, Values, no_values, value, ValuePairs, no_pairs, pair}
 
 -- the text of a whole number of at most 128 bits

@@ -1,7 +1,7 @@
 -- The texts of a tree: the one that is printed, and each one that spells it in the free layout.
 use Rattle.std.specs.Prelude.{◌≡◌, ◌⊎◌, ℕ, List, Bool, false}
 use Rattle.snap_content.specs.Plain.{Plain}
-use Rattle.snap_content.specs.Readable.{IsWithin}
+use Rattle.snap_print.specs.Readable.{IsWithin}
 use Rattle.snap_print.specs.Blocks.{Blocks}
 use Rattle.snap_print.specs.Lines.{document_of}
 use Rattle.snap_parse_laws.specs.FreeLayouts.{IsFree}

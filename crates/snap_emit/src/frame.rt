@@ -15,7 +15,7 @@ pub(crate) enum Frame {
     Dict(Option<Pairs>, bool, Option<Made>),
 }
 
-/// Puts a tree behind others. Where it is none, there are none.
+/// Puts a tree after others. Where it is none, there are none.
 fn put_item(items: &mut Option<Items>, item: Option<Content>) -> Result<(), OutOfMemory>
     ensures { OnOk result (option_map (λ x. map tree (item_list x)) items.new
         ≡ behind (option_map (λ x. map tree (item_list x)) items.old) (option_map tree item)) }
@@ -69,7 +69,7 @@ fn pair_of(key: Option<Content>, value: Option<Content>) -> Option<(Content, Con
     }
 }
 
-/// Puts an item behind others.
+/// Puts an item after others.
 fn put_in_list(
     items: &mut Option<Items>,
     has_number: &mut bool,
@@ -82,7 +82,7 @@ fn put_in_list(
     put_item(items, made.content)
 }
 
-/// Puts a value behind its key. Nothing counts behind what is no tree.
+/// Puts a value after its key. Nothing counts after what is no tree.
 fn put_behind(
     pairs: &mut Option<Pairs>,
     has_number: &mut bool,

@@ -1,9 +1,9 @@
 //! Laws of printed texts.
 ghost use Rattle.std.specs.Prelude.{◌≡◌, true, ℕ, List};
 ghost use Rattle.snap_content.specs.Plain.{Plain};
-ghost use Rattle.snap_content.specs.Readable.{IsWithin, is_word};
-ghost use Rattle.snap_content.specs.Spell.{spelling};
-ghost use Rattle.snap_content.specs.Typed.{typed, value};
+ghost use Rattle.snap_print.specs.Readable.{IsWithin, is_word};
+ghost use Rattle.snap_print.specs.Spell.{spelling};
+ghost use Rattle.snap_print.specs.Typed.{typed, value};
 ghost use Rattle.snap_print.specs.Blocks.{Blocks};
 ghost use Rattle.snap_print.specs.Lines.{text_of};
 ghost use Rattle.snap_emit.specs.Spelled.{IsHeaderOf, SpellsHeader};

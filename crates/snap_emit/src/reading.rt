@@ -2,7 +2,7 @@
 ghost use Rattle.std.specs.Prelude.{◌≡◌, List, IfOk, IfErr, IsOkAnd};
 ghost use Rattle.std.specs.Str.{chars};
 ghost use Rattle.snap_content.specs.Plain.{Plain, content_of};
-ghost use Rattle.snap_content.specs.Readable.{IsWithin};
+ghost use Rattle.snap_print.specs.Readable.{IsWithin};
 ghost use Rattle.snap_content.specs.View.{tree};
 ghost use Rattle.snap_parse_events.specs.Nodes.{Node};
 ghost use Rattle.snap_parse_laws_json.specs.Bounded.{IsJsonOf};

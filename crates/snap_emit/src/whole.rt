@@ -4,7 +4,7 @@ ghost use Rattle.std.specs.Str.{chars};
 ghost use Rattle.std.specs.Str.Parse.{digits_value};
 ghost use Rattle.snap_content.specs.Numbers.{is_digits};
 ghost use Rattle.snap_content.specs.Plain.{number_tree};
-ghost use Rattle.snap_content.specs.Typed.{below_zero, number_in};
+ghost use Rattle.snap_print.specs.Typed.{below_zero, number_in};
 ghost use Rattle.snap_content.specs.View.{tree};
 ghost use Rattle.snap_emit.specs.PlainRead.{is_whole, whole_tree};
 

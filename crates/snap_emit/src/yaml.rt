@@ -2,7 +2,7 @@
 ghost use Rattle.std.specs.Prelude.{◌≡◌, false, List, IfOk, IfErr};
 ghost use Rattle.std.specs.Str.{chars};
 ghost use Rattle.snap_content.specs.Plain.{Plain, plain, content_of};
-ghost use Rattle.snap_content.specs.Readable.{IsWithin};
+ghost use Rattle.snap_print.specs.Readable.{IsWithin};
 ghost use Rattle.snap_content.specs.View.{tree};
 ghost use Rattle.snap_print.specs.Blocks.{blocks_if};
 ghost use Rattle.snap_print.specs.Lines.{document_of, lines_of, text_of};

@@ -1,4 +1,4 @@
--- The text of a shape by columns is its lines, the further ones behind blanks; and whole documents.
+-- The text of a shape by columns is its lines, the further ones after blanks; and whole documents.
 use Rattle.snap_emit_values.proofs.Prelude.{◌≡◌, ℕ, zero, suc, ◌+◌, List, [], ◌∷◌, ◌++◌, Bool, true, false, if◌then◌else◌, map, refl, sym, ap, ◌∙◌, append_assoc, append-nil, arith, ◌==◌, None, Some, Option, flat_map, codes}
 use Rattle.snap_str.specs.Lines.{onto}
 use Rattle.snap_content.specs.Lines.{ended}
@@ -95,7 +95,7 @@ block-following k w x =
     following-append k (map two_in (text_lines (core x))) (empties n) ∙ ap last (following-empties k n) ∙ ap behind_all lines
     ∙ append_assoc (break_at (k + 2)) (shifted (k + 2) (core x)) (line_ends n)
 
--- behind a mark
+-- after a mark
 filled-behind : (k mark : ℕ) (ls : List (List ℕ)) (text : List ℕ) → Laid (k + 2) ls text → Filled k (behind mark ls) (mark_text mark text)
 filled-behind k mark ls text l =
     let whole : List (List ℕ) → List (List ℕ) = λ x. behind mark x in
@@ -116,7 +116,7 @@ filled-marked k mark w (Some x) ls text l =
     let after : List ℕ → List ℕ = λ y. mark ∷ 32 ∷ (block_sign (kept_ends x) ++ y) in
     record { head = mark; others = 32 ∷ block_sign (kept_ends x); rest = block_lines w x; is = refl; text = ap after (sym (block-following k w x)) }
 
--- behind a key and a colon
+-- after a key and a colon
 record IsKeyed (key tail : List ℕ) : Type 0 where
   head : ℕ
   others : List ℕ
@@ -169,7 +169,7 @@ block-keyed k w key x =
     append_assoc key (58 ∷ 32 ∷ []) (block_text (k + 2) w x) ∙ ap after (sym (block-following k w x)) ∙ sym (append_assoc key (58 ∷ 32 ∷ sign) all) in
     filled-key k key (32 ∷ sign) (block_lines w x) (key ++ 58 ∷ 32 ∷ [] ++ block_text (k + 2) w x) e
 
--- a block is flat: its sign stands behind the colon
+-- a block is flat: its sign stands after the colon
 block-flat : (w : Blocks) (v : s.Shape) (x : List ℕ) → s.block_in w v ≡ Some x → s.is_flat v ≡ true
 block-flat w (s.scalar y) x e = refl
 block-flat w (s.number z) x e = refl
@@ -340,7 +340,7 @@ dumped-text w t b is =
     ap (λ (x : List ℕ). codes "---\n" ++ (x ++ (if b then 10 ∷ [] else []))) (text-joined w t)
     ∙ ap (λ (q : Bool). codes "---\n" ++ (joined (s.lines w t) ++ (if q then 10 ∷ [] else []))) is
 
--- with a line's end behind it, each line has its end
+-- with a line's end after it, each line has its end
 ended-text : (w : Blocks) (t : s.Shape) → joined (s.lines w t) ++ 10 ∷ [] ≡ flat_map ended (s.lines w t)
 ended-text w t = ap (λ (x : List ℕ). x ++ 10 ∷ []) (sym (text-joined w t)) ∙ whole-text w t
 

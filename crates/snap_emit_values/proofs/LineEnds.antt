@@ -96,7 +96,7 @@ keeps-by (suc n) xs is =
     ap (λ (b : Bool). b && not (ends_badly (core xs))) many
     ∙ sym (ap (λ (s : List ℕ). not (ends_badly s)) split ∙ ap not (ends_badly-push (core xs ++ line_ends n) 10))
 
--- behind one line's end, by what stands before it
+-- after one line's end, by what stands before it
 pub keeps-end : (text xs : List ℕ) (c : ℕ) → text ≡ xs ++ c ∷ [] → c ≡ 10 → not (ends_badly xs) ≡ keeps_end text
 keeps-end text xs c is feed =
     let split : text ≡ xs ++ 10 ∷ [] = is ∙ ap (λ (d : ℕ). xs ++ d ∷ []) feed in

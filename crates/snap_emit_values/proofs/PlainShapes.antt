@@ -2,7 +2,7 @@
 use Rattle.snap_emit_values.proofs.Prelude.{◌≡◌, ℕ, List, [], ◌∷◌, ◌++◌, Bool, if◌then◌else◌, refl, ap, ◌∙◌, None, Some, Option, codes, flat_map}
 use Rattle.snap_content.specs.Plain as p
 use Rattle.snap_content.specs.Lines.{ended}
-use Rattle.snap_content.specs.Spell as sp
+use Rattle.snap_print.specs.Spell as sp
 use Rattle.snap_print.specs.Blocks.{Blocks, before_more, as_block}
 use Rattle.snap_print.specs.Lines as b
 use Rattle.snap_emit_values.specs.Columns.{text_at}

@@ -18,7 +18,7 @@ pub use Rattle.snap_content.proofs.Ascii.{IsAscii-list_all, list_all-IsAscii}
 pub use Rattle.snap_content.specs.Lines.{ended}
 pub use Rattle.snap_content.specs.Plain.{Plain, plain}
 pub use Rattle.snap_content.specs.Quotes.{is_special, needs_quotes, ends_badly}
-pub use Rattle.snap_content.specs.Spell.{spell_text, escaped, escaped_code, quoted}
+pub use Rattle.snap_print.specs.Spell.{spell_text, escaped, escaped_code, quoted}
 pub use Rattle.snap_content.specs.View.{tree, item_list, item_trees, pair_list, pair_trees, field_list, field_trees, Items, Pairs, Fields}
 pub use Rattle.snap_content.specs.declared.content.Content.{Content}
 pub use Rattle.snap_print.specs.Blocks.{Blocks, blocks_if, before_more, is_inside, core, kept_ends, block_sign, empty_lines}

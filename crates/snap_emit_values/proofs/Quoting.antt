@@ -17,7 +17,7 @@ pub run_split : (text run rest : List ℕ) → text ≡ run ++ rest → flat_map
 run_split text run rest whole bare =
     ap (flat_map escaped) whole ∙ flat_map-append escaped run rest ∙ ap (λ x. x ++ flat_map escaped rest) bare
 
--- a text that begins with a character, a bare run behind it
+-- a text that begins with a character, a bare run after it
 pub step_split : (text behind run rest : List ℕ) (c : ℕ) → text ≡ c ∷ behind → behind ≡ run ++ rest → flat_map escaped run ≡ run
     → flat_map escaped text ≡ escaped c ++ (run ++ flat_map escaped rest)
 step_split text behind run rest c front whole bare =

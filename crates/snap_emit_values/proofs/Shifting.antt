@@ -1,4 +1,4 @@
--- A text is its first line, and its further ones behind blanks.
+-- A text is its first line, and its further ones after blanks.
 use Rattle.snap_emit_values.proofs.Prelude.{◌≡◌, ℕ, List, [], ◌∷◌, ◌++◌, refl, sym, ap, ◌∙◌, append_assoc, or_parts, list_any, ◌==◌, IsBegun, break_at, shifted}
 use Rattle.snap_str.specs.Cut.{Lacks, IsCutAtFirst}
 
@@ -19,7 +19,7 @@ split-on k text done rest line behind split cut =
     split ∙ ap at cut.is ∙ ap after (first-line k line behind cut.first) ∙ ap after (sym (append_assoc line (break_at k) (shifted k behind)))
     ∙ sym (append_assoc done (line ++ break_at k) (shifted k behind))
 
--- a beginning of a piece was written behind what was written before
+-- a beginning of a piece was written after what was written before
 pub begun-at : (old mid new done piece rest full : List ℕ) → mid ≡ old ++ done → full ≡ done ++ piece ++ rest → IsBegun mid new piece → IsBegun old new full
 begun-at old mid new done piece rest full a split h =
     let front : List ℕ → List ℕ = λ x. done ++ x ++ rest in

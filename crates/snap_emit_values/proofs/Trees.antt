@@ -43,7 +43,7 @@ pub flat_dict : (es : List (s.Shape × s.Shape)) → s.is_flat (s.dict (s.shape_
 flat_dict [] = refl
 flat_dict (e ∷ es) = grind (arith, nat_tests)
 
--- pieces behind a line that ends, and pieces as a shape holds them: each behind the end of a line
+-- pieces after a line that ends, and pieces as a shape holds them: each after the end of a line
 abbrev further : {X : Type 0} → ℕ → (X → List ℕ) → (X → List ℕ) → X → List X → List ℕ
 further k before last x [] = break_at k ++ last x ++ []
 further k before last x (y ∷ ys) = (break_at k ++ before x) ++ further k before last y ys

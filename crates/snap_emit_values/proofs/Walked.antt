@@ -6,7 +6,7 @@ use Rattle.snap_emit_values.proofs.Begun.{added_twice, begun_first, begun_then, 
 abbrev pub ended_at : {X : Type 0} → ℕ → (X → List ℕ) → X → List ℕ
 ended_at k before x = before x ++ break_at k
 
--- what stands behind a beginning of a text
+-- what stands after a beginning of a text
 record Rest (front whole : List ℕ) : Type 0 where
   rest : List ℕ
   is : whole ≡ front ++ rest
@@ -87,7 +87,7 @@ begun_end k piece u w xs i x old mid added new same so_far below is first h =
     begun_at k (piece (before_more w)) (piece w) xs i x old mid new so_far below is
     (begun_then mid added new (piece (before_more w) x) (break_at k) (first ∙ ap (λ v. mid ++ piece v x) same) h)
 
--- behind the loop, within the last piece
+-- after the loop, within the last piece
 pub begun_last : {X : Type 0} (k : ℕ) (piece : Blocks → X → List ℕ) (w : Blocks) (xs : List X) (i n : ℕ) (x : X) (old mid new : List ℕ)
     → IsAdded k (piece (before_more w)) xs i old mid → i ≡ n → length xs ≡ suc n → x ≡ get_or xs n x → IsBegun mid new (piece w x)
     → IsBegun old new (lines_in k piece w xs)
@@ -139,7 +139,7 @@ key_mark k w key flat old new long h =
     (ap (λ b. if b then spelled key ++ 58 ∷ gap (k + 2) flat else mark_text 63 (text_at (k + 2) w key) ++ (break_at k ++ 58 ∷ 32 ∷ [])) (sym long))
     (begun_first old new (63 ∷ 32 ∷ []) (text_at (k + 2) w key ++ (break_at k ++ 58 ∷ 32 ∷ [])) h)
 
--- and behind it
+-- and after it
 pub key_colon : (k inner : ℕ) (w : Blocks) (key : Shape) (flat : Bool) (old mid new : List ℕ) → is_simple key ≡ true → inner ≡ k + 2
     → mid ≡ old ++ spelled key → IsBegun mid new (58 ∷ gap inner flat) → IsBegun old new (key_of k w key flat)
 key_colon k inner w key flat old mid new simple deep first h =

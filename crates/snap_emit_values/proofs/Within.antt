@@ -2,7 +2,7 @@
 use Rattle.snap_emit_values.proofs.Prelude.{◌≡◌, ℕ, suc, ◌+◌, ◌<◌, List, [], ◌∷◌, length, take, get_or, subst, arith, All, take_all}
 use Rattle.std.proofs.lemmas.List.Elements.{All-more}
 use Rattle.snap_content.specs.Plain as p
-use Rattle.snap_content.specs.Readable.{IsWithin, AreWithin, AreEntriesWithin}
+use Rattle.snap_print.specs.Readable.{IsWithin, AreWithin, AreEntriesWithin}
 use Rattle.snap_emit_values.specs.FromContent.{IsShapeWithin, AreShapesWithin, ArePairsWithin, IsPairWithin}
 use Rattle.snap_emit_values.specs.Shape as s
 

@@ -1,8 +1,8 @@
--- The text of a shape at a column: its first line where one stands, each further line behind as many blanks, an empty one behind none.
+-- The text of a shape at a column: its first line where one stands, each further line after as many blanks, an empty one after none.
 -- The end of the last line is left out.
 use Rattle.std.specs.Prelude.{◌≡◌, ℕ, ◌+◌, zero, suc, List, [], ◌∷◌, ◌++◌, ◌==◌, Bool, if◌then◌else◌, codes, Option, None, Some}
 use Rattle.std.specs.Fmt.{signed_decimal}
-use Rattle.snap_content.specs.Spell.{spell_text}
+use Rattle.snap_print.specs.Spell.{spell_text}
 use Rattle.snap_print.specs.Blocks.{Blocks, before_more, is_inside, core, kept_ends, block_sign, empty_lines}
 use Rattle.snap_emit_values.specs.Shape as s
 
@@ -18,7 +18,7 @@ abbrev pub line_ends : ℕ → List ℕ
 line_ends zero = []
 line_ends (suc n) = 10 ∷ line_ends n
 
--- a text whose further lines stand behind k blanks
+-- a text whose further lines stand after k blanks
 abbrev pub shifted : ℕ → List ℕ → List ℕ
 shifted k [] = []
 shifted k (c ∷ cs) = if c == 10 then break_at k ++ shifted k cs else c ∷ shifted k cs

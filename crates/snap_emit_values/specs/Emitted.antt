@@ -1,6 +1,6 @@
 -- The text of a list or dict of shapes at a column.
 use Rattle.std.specs.Prelude.{ℕ, ◌+◌, List, [], ◌∷◌, ◌++◌, codes, Bool}
-use Rattle.snap_content.specs.Spell.{spell_text}
+use Rattle.snap_print.specs.Spell.{spell_text}
 use Rattle.snap_print.specs.Blocks.{Blocks, before_more}
 use Rattle.snap_emit_values.specs.Columns.{break_at, child_text, mark_text, text_at, key_text}
 use Rattle.snap_emit_values.specs.Shape.{Shape, text, block_in, is_flat}

@@ -1,7 +1,7 @@
 -- What is printed of a `Content`: the shape of its plain form.
 use Rattle.std.specs.Prelude.{ℕ, pos, List}
 use Rattle.snap_content.specs.Plain.{plain}
-use Rattle.snap_content.specs.Readable.{IsNumber, IsWithin}
+use Rattle.snap_print.specs.Readable.{IsNumber, IsWithin}
 use Rattle.snap_content.specs.View.{tree}
 use Rattle.snap_content.specs.declared.content.Content.{Content}
 use Rattle.snap_emit_values.specs.Shape.{Shape, scalar, number, text, list, dict, Shapes, no_shapes, shape, ShapePairs, no_pairs, pair, plain_shape}

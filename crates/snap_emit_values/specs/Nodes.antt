@@ -1,7 +1,7 @@
--- What the emitter sees of a value: the shape of what is behind it.
+-- What the emitter sees of a value: the shape of what is after it.
 use Rattle.std.specs.Prelude.{pos, List, [], ◌∷◌, map, codes}
 use Rattle.std.specs.Str.{chars}
-use Rattle.snap_content.specs.Spell.{spell_bool}
+use Rattle.snap_print.specs.Spell.{spell_bool}
 use Rattle.snap_emit_values.specs.FromContent.{content_shape, pair_shape, field_shape, byte_shape}
 use Rattle.snap_emit_values.specs.Shape as s
 use Rattle.snap_emit_values.specs.declared.node.Entries.{Entries}
@@ -43,5 +43,6 @@ node_shape (n.Text text) = s.text (chars text.now)
 node_shape (n.List items) = s.list (s.shapes_of (item_shapes items))
 node_shape (n.Dict pairs) = s.dict (s.shape_pairs_of (entry_shapes pairs))
 
+-- the shapes of a key and of its value
 abbrev pub node_pair : Node × Node → s.Shape × s.Shape
 node_pair p = both (node_shape p.0) (node_shape p.1)

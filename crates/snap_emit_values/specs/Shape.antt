@@ -3,7 +3,7 @@
 use Rattle.std.specs.Prelude.{ℕ, ℤ, List, [], ◌∷◌, ◌++◌, Bool, true, false, nat_le, if◌then◌else◌, length, map, codes, Option, None, Some}
 use Rattle.std.specs.Fmt.{signed_decimal}
 use Rattle.snap_content.specs.Plain as p
-use Rattle.snap_content.specs.Spell.{spelling, spell_bool, spell_text}
+use Rattle.snap_print.specs.Spell.{spelling, spell_bool, spell_text}
 use Rattle.snap_print.specs.Blocks.{Blocks, before_more, is_block, block_sign, kept_ends}
 use Rattle.snap_print.specs.Lines.{block_lines, indented, behind, marked}
 use Rattle.snap_yaml.specs.Value as v
@@ -70,7 +70,7 @@ block_in w (text s) = if is_block w s then Some s else None
 block_in w (list ts) = None
 block_in w (dict ps) = None
 
--- the lines of a value behind its key and a colon
+-- the lines of a value after its key and a colon
 abbrev pub keyed : Blocks → List ℕ → Shape → Option (List ℕ) → List (List ℕ) → List (List ℕ)
 keyed w key value None ls = if is_flat value then (key ++ 58 ∷ 32 ∷ spelled value) ∷ [] else (key ++ 58 ∷ []) ∷ map indented ls
 keyed w key value (Some s) ls = (key ++ 58 ∷ 32 ∷ block_sign (kept_ends s)) ∷ block_lines w s

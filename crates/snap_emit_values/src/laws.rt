@@ -9,7 +9,7 @@ ghost use Rattle.snap_emit_values.specs.Columns.{text_at, lines_at};
 ghost use Rattle.snap_emit_values.specs.Document.{document, dumped, ends_in_block};
 ghost use Rattle.snap_emit_values.specs.Shape.{Shape, lines, plain_shape};
 
-/// The text of a shape at a column is its lines, the further ones behind blanks, an empty one behind none; at column 0 it is the lines,
+/// The text of a shape at a column is its lines, the further ones after blanks, an empty one after none; at column 0 it is the lines,
 /// each with its end. What an emitter adds is a document, but for its last line's end where that line is none of a block.
 pub fn text_is_lines()
     ensures at_a_column { (k : ℕ) (w : Blocks) (t : Shape) → text_at k w t ≡ lines_at k (lines w t) }

@@ -7,7 +7,7 @@ ghost use Rattle.snap_emit_values.specs.Shape.{number, shape_of};
 use snap_content::{Content, Text};
 use snap_yaml::Yaml;
 
-/// One level of a value: a scalar, or what is behind a list or a dict.
+/// One level of a value: a scalar, or what is after a list or a dict.
 #[derive(Clone, Copy)]
 pub enum Node<'a> {
     Null,

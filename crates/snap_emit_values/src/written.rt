@@ -2,7 +2,7 @@
 ghost use Rattle.std.specs.Prelude.{true, [], ◌∷◌, pos, ◌≡◌, ◌≤◌, ◌<◌, ◌^◌, length};
 ghost use Rattle.std.specs.Fmt.{signed_decimal};
 ghost use Rattle.std.specs.Str.{chars};
-ghost use Rattle.snap_content.specs.Spell.{escaped, quoted, spell_text};
+ghost use Rattle.snap_print.specs.Spell.{escaped, quoted, spell_text};
 ghost use Rattle.snap_emit_values.specs.Nodes.{node_shape};
 ghost use Rattle.snap_emit_values.specs.Shape.{is_simple, spelled, shape_of};
 

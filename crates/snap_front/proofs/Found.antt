@@ -58,7 +58,7 @@ pub item_found : (r : Option (Bor Content)) (items : List Content) (n : ℕ) →
 item_found None items n e = ap (option_map tree) e ∙ sym (item_of items n)
 item_found (Some item) items n e = ap (option_map tree) e ∙ sym (item_of items n)
 
--- a segment more, whose step is behind the others; and one that has none
+-- a segment more, whose step is after the others; and one that has none
 pub step_more : (all rest : List Segment) (s : Segment) (step : Step) (done : List Step) → steps_in all ≡ option_map (λ more. done ++ more) (steps_in (s ∷ rest)) → step_of s ≡ Some step
     → steps_in all ≡ option_map (λ more. (done ++ step ∷ []) ++ more) (steps_in rest)
 step_more all rest s step done so_far is = so_far ∙ ap (λ o. option_map (λ more. done ++ more) (option_and_then (λ x. option_map (λ more. x ∷ more) (steps_in rest)) o)) is ∙ by (steps_in rest)

@@ -62,7 +62,7 @@ not_none : (o : Option ℕ) → o ≡ Some 0 → o ≡ None → ⊥
 not_none None a b = absurd (cc)
 not_none (Some n) a b = absurd (cc)
 
--- where no entry has the key, one more is added behind the others
+-- where no entry has the key, one more is added after the others
 pub record IsAbsent (name : List ℕ) (ps : List (Content × Content)) : Type 0 where
   pub value : value_in name (pair_trees ps) ≡ None
   pub entries : (key value : Content) → tree key ≡ t.string name → with_entry name (tree value) (pair_trees ps) ≡ pair_trees (ps ++ (key, value) ∷ [])

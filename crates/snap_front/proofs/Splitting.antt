@@ -19,7 +19,7 @@ joined (c ∷ cs) = by (c == 10) (joined cs)
 abbrev pub with_lines : List (List ℕ) → Cut → Cut
 with_lines lines cut = record { before = lines ++ cut.before; behind = cut.behind }
 
--- behind a first line that is a fence, and lines that are none
+-- after a first line that is a fence, and lines that are none
 pub record IsBehind (text rest : List ℕ) : Type 0 where
   pub done : List (List ℕ)
   pub is : text ≡ concat done ++ rest

@@ -17,12 +17,12 @@ pub record Cut : Type 0 where
 abbrev pub with_line : List ℕ → Cut → Cut
 with_line line cut = record { before = line ∷ cut.before; behind = cut.behind }
 
--- the lines before the first fence, and those behind it
+-- the lines before the first fence, and those after it
 abbrev pub at_fence : List (List ℕ) → Option Cut
 at_fence [] = None
 at_fence (line ∷ rest) = if is_fence line then Some (record { before = []; behind = rest }) else option_map (with_line line) (at_fence rest)
 
--- a first line that is a fence, with the lines up to the next fence; and the lines behind that
+-- a first line that is a fence, with the lines up to the next fence; and the lines after that
 abbrev pub front_lines : List (List ℕ) → Option Cut
 front_lines [] = None
 front_lines (line ∷ rest) = if is_fence line then option_map (with_line line) (at_fence rest) else None

@@ -22,7 +22,7 @@ fn key_at(pairs: &[(Content, Content)], name: &str) -> Option<usize>
     pairs.iter().position(|pair| is_key(&pair.0, name))
 }
 
-/// One pair more, behind the others. The value ends where there is no memory for it.
+/// One pair more, after the others. The value ends where there is no memory for it.
 fn push_pair(
     pairs: &mut Vec<(Content, Content)>,
     name: &str,
@@ -45,7 +45,7 @@ fn push_pair(
     }
 }
 
-/// One item more, behind the others. The value ends where there is no memory for it.
+/// One item more, after the others. The value ends where there is no memory for it.
 fn push_item(items: &mut Vec<Content>, value: Content) -> Result<bool, OutOfMemory>
     ensures ok { IfOk result (λ done. (done ≡ true)
         × (items.new.items ≡ items.old.items ++ value ∷ [])) }
@@ -80,7 +80,7 @@ fn set_at(
     }
 }
 
-/// The same behind one step at least, of a tree that comes back.
+/// The same after one step at least, of a tree that comes back.
 #[cycle(setting)]
 fn set_inside(
     whole: Content,
@@ -98,7 +98,7 @@ fn set_inside(
     }
 }
 
-/// The same behind a key.
+/// The same after a key.
 #[cycle(setting)]
 fn set_under_key(
     whole: Content,
@@ -123,7 +123,7 @@ fn set_under_key(
     }
 }
 
-/// The same behind a place.
+/// The same after a place.
 #[cycle(setting)]
 fn set_at_place(
     whole: Content,
@@ -171,7 +171,7 @@ fn set_in_pairs(
     }
 }
 
-/// In a sequence: in the item at that place, or as a new one behind the last, where no step is left.
+/// In a sequence: in the item at that place, or as a new one after the last, where no step is left.
 #[cycle(setting)]
 fn set_in_items(
     items: &mut Vec<Content>,
@@ -200,7 +200,7 @@ fn set_in_items(
 }
 
 /// Puts the value at the end of the path, and tells whether that could be done: each step leads on, but for the last one, where a
-/// key that a map lacks adds an entry at its end, and the place behind the last item of a sequence an item. Where it can't be
+/// key that a map lacks adds an entry at its end, and the place after the last item of a sequence an item. Where it can't be
 /// done, and after the one error, that memory is out, the tree is as it was.
 pub fn set_tree(
     content: &mut Content,

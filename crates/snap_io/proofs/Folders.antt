@@ -1,4 +1,4 @@
--- The names behind the front that a folder's files share.
+-- The names after the front that a folder's files share.
 use Rattle.snap_io.proofs.Prelude.{◌≡◌, ◌≢◌, ◌==◌, ℕ, Bool, true, false, not, cond, ◌&&◌, ◌||◌, List, [], ◌∷◌, ◌++◌, Option, None, Some, refl, sym, ◌∙◌, ap, subst, eq-eqb, arith, append_assoc, append-nil, eqb-true, false_from_ne_true, nat_list_cmp_total, tied_itself, sorted_head, sorted_tail, All, AllPairs, is_some, list_any, filter_map, cons_option, AllByRecursion, IsStrictlySortedBy, lookup, keys_of, is_at, bytes_eq, nat_cmp, Less, slice_cmp, get, from_entries, is_component, IsName, front_of, AreNames, joined-name}
 use Rattle.std.proofs.lemmas.List.Elements.{All-cons}
 use Rattle.std.proofs.lemmas.List.Kept.{AllPairs-cons}
@@ -17,7 +17,7 @@ name_after [] path = named path
 name_after (c ∷ front) [] = None
 name_after (c ∷ front) (d ∷ path) = cond (c == d) (name_after front path) None
 
--- the names behind the front, in the order of the entries
+-- the names after the front, in the order of the entries
 abbrev pub names_after : List ℕ → List (List ℕ × List ℕ) → List (List ℕ)
 names_after front es = filter_map (λ e. name_after front e.0) es
 

@@ -40,7 +40,7 @@ ToldToEnd most (Err Failed) before now =
     )
 ToldToEnd most (Err OutOfMemory) before now = ⊤
 
--- the folder's path with a slash behind it, so that a link there is followed; the working folder is a dot to the system
+-- the folder's path with a slash after it, so that a link there is followed; the working folder is a dot to the system
 abbrev pub opened_folder : List ℕ → List ℕ
 opened_folder [] = 46 ∷ 47 ∷ []
 opened_folder (byte ∷ bytes) = (byte ∷ bytes) ++ 47 ∷ []

@@ -15,5 +15,6 @@ pub record Outside : Type 0 where
   pub files : Option Files
   pub written : Option (List ℕ)
 
+-- the outside with these files and these bytes
 abbrev pub outside : Option Files → Option (List ℕ) → Outside
 outside files written = record { files = files; written = written }

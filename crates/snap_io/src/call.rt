@@ -3,7 +3,7 @@
 /// What was asked.
 #[derive(Clone, Copy)]
 pub enum Asked {
-    /// What stands at a path, behind the links there.
+    /// What stands at a path, after the links there.
     Look,
     /// What stands at a path itself, which may be a link.
     LookAtLink,

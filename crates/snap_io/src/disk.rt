@@ -113,7 +113,7 @@ impl<R: Files + Alloc + Clone + Drop> Disk<R> {
         told
     }
 
-    /// What stands at the path, behind the links there.
+    /// What stands at the path, after the links there.
     pub(crate) fn look(&mut self, path: &str) -> Answer
         ensures { asked_of self.new ≡ looks path.now result ∷ asked_of self.old }
     {

@@ -65,7 +65,7 @@ impl MemoryFiles {
         Ok(())
     }
 
-    /// Adds these bytes behind those of the file, or makes them a file where there is none.
+    /// Adds these bytes after those of the file, or makes them a file where there is none.
     /// After out of memory nothing has changed.
     pub fn append(&mut self, path: &Text, bytes: &[u8]) -> Result<(), OutOfMemory>
         ensures ok { OnOk result (self.new ≡ appended self.old path.now bytes.now) }
@@ -75,7 +75,7 @@ impl MemoryFiles {
         self.put(path, all.as_slice())
     }
 
-    /// What the file holds, nothing where there is none, and these bytes behind it.
+    /// What the file holds, nothing where there is none, and these bytes after it.
     fn held_before(&self, path: &Text, bytes: &[u8]) -> Result<Vec<u8>, OutOfMemory>
         ensures { IfOk result (λ all. all.items
             ≡ unwrap_or (get self.now path.now) [] ++ bytes.now) }

@@ -29,7 +29,7 @@ pub(crate) fn list_folder<R: Files + Alloc + Clone + Drop>(
     }
 }
 
-/// The slash behind it makes the system follow a link there. The working folder is a dot to the system.
+/// The slash after it makes the system follow a link there. The working folder is a dot to the system.
 fn opened_folder<A: Allocator>(alloc: A, folder: &str) -> Result<String<A>, AllocError>
     ensures { IfOk result (λ path. string_bytes path ≡ opened_folder folder.now) }
 {
@@ -90,7 +90,7 @@ pub(crate) fn push_names(alloc: Global, names: &mut Names, bytes: &[u8]) -> Resu
     push_name(alloc, names, rest)
 }
 
-/// What stands before the first 0, and what stands behind it.
+/// What stands before the first 0, and what stands after it.
 fn split_name(bytes: &[u8]) -> Option<(&[u8], &[u8])>
     ensures cut { MatchOption result (slice_split is_zero bytes.now ≡ bytes.now ∷ [])
         (λ p. slice_split is_zero bytes.now ≡ p.0.now ∷ slice_split is_zero p.1.now) }

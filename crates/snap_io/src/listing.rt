@@ -1,4 +1,4 @@
-//! The name of a path behind the front that a folder's files share.
+//! The name of a path after the front that a folder's files share.
 ghost use Rattle.std.specs.Prelude.{◌≡◌, ◌≢◌, ◌==◌, ◌++◌, ◌↔◌, ℕ, List, IsTrue, MatchOption};
 ghost use Rattle.std.specs.List.{list_any};
 ghost use Rattle.std.specs.Str.{chars};

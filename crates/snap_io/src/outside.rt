@@ -136,7 +136,7 @@ pub trait Store {
             → SameBut path.now m (files self.new)) }
         ensures cause { Counted is_failed (faults self.old) (faults self.new) result };
 
-    /// Adds these bytes behind those of the file, or makes them a file where there is none; missing folders are made.
+    /// Adds these bytes after those of the file, or makes them a file where there is none; missing folders are made.
     fn append(&mut self, path: &Text, bytes: &[u8]) -> Result<(), StoreError>
         ensures appended { OnOk result ((m : Files) → files self.old ≡ Some m
             → files self.new ≡ Some (appended m path.now bytes.now)) }

@@ -69,7 +69,7 @@ BudgetEnd (Err Fault) budget = 0 < budget
 BudgetEnd (Err LineTooLong) budget = 0 < budget
 BudgetEnd (Err OutOfMemory) budget = 0 < budget
 
--- a piece of what is held and the line's end behind it were handed out
+-- a piece of what is held and the line's end after it were handed out
 pub record HandsPiece (line line' held held' : List ℕ) : Type 0 where
   pub piece : List ℕ
   pub is : held ≡ piece ++ 10 ∷ held'

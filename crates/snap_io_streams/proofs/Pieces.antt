@@ -56,7 +56,7 @@ taken count buffer piece bytes next left left' fits is added given = record {
   given = given;
 }
 
--- the part of a buffer that is read into, and the buffer behind it
+-- the part of a buffer that is read into, and the buffer after it
 pub part_room : (room size : ℕ) (buffer : List ℕ) → length buffer ≡ size → 0 < room → room ≤ size → 0 < length (take room buffer)
 part_room room size buffer whole some fits = omega (arith, some, length-take-le room buffer (omega (arith, fits, whole)))
 

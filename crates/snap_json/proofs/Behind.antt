@@ -13,7 +13,7 @@ never_key h = cc
 pub same_whole : (s u : List ℕ) → whole s ≡ whole u → s ≡ u
 same_whole s u h = cc
 
--- what stands behind a whole text
+-- what stands after a whole text
 characters-behind : (s : List ℕ) (b : Written) → characters (behind (whole s) b) ≡ s ++ characters b
 characters-behind s (whole u) = refl
 characters-behind s (stopped u) = refl
@@ -100,7 +100,7 @@ pub behind-end : (a : Written) → behind a (whole []) ≡ a
 behind-end (whole s) = ap whole (append-nil s)
 behind-end (stopped s) = refl
 
--- want of memory before anything was added
+-- out of memory before anything was added
 pub out_of_memory : (old : List ℕ) (w : Written) → IsStopped OutOfMemory old old w
 out_of_memory old w = record { added = []; rest = characters w; is_full = refl; is_new = sym (append-nil old); at_key = λ key. absurd (never_key key) }
 

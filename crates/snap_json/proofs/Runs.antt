@@ -18,12 +18,12 @@ pub run_split : (text run rest : List ℕ) → text ≡ run ++ rest → flat_map
 run_split text run rest whole bare =
     ap (flat_map json_escaped) whole ∙ flat_map-append json_escaped run rest ∙ ap (λ x. x ++ flat_map json_escaped rest) bare
 
--- behind what was written stands the character, and what follows it
+-- after what was written stands the character, and what follows it
 pub step_first : (all done text behind : List ℕ) (c : ℕ) → flat_map json_escaped all ≡ done ++ flat_map json_escaped text → text ≡ c ∷ behind
     → flat_map json_escaped all ≡ done ++ (json_escaped c ++ flat_map json_escaped behind)
 step_first all done text behind c split front = split ∙ ap (λ x. done ++ flat_map json_escaped x) front
 
--- the same with a bare run behind the character
+-- the same with a bare run after the character
 pub step_after : (all done text behind run rest : List ℕ) (c : ℕ) → flat_map json_escaped all ≡ done ++ flat_map json_escaped text → text ≡ c ∷ behind
     → behind ≡ run ++ rest → flat_map json_escaped run ≡ run
     → flat_map json_escaped all ≡ (done ++ json_escaped c) ++ (run ++ flat_map json_escaped rest)

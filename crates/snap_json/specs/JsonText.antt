@@ -3,7 +3,7 @@ use Rattle.std.specs.Prelude.{ℕ, ◌+◌, List, [], ◌++◌, Bool, true, fals
 use Rattle.std.specs.Fmt.{signed_decimal}
 use Rattle.snap_content.specs.Tree.{Tree}
 use Rattle.snap_content.specs.Plain.{Plain, null, bool, int, text, list, dict, Plains, no_items, item, Entries, no_entries, entry}
-use Rattle.snap_content.specs.Spell.{spell_bool}
+use Rattle.snap_print.specs.Spell.{spell_bool}
 use Rattle.snap_json.specs.Strings.{json_string}
 use Rattle.snap_json.specs.Layout.{opening, closing, comma, colon}
 use Rattle.snap_json.specs.JsonPlain.{json_plain}

@@ -1,7 +1,7 @@
 -- Texts between double quotes.
 use Rattle.std.specs.Prelude.{ℕ, List, [], ◌∷◌, ◌++◌, ◌==◌, nat_lt, if◌then◌else◌, codes}
 use Rattle.std.specs.List.{flat_map}
-use Rattle.snap_content.specs.Spell.{escaped_code}
+use Rattle.snap_print.specs.Spell.{escaped_code}
 
 -- a character between double quotes: those below a blank are escaped, and the quote and the backslash
 abbrev pub json_escaped : ℕ → List ℕ

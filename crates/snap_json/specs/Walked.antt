@@ -10,7 +10,7 @@ use Rattle.snap_json.specs.JsonPlain.{json_plain, json_key, key_plain}
 use Rattle.snap_json.specs.Written.{Written, whole, behind, written, member_written}
 use Rattle.snap_json.specs.declared.format.Format.{Format}
 
--- the rest of a text behind characters that stand between double quotes as they are
+-- the rest of a text after characters that stand between double quotes as they are
 pub record IsBareBefore (text rest : List ℕ) : Type 0 where
   pub run : List ℕ
   pub is_all : text ≡ run ++ rest

@@ -3,7 +3,7 @@ use Rattle.std.specs.Prelude.{ℕ, ◌+◌, List, [], ◌++◌, ◌≡◌, Bool,
 use Rattle.std.specs.Fmt.{signed_decimal}
 use Rattle.snap_content.specs.Tree.{Tree}
 use Rattle.snap_content.specs.Plain.{Plain, null, bool, int, text, list, dict, Plains, no_items, item, Entries, no_entries, entry}
-use Rattle.snap_content.specs.Spell.{spell_bool}
+use Rattle.snap_print.specs.Spell.{spell_bool}
 use Rattle.snap_json.specs.Strings.{json_string}
 use Rattle.snap_json.specs.Layout.{opening, closing, comma, colon}
 use Rattle.snap_json.specs.JsonPlain.{json_plain}
@@ -24,7 +24,7 @@ abbrev pub is_stopped : Written → Bool
 is_stopped (whole s) = false
 is_stopped (stopped s) = true
 
--- one behind the other; nothing stands behind a refused key
+-- one after the other; nothing stands after a refused key
 abbrev pub behind : Written → Written → Written
 behind (whole s) (whole u) = whole (s ++ u)
 behind (whole s) (stopped u) = stopped (s ++ u)

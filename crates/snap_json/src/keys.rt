@@ -34,7 +34,7 @@ fn write_resolved_key(out: &mut Text, alloc: Global, key: &Content) -> Result<()
     }
 }
 
-/// Adds the key of a map. One that is neither a text, nor a unit variant, nor a whole number, behind wrappers, is refused.
+/// Adds the key of a map. One that is neither a text, nor a unit variant, nor a whole number, inside wrappers, is refused.
 pub fn write_key(
     out: &mut Text,
     alloc: Global,

@@ -2,7 +2,7 @@
 ghost use Rattle.std.specs.Prelude.{◌≡◌, true, false};
 ghost use Rattle.std.specs.List.{list_any};
 ghost use Rattle.snap_content.specs.Plain.{content_of};
-ghost use Rattle.snap_content.specs.Readable.{IsWithin};
+ghost use Rattle.snap_print.specs.Readable.{IsWithin};
 ghost use Rattle.snap_content.specs.Tree.{Tree};
 ghost use Rattle.snap_json.specs.JsonPlain.{json_plain};
 ghost use Rattle.snap_json.specs.JsonText.{json_text, json_refuses};

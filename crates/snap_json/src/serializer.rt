@@ -1,4 +1,4 @@
-//! Condensed JSON, one value behind the other in one text.
+//! Condensed JSON, one value after the other in one text.
 ghost use Rattle.std.specs.Prelude.{◌≡◌, ◌++◌, [], OnOk, OnErr, IsErrOf, true, false};
 ghost use Rattle.snap_content.specs.View.{tree};
 ghost use Rattle.snap_json.specs.JsonText.{json_text, json_refuses};
@@ -13,7 +13,7 @@ use snap_content::{Content, Text};
 use std::alloc::Global;
 use std::marker::Model;
 
-/// Writes values as condensed JSON, one behind the other in one text.
+/// Writes values as condensed JSON, one after the other in one text.
 #[derive(Drop)]
 pub struct Serializer {
     alloc: Global,
@@ -39,7 +39,7 @@ impl Serializer {
         }
     }
 
-    /// Adds a value at the end. After `JsonKey` what stands before the first refused key was added, after want of memory
+    /// Adds a value at the end. After `JsonKey` what stands before the first refused key was added, after running out of memory
     /// a beginning of that.
     pub fn serialize(&mut self, value: &Content) -> Result<(), JsonError>
         ensures ok { OnOk result (self.new ≡ self.old ++ json_text Condensed (tree value.now)) }

@@ -3,7 +3,7 @@ ghost use Rattle.std.specs.Prelude.{◌≡◌, ◌++◌, ◌∷◌, [], ◌<◌,
 ghost use Rattle.std.specs.List.{flat_map};
 ghost use Rattle.std.specs.Fmt.{digit_glyph};
 ghost use Rattle.std.specs.Str.{chars};
-ghost use Rattle.snap_content.specs.Spell.{escaped_code};
+ghost use Rattle.snap_print.specs.Spell.{escaped_code};
 ghost use Rattle.snap_json.specs.Strings.{json_escaped, json_string};
 ghost use Rattle.snap_json.specs.Walked.{IsBareBefore};
 ghost use Rattle.snap_json.specs.Written.{whole, Wrote};

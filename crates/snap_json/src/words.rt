@@ -1,4 +1,4 @@
-//! The pieces that a JSON text is made of. After want of memory the text is as it was.
+//! The pieces that a JSON text is made of. After running out of memory the text is as it was.
 ghost use Rattle.std.specs.Prelude.{◌≡◌, [], ◌∷◌, IsTrue};
 ghost use Rattle.std.specs.Char.{is_ascii};
 ghost use Rattle.std.specs.List.{list_all};

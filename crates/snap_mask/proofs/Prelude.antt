@@ -7,7 +7,7 @@ pub use Rattle.std.specs.List.{list_any}
 pub use Rattle.std.specs.Str.{IsUtf8, chars, bytes_eq}
 pub use Rattle.snap_content.proofs.Booleans.{or_left, or_right, some_same}
 pub use Rattle.snap_content.specs.Plain.{Plain, null, bool, int, text, list, dict, Plains, no_items, item, Entries, no_entries, entry, number_tree, content_of, trees_made, pairs_made}
-pub use Rattle.snap_content.specs.Readable.{IsWithin, IsNumber}
+pub use Rattle.snap_print.specs.Readable.{IsWithin, IsNumber}
 pub use Rattle.snap_content.specs.Tree.{Tree}
 pub use Rattle.snap_content.specs.View.{tree}
 pub use Rattle.snap_str.specs.Cut.{Lacks, IsCutAtFirst}

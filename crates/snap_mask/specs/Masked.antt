@@ -23,13 +23,13 @@ pub data AreShort : List ℕ → Type 0 where
   at_start : (text : List ℕ) → text ≡ [] → AreShort text
   at_end : (text past line : List ℕ) → AreShort past → Lacks 10 line → length line ≤ line_limit → text ≡ past ++ line ++ 10 ∷ [] → AreShort text
 
--- of these lines the records were written behind w
+-- of these lines the records were written after w
 pub record IsWritten (rules : List ReplacementView) (lines_read : List (List ℕ)) (w : List ℕ) (now : Option (List ℕ)) : Type 0 where
   pub out : List ℕ
   pub masks : Masks rules lines_read out
   pub told : now ≡ Some (w ++ out)
 
--- a front of these records was written behind w
+-- a front of these records was written after w
 pub record IsBegun (rules : List ReplacementView) (lines_read : List (List ℕ)) (w : List ℕ) (now : Option (List ℕ)) : Type 0 where
   pub out : List ℕ
   pub masks : Masks rules lines_read out
@@ -78,7 +78,7 @@ pub record IsTooLong (rules : List ReplacementView) (number : ℕ) (input w : Li
   pub number_is : number ≡ suc (length (lines past))
   pub written : IsWritten rules (lines past) w now
 
--- what a run over the input leaves behind w
+-- what a run over the input leaves after w
 abbrev pub Leaves : List ReplacementView → MaskStatus → List ℕ → List ℕ → Option (List ℕ) → Type 0
 Leaves rules Done input w now = IsDone rules input w now
 Leaves rules BadWords input w now = ⊥

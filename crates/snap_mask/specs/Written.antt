@@ -8,7 +8,7 @@ use Rattle.snap_mask.specs.declared.record.RecordError.TheVariants as error
 use Rattle.snap_mask.specs.declared.writing.RecordStop.{RecordStop}
 use Rattle.snap_mask.specs.declared.writing.RecordStop.TheVariants.{BadLine, FloatLine, JsonKey, WriteFault, OutOfMemory}
 
--- the record was written behind w, or a part of it, or nothing
+-- the record was written after w, or a part of it, or nothing
 abbrev pub RecordEnds : {T : Type 0} → List ReplacementView → List ℕ → List ℕ → Option (List ℕ) → Result T RecordStop → Type 0
 RecordEnds rules line w now (Ok done) = IsWritten rules (line ∷ []) w now
 RecordEnds rules line w now (Err WriteFault) = IsBegun rules (line ∷ []) w now

@@ -1,6 +1,6 @@
 -- The value of the node of a layout is the layout's.
 use Rattle.snap_parse.proofs.Prelude.{◌≡◌, ℕ, ℤ, List, Bool, true, false, Option, None, Some, if◌then◌else◌, refl, ap, ◌∙◌, codes, bytes_eq, is_bad, paired, node_value, values_in, values_in_pairs, document_value}
-use Rattle.snap_content.specs.Typed.{is_null_word}
+use Rattle.snap_print.specs.Typed.{is_null_word}
 use Rattle.snap_parse_events.specs.Nodes as n
 use Rattle.snap_parse_laws.specs.Forms.{square, curly}
 use Rattle.snap_parse_laws.specs.Layouts as w

@@ -37,7 +37,7 @@ one-end _ _ u (one_more s v t open_ found rest) left more right = one-end v t u 
 owed-same : (s : State) (xs ys : List TokenType) → Owes s xs → Owes s ys → xs ≡ ys
 owed-same s xs ys h k = sym h.given ∙ ap (λ e. map type_of e.held) (one-end s h.end k.end h.steps h.ended k.steps k.ended) ∙ k.given
 
--- nothing is parsed behind the stream's end
+-- nothing is parsed after the stream's end
 never : (p : Spot) (ts : List TokenType) (r : Parsed) → p.stage ≡ g.Ended → parse_step p ts ≡ Some r → ⊥
 never p ts r at step = let none = ap (λ v. stage_step v p.outer ts) at in cc
 

@@ -4,7 +4,7 @@ pub use Rattle.std.specs.Prelude.{Result, IfOk, codes}
 pub use Rattle.std.specs.Str.{bytes_eq, chars}
 pub use Rattle.snap_content.specs.Plain.{Plain}
 pub use Rattle.snap_content.specs.Quotes.{needs_quotes}
-pub use Rattle.snap_content.specs.Readable.{IsWithin, AreWithin, AreEntriesWithin, IsNumber}
+pub use Rattle.snap_print.specs.Readable.{IsWithin, AreWithin, AreEntriesWithin, IsNumber}
 pub use Rattle.snap_print.specs.Blocks.{Blocks, before_more, as_block}
 pub use Rattle.snap_print.specs.Lines.{before_items, before_entries, document_of}
 pub use Rattle.snap_parse_events.specs.Nodes.{Node, alias, scalar, list, dict, Nodes, no_nodes, node, Pairs, no_pairs, pair, node_onto, nodes_onto, pairs_onto, documents_onto, stream_events}

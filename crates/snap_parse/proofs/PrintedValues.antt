@@ -5,7 +5,7 @@ use Rattle.std.specs.Fmt.{signed_decimal}
 use Rattle.std.specs.List.{list_all}
 use Rattle.snap_content.specs.Numbers.{is_digits, is_integer_text}
 use Rattle.snap_content.specs.Plain as p
-use Rattle.snap_content.specs.Typed as t
+use Rattle.snap_print.specs.Typed as t
 use Rattle.snap_parse_events.specs.Nodes as n
 use Rattle.snap_print.specs.Blocks.{is_block}
 use Rattle.snap_scan_tokens.specs.declared.token.TScalarStyle.TheVariants as style
@@ -166,7 +166,7 @@ key-kept : (b : Bool) (k x : v.Value) (vs : List v.Value) → b ≡ false → (i
 key-kept true k x vs h = absurd (cc)
 key-kept false k x vs h = refl
 
--- a key that is not bad takes the value behind it
+-- a key that is not bad takes the value after it
 pub pair-read : (a b : Option v.Value) (k x : v.Value) (vs : List v.Value) → a ≡ Some k → b ≡ Some x → is_bad k ≡ false → v.pairs_of (paired (and_some a (and_some b vs))) ≡ v.pair k x (v.pairs_of (paired vs))
 pair-read a b k x vs e f h = let g : List (v.Value × v.Value) → v.ValuePairs = λ ps. v.pairs_of ps in rw (e, f) (ap g (key-kept (is_bad k) k x vs h))
 

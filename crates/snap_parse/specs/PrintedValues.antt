@@ -2,7 +2,7 @@
 use Rattle.std.specs.Prelude.{ℤ, if◌then◌else◌}
 use Rattle.std.specs.Fmt.{signed_decimal}
 use Rattle.snap_content.specs.Plain as p
-use Rattle.snap_content.specs.Typed.{has_64_bits}
+use Rattle.snap_print.specs.Typed.{has_64_bits}
 use Rattle.snap_yaml.specs.Value as v
 
 -- a whole number of 64 bits is that number, and any other is kept as its digits

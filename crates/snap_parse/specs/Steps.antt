@@ -21,7 +21,7 @@ pub record LoadState : Type 0 where
 abbrev pub start : LoadState
 start = record { documents = []; node = None; held = [] }
 
--- a value goes into a list, or into a mapping as a key or behind its key
+-- a value goes into a list, or into a mapping as a key or after its key
 abbrev pub put_in : Value → Held → Held
 put_in v (in_list vs) = in_list (vs ++ v ∷ [])
 put_in v (in_dict ps None) = in_dict ps (if is_bad v then None else Some v)

@@ -1,7 +1,7 @@
 //! What loading promises of documents.
 ghost use Rattle.std.specs.Prelude.{◌≡◌, List, map, [], ◌∷◌};
 ghost use Rattle.snap_content.specs.Plain.{Plain};
-ghost use Rattle.snap_content.specs.Readable.{IsWithin};
+ghost use Rattle.snap_print.specs.Readable.{IsWithin};
 ghost use Rattle.snap_print.specs.Blocks.{Blocks};
 ghost use Rattle.snap_parse_laws.specs.Tokens.{document_tokens};
 ghost use Rattle.snap_parse_events.specs.Nodes.{Node, stream_events};

@@ -13,7 +13,7 @@ start-ended : (x : Open) (o : Option (List Open)) → start x o ≡ Some ended �
 start-ended x None h = cc
 start-ended x (Some os) h = cc
 
--- an event behind which the stream is ended is its end
+-- an event after which the stream is ended is its end
 pub event-ends : (event : Event) (m : Meaning) → after event m ≡ Some ended → passed_of event ≡ w.StreamEnd
 event-ends e.StreamStart ahead h = absurd (cc)
 event-ends e.StreamStart (open_in os) h = absurd (cc)
@@ -53,7 +53,7 @@ event-ends e.MappingEnd (open_in (key ∷ os)) h = absurd (cc)
 event-ends e.MappingEnd (open_in (value ∷ os)) h = absurd (cc)
 event-ends e.MappingEnd ended h = absurd (cc)
 
--- behind the stream's end comes the stream's end
+-- after the stream's end comes the stream's end
 pub event-behind : (event : Event) (m : Meaning) → after event ended ≡ Some m → passed_of event ≡ w.StreamEnd
 event-behind e.StreamStart m h = absurd (cc)
 event-behind e.StreamEnd m h = refl
@@ -82,7 +82,7 @@ stage-ended g.Ended ys h = refl
 pub ended-stage : (x : Stage) (ys : List State) → x ≡ g.Ended → meaning_in x ys ≡ ended
 ended-stage x ys h = let f : Stage → Meaning = λ v. meaning_in v ys in ap f h
 
--- an event behind which loading of all stops is the stream's end
+-- an event after which loading of all stops is the stream's end
 pub last-is-end : (event : Event) → goes true event ≡ false → event ≡ e.StreamEnd
 last-is-end e.StreamStart h = absurd (cc)
 last-is-end e.StreamEnd h = refl
@@ -95,7 +95,7 @@ last-is-end e.SequenceEnd h = absurd (cc)
 last-is-end (e.MappingStart id) h = absurd (cc)
 last-is-end e.MappingEnd h = absurd (cc)
 
--- an event behind which loading goes on isn't the stream's end
+-- an event after which loading goes on isn't the stream's end
 pub going-no-end : (event : Event) → goes true event ≡ true → not (is_stream_end event) ≡ true
 going-no-end e.StreamStart h = refl
 going-no-end e.StreamEnd h = absurd (cc)

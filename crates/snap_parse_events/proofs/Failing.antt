@@ -10,7 +10,7 @@ refuses e why p q is fails = record { why = why; told = is; fails = fails }
 pub loses : (e : LoadError) (event : Event) (p q : Parsing) → e ≡ l.OutOfMemory → Steps event p q → q.error ≡ None → Breaks e p q
 loses e event p q is steps well = inr (record { memory = is; event = event; steps = steps; well = well })
 
--- behind the events that were handed on
+-- after the events that were handed on
 pub passing-stopped : {R : Type 0} (tells : R → List Event → Type 0) (multi : Bool) (e : LoadError) (old mid new : R) (p q r : Parsing) → Passing tells multi old mid p q
     → ((events : List Event) → tells mid events → tells new events) → Breaks e q r → LoadsPart tells multi e old new p r
 passing-stopped tells multi e old mid new p q r a stays breaks = record {

@@ -45,7 +45,7 @@ step-first p q event first others steps will =
 nothing-left : (p : Parsing) → WillGive p [] → meaning p ≡ ended
 nothing-left p will = ended-stage p.spot.stage p.spot.outer (none-ended p.spot will.tokens [] will.yields refl)
 
--- what is to come behind the events of a run
+-- what is to come after the events of a run
 pub record Splits (es all : List Event) (q : Parsing) : Type 0 where
   pub rest : List Event
   pub same : es ++ rest ≡ all

@@ -73,7 +73,7 @@ next-event event p m n error is well allowed names twin =
     let next : IsNext event (seen m error) (seen n error) = record { allowed = allowed; names = names; goes_on = goes-on (seen m error) (seen n error) event well twin } in
     subst P is next
 
--- an error of the machine is want of memory where the events are known
+-- an error of the machine is out of memory where the events are known
 pub next-refused : (e : ScanError) (p : Parsing) (m : Machine) (error : Option ScanError) → seen m error ≡ p → (m.stage ≡ g.Ended → e ≡ OutOfMemory)
     → ((ts : List TokenType) (found : Parsed) → WillTake m.tokens ts → parse_step (spot_of m) ts ≡ Some found → e ≡ OutOfMemory) → (events : List Event) → WillGive p events → e ≡ OutOfMemory
 next-refused e p m error is calm twin events will =

@@ -1,4 +1,4 @@
--- What holds behind a token, by its kind.
+-- What holds after a token, by its kind.
 use Rattle.snap_parse_events.proofs.Prelude.{◌≡◌, List, ℕ, Bool, false, refl, subst, ap, ◌∙◌, All, Token, TokenType, Holds, shown, is_end, IsFounded, Tokens, State, Took, HasSigns, IsSoundIn}
 use Rattle.snap_scan_tokens.specs.declared.token.TokenType.TheVariants as k
 use Rattle.snap_scan_tokens.specs.declared.info.ScanError.TheVariants.{Syntax}
@@ -6,7 +6,7 @@ use Rattle.snap_scan_tokens.specs.declared.info.ScanInfo.TheVariants.{P3}
 use Rattle.snap_parse_events.specs.declared.state.State.TheVariants as s
 use Rattle.snap_parse_events.proofs.Signs.{list-sign, dict-sign}
 
--- behind a token that begins this state
+-- after a token that begins this state
 begins : (source : List ℕ) (t : Token) (f : Tokens) (ys : List State) (kind : TokenType) (y : State) → t.1 ≡ kind → is_end kind ≡ false
     → (Holds source (shown kind) → HasSigns source y) → Took source t f → All (HasSigns source) ys → IsSoundIn source f y ys
 begins source t f ys kind y is open_still signs took all =
@@ -32,7 +32,7 @@ alias-founded source t f name is took =
     let P : TokenType → Type 0 = λ v. Holds source (shown v) in
     (subst P is took.taken.shown.signs, took.taken.shown.mark)
 
--- behind an alias the state holds that held before
+-- after an alias the state holds that held before
 pub behind-alias : (source : List ℕ) (t : Token) (f : Tokens) (name : List ℕ) (y : State) (ys : List State) → t.1 ≡ k.Alias name → Took source t f → HasSigns source y → All (HasSigns source) ys
     → IsSoundIn source f y ys
 behind-alias source t f name y ys is took here all =

@@ -34,7 +34,7 @@ step-allowed event p q s =
     let g : Meaning → Option Meaning = λ v. Some v in
     s.next.allowed ∙ ap g (sym (ap f s.behind ∙ meaning-kept event s.between))
 
--- a step behind the stream's end gives it again
+-- a step after the stream's end gives it again
 pub step-behind : (event : Event) (p q : Parsing) → Steps event p q → meaning p ≡ ended → passed_of event ≡ w.StreamEnd
 step-behind event p q s at =
     let f : Meaning → Option Meaning = λ v. after event v in

@@ -2,7 +2,7 @@
 use Rattle.snap_parse_events.proofs.Prelude.{◌≡◌, List, ◌∷◌, subst, sym, ℕ, All, Tokens, State, Feeds, HasSigns, IsSoundIn}
 use Rattle.std.proofs.lemmas.List.Elements.{All-head, All-tail, All-cons}
 
--- behind what was open innermost
+-- after what was open innermost
 pub sound-popped : (source : List ℕ) (f : Tokens) (y : State) (ys zs : List State) → zs ≡ y ∷ ys → Feeds source f → All (HasSigns source) zs → IsSoundIn source f y ys
 sound-popped source f y ys zs same feeds all =
     let P : List State → Type 0 = λ v. All (HasSigns source) v in

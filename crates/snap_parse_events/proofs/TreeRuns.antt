@@ -10,7 +10,7 @@ use Rattle.snap_parse_events.specs.declared.state.Stage.TheVariants as g
 use Rattle.snap_parse_events.specs.declared.state.Ends.TheVariants as n
 use Rattle.snap_parse_events.specs.TokenTrees.{Tree, scalar, block_list, indentless_list, block_dict, flow_list, flow_dict, Trees, no_items, item, Entries, no_entries, entry, IsFit, AreFit, FitEntries, tokens_onto, items_onto, entries_onto, flow_items_onto, flow_entries_onto, events_onto, item_events_onto, entry_events_onto, document_tokens, bare_tokens, document_events}
 
--- a node's event, and then those behind it
+-- a node's event, and then those after it
 pub record NodeYields (c : Context) (y : State) (ys : List State) (ts : List TokenType) (es : List Event) : Type 0 where
   pub found : Parsed
   pub later : List Event
@@ -25,7 +25,7 @@ as-node p all c y ys ts es same h =
     let P : List Event → Type 0 = λ v. Yields p all v in
     subst P h.same (then_one p all h.found h.later (same ∙ h.step) h.more)
 
--- behind a list without an end stands a token that ends it
+-- after a list without an end stands a token that ends it
 abbrev pub ends_pair : List TokenType → Bool
 ends_pair (k.Key ∷ ts) = true
 ends_pair (k.Value ∷ ts) = true
@@ -135,7 +135,7 @@ indentless-end ys (k.Value ∷ ts) es o h = then_one (at s.IndentlessSequenceEnt
 indentless-end ys (k.BlockEnd ∷ ts) es o h = then_one (at s.IndentlessSequenceEntry ys) (k.BlockEnd ∷ ts) (record { event = e.SequenceEnd; spot = left_spot ys; rest = k.BlockEnd ∷ ts }) es refl h
 indentless-end ys _ es o h = never o
 
--- behind an entry stands the next key or the end
+-- after an entry stands the next key or the end
 entries-end : (fs : Entries) (rest : List TokenType) → ends_pair (entries_onto fs (k.BlockEnd ∷ rest)) ≡ true
 entries-end no_entries rest = refl
 entries-end (entry t u fs) rest = refl

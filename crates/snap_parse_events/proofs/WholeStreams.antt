@@ -139,7 +139,7 @@ ending (value ∷ os) = let k = ending os in (node_onto (alias 0) (e.MappingEnd 
 abbrev Front : List Open → List Event → Type 0
 Front os front = (rest : List Event) × Completes os (front ++ rest)
 
--- one event in front, behind which something is open
+-- one event in front, after which something is open
 step-front : (x : Event) (os : List Open) (front : List Event) (m : Option Meaning) (n : Meaning) → not (is_stream_end x) ≡ true → after x (open_in os) ≡ m
     → ((ps : List Open) → after_all front (open_in ps) ≡ Some n → Front ps front) → option_and_then (after_all front) m ≡ Some n → Front os (x ∷ front)
 step-front x os front None n go is f h = absurd (cc)

@@ -7,7 +7,7 @@ use Rattle.snap_scan.specs.Sound.{IsFounded}
 use Rattle.snap_parse_events.specs.declared.error.LoadError.{LoadError}
 use Rattle.snap_parse_events.specs.declared.error.LoadError.TheVariants as l
 
--- want of memory is one answer, wherever it comes from
+-- out of memory is one answer, wherever it comes from
 abbrev pub load_error : ScanError → LoadError
 load_error (c.Syntax mark info) = l.Scan (c.Syntax mark info)
 load_error c.OutOfMemory = l.OutOfMemory

@@ -21,7 +21,7 @@ count_of (Some t) = 1
 abbrev pub tokens_left : Tokens → ℕ
 tokens_left f = count_of f.held + left f.scanner
 
--- a token that stands in the source; behind StreamEnd the scanner has none
+-- a token that stands in the source; after StreamEnd the scanner has none
 pub record IsTaken (source : List ℕ) (token : Token) (s : State) : Type 0 where
   pub shown : IsShown source token
   pub last : is_end token.1 ≡ has_ended s
@@ -36,7 +36,7 @@ pub record Feeds (source : List ℕ) (f : Tokens) : Type 0 where
   pub of : source_of f ≡ source
   pub more : HasMore source f.held f.scanner.state
 
--- behind a token that was taken: it stands in the source, and others are to come where it isn't StreamEnd
+-- after a token that was taken: it stands in the source, and others are to come where it isn't StreamEnd
 pub record Took (source : List ℕ) (token : Token) (f : Tokens) : Type 0 where
   pub of : source_of f ≡ source
   pub taken : IsTaken source token f.scanner.state

@@ -67,7 +67,7 @@ KeepsSoundFrom source y r old new =
 abbrev pub KeepsSoundIn : {T : Type 0} → State → Result T ScanError → Machine → Machine → Type 0
 KeepsSoundIn y r old new = (source : List ℕ) → KeepsSoundFrom source y r old new
 
--- the call gives an event that may come in this state, and leaves what is open behind it
+-- the call gives an event that may come in this state, and leaves what is open after it
 abbrev pub GivesIn : State → Result (Event × Mark) ScanError → Machine → Machine → Type 0
 GivesIn y r old new = IfOk r (λ given. after given.0 (open_in (opened y (below old.outer.items))) ≡ Some (meaning_now new))
 
@@ -75,7 +75,7 @@ GivesIn y r old new = IfOk r (λ given. after given.0 (open_in (opened y (below 
 abbrev pub PaysIn : State → Result (Event × Mark) ScanError → Machine → Machine → Type 0
 PaysIn y r old new = OnOk r (events_now new + 1 ≤ 4 * tokens_left old.tokens + weighed y (weight_below old.outer.items))
 
--- the names are those behind the event
+-- the names are those after the event
 abbrev pub KeepsNames : Result (Event × Mark) ScanError → Machine → Machine → Type 0
 KeepsNames r old new = IfOk r (λ given. Naming given.0 old.anchors new.anchors)
 

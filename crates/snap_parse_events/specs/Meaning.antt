@@ -1,4 +1,4 @@
--- What a list of events means: what is open behind it, and which event may come there.
+-- What a list of events means: what is open after it, and which event may come there.
 use Rattle.std.specs.Prelude.{Bool, true, false, List, [], ◌∷◌, Option, None, Some, option_and_then}
 use Rattle.snap_parse_events.specs.declared.event.Event.{Event}
 use Rattle.snap_parse_events.specs.declared.event.Event.TheVariants as e
@@ -71,12 +71,12 @@ abbrev pub end_sequence : Meaning → Option Meaning
 end_sequence (open_in (sequence ∷ os)) = Some (open_in os)
 end_sequence _ = None
 
--- a mapping ends where a key is due, so behind an even number of nodes
+-- a mapping ends where a key is due, so after an even number of nodes
 abbrev pub end_mapping : Meaning → Option Meaning
 end_mapping (open_in (key ∷ os)) = Some (open_in os)
 end_mapping _ = None
 
--- the meaning behind an event, and None where it may not come
+-- the meaning after an event, and None where it may not come
 abbrev pub after : Event → Meaning → Option Meaning
 after e.StreamStart m = start_stream m
 after e.StreamEnd m = end_stream m
@@ -89,7 +89,7 @@ after e.SequenceEnd m = end_sequence m
 after (e.MappingStart id) m = start key (given_at m)
 after e.MappingEnd m = end_mapping m
 
--- the meaning behind these events, one after the other, and None where one of them may not come
+-- the meaning after these events, one after the other, and None where one of them may not come
 abbrev pub after_all : List Event → Meaning → Option Meaning
 after_all [] m = Some m
 after_all (event ∷ events) m = option_and_then (after_all events) (after event m)

@@ -39,7 +39,7 @@ opened s.FlowMappingKey os = key ∷ os
 opened s.FlowMappingValue os = value ∷ os
 opened s.FlowMappingEmptyValue os = value ∷ os
 
--- what is open round a state; behind the last stands the document's end
+-- what is open round a state; after the last stands the document's end
 abbrev pub below : List State → List Open
 below [] = given ∷ []
 below (y ∷ ys) = opened y (below ys)

@@ -55,7 +55,7 @@ pub record HandsOn {R : Type 0} (tells : R → List Event → Type 0) (old new :
   pub passed : kind ≡ passed_of event
   pub gets : GetsMore tells old new (event ∷ [])
 
--- the receiver got these events, behind none of which loading stops, while the parser went from p to q
+-- the receiver got these events, after none of which loading stops, while the parser went from p to q
 pub record Passing {R : Type 0} (tells : R → List Event → Type 0) (multi : Bool) (old new : R) (p q : Parsing) : Type 0 where
   pub events : List Event
   pub going : list_all (goes multi) events ≡ true

@@ -35,7 +35,7 @@ left_spot (y ∷ ys) = record { stage = g.Open y; outer = ys }
 abbrev pub empty_scalar : Event
 empty_scalar = e.Scalar (chars (codes "~")) style.Plain 0 None
 
--- an event, where the parser stands behind it, and the tokens that are left
+-- an event, where the parser stands after it, and the tokens that are left
 pub record Parsed : Type 0 where
   pub event : Event
   pub spot : Spot
@@ -47,7 +47,7 @@ parsed event spot rest = Some (record { event = event; spot = spot; rest = rest 
 abbrev pub at : State → List State → Spot
 at y ys = record { stage = g.Open y; outer = ys }
 
--- the event of a node in its context, behind which the parser goes on at y
+-- the event of a node in its context, after which the parser goes on at y
 abbrev pub node_step : Context → State → List State → List TokenType → Option Parsed
 node_step c y ys (k.Scalar style text ∷ ts) = parsed (e.Scalar text style 0 None) (at y ys) ts
 node_step c y ys (k.BlockSequenceStart ∷ ts) = (if takes_blocks c then parsed (e.SequenceStart 0) (at s.BlockSequenceEntry (y ∷ ys)) ts else None)

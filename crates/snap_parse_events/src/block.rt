@@ -100,7 +100,7 @@ impl<'a> Machine<'a> {
         }
     }
 
-    /// A value behind its `:`.
+    /// A value after its `:`.
     pub(crate) fn block_mapping_content(&mut self) -> ParseResult<'a>
         ensures event { GivesIn State.BlockMappingContent result self.old self.new }
         ensures left { PaysIn State.BlockMappingContent result self.old self.new }

@@ -83,7 +83,7 @@ impl<'a> Machine<'a> {
         }
     }
 
-    /// A document's start that is written, behind its directives.
+    /// A document's start that is written, after its directives.
     fn explicit_document_start(&mut self) -> ParseResult<'a>
         ensures event { GivesIn State.DocumentStart result self.old self.new }
         ensures left { PaysIn State.DocumentStart result self.old self.new }

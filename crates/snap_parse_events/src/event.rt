@@ -2,7 +2,7 @@
 use snap_content::{Lent, Text};
 use snap_scan_tokens::TScalarStyle;
 
-/// A tag as it is written: its handle, as `!!`, and what stands behind it.
+/// A tag as it is written: its handle, as `!!`, and what stands after it.
 #[derive(Debug, Drop, PartialEq, Eq)]
 pub struct Tag {
     pub handle: Text,

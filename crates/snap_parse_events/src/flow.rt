@@ -12,7 +12,7 @@ impl<'a> Machine<'a> {
     ghost use Rattle.snap_parse_events.specs.Machine.{events_now, events_before, KeepsSoundIn, GivesIn, GivesNode, PaysIn, KeepsNames, StaysOnError};
     ghost use Rattle.snap_parse_events.specs.Twin.{Follows, filled_step, flow_entry_step, flow_first_key_step, flow_first_step, flow_key_step, flow_value_step};
 
-    /// What stands behind `[` or a comma.
+    /// What stands after `[` or a comma.
     pub(crate) fn flow_sequence_item(&mut self) -> ParseResult<'a>
         ensures event { GivesIn State.FlowSequenceFirstEntry result self.old self.new }
         ensures left { PaysIn State.FlowSequenceFirstEntry result self.old self.new }
@@ -114,7 +114,7 @@ impl<'a> Machine<'a> {
         Ok((Event::MappingEnd, self.tokens.mark()))
     }
 
-    /// What stands behind `{` or a comma. Behind a comma the mapping's end has the comma's place.
+    /// What stands after `{` or a comma. After a comma the mapping's end has the comma's place.
     pub(crate) fn flow_mapping_item(&mut self, comma: Option<Marker>) -> ParseResult<'a>
         ensures event { GivesIn State.FlowMappingFirstKey result self.old self.new }
         ensures left { PaysIn State.FlowMappingFirstKey result self.old self.new }
@@ -161,7 +161,7 @@ impl<'a> Machine<'a> {
         }
     }
 
-    /// A value. Behind its `:` an empty one has the place of the `:`.
+    /// A value. After its `:` an empty one has the place of the `:`.
     pub(crate) fn flow_mapping_value(&mut self) -> ParseResult<'a>
         ensures event { GivesIn State.FlowMappingValue result self.old self.new }
         ensures left { PaysIn State.FlowMappingValue result self.old self.new }
@@ -180,7 +180,7 @@ impl<'a> Machine<'a> {
         }
     }
 
-    /// A value behind its `:`, which has this place.
+    /// A value after its `:`, which has this place.
     fn parse_flow_value(&mut self, mark: Marker) -> ParseResult<'a>
         ensures event { GivesNode State.FlowMappingKey result self.old self.new }
         ensures left { OnOk result (events_now self.new

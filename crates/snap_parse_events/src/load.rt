@@ -32,7 +32,7 @@ impl Passed {
         }
     }
 
-    /// Whether loading stops behind it.
+    /// Whether loading stops after it.
     fn stops(self, multi: bool) -> bool
         ensures { result ≡ stops multi self }
     {

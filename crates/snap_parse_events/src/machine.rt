@@ -25,7 +25,7 @@ pub struct Machine<'a> {
     pub(crate) tokens: Tokens<'a>,
     pub(crate) anchors: Anchors,
     pub(crate) stage: Stage,
-    /// Where the parser goes on once what is open ends, the innermost first; behind the last stands the document's end.
+    /// Where the parser goes on once what is open ends, the innermost first; after the last stands the document's end.
     pub(crate) outer: VecDeque<State>,
 }
 
@@ -46,7 +46,7 @@ impl<'a> Machine<'a> {
         }
     }
 
-    /// Begins a sequence or a mapping, behind which the parser goes on as it is told.
+    /// Begins a sequence or a mapping, after which the parser goes on as it is told.
     pub(crate) fn begin(&mut self, state: State, behind: State) -> Result<(), ScanError>
         ensures spot { OnOk result (spot_of self.new
             ≡ record { stage = Stage.Open state; outer = behind ∷ self.old.outer.items }) }

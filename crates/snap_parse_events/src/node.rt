@@ -181,7 +181,7 @@ impl<'a> Machine<'a> {
         }
     }
 
-    /// A node behind its anchor and tag. With one of them it may be empty.
+    /// A node after its anchor and tag. With one of them it may be empty.
     fn parse_content(
         &mut self,
         token: Token<'a>,

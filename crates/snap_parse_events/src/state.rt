@@ -7,7 +7,7 @@ pub enum State {
     /// The first document, which may begin without a mark.
     ImplicitDocumentStart,
     DocumentStart,
-    /// Behind `---`, where a document may be empty.
+    /// After `---`, where a document may be empty.
     DocumentContent,
     BlockNode,
     DocumentEnd,
@@ -15,7 +15,7 @@ pub enum State {
     IndentlessSequenceEntry,
     BlockMappingKey,
     BlockMappingValue,
-    /// Behind the `:` of a value without a key.
+    /// After the `:` of a value without a key.
     BlockMappingContent,
     FlowSequenceFirstEntry,
     FlowSequenceEntry,
@@ -25,7 +25,7 @@ pub enum State {
     FlowMappingFirstKey,
     FlowMappingKey,
     FlowMappingValue,
-    /// Behind a key that has neither `?` nor `:`.
+    /// After a key that has neither `?` nor `:`.
     FlowMappingEmptyValue,
 }
 
@@ -67,7 +67,7 @@ impl Context {
     }
 }
 
-/// Where a node may be empty: the tokens that stand behind it there.
+/// Where a node may be empty: the tokens that stand after it there.
 #[derive(Clone, Copy, Debug, PartialEq, Eq)]
 pub enum Ends {
     Document,

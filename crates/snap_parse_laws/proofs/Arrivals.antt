@@ -1,4 +1,4 @@
--- Where a scanner comes to behind the last piece of a line.
+-- Where a scanner comes to after the last piece of a line.
 use Rattle.snap_parse_laws.proofs.Prelude.{◌≡◌, ℕ, ◌+◌, ◌≤◌, List, [], ◌++◌, Bool, true, false, refl, ◌∙◌, arith, Some, None, Option, map, length, slice_index, if◌then◌else◌, Mark, Place, mark_of, Token, TokenType, fresh, is_overdue, any_overdue, State, kept, SimpleKey, plain, innermost, no_gap, blanks, here, Settles, Steps, type_of, arrived, settled, closing}
 use Rattle.snap_scan.specs.Keys.{is_required}
 use Rattle.snap_parse_laws.specs.Layouts as w
@@ -75,7 +75,7 @@ still-free : (b : Bool) (p : Place) (h : List Token) (m : Mark) → is_required 
 still-free true p h m = if-free _ (record { place = length h; required = false; mark = mark_of p }) refl
 still-free false p h m = refl
 
--- right behind the last piece of the text
+-- right after the last piece of the text
 open-end : (c b : Bool) (p : Place) (before : List Token) (a i l j : ℕ) (h : List Token) (os : List ℕ) → AtEnd (standing c (key_of b p before) a (here [] i l j) h os) h os
 open-end c b p before a i l j h os =
     let m : Mark = mark_of (here [] i l j) in
@@ -97,7 +97,7 @@ behind-line : (g : w.Gap) (c : Option ℕ) (m : ℕ) (cs : List ℕ) → Follows
     → (os : List ℕ) → EndsWord os m cs → Tail os (laid.fillers_onto g.fillers (blanks m ++ cs)) cs m
 behind-line g c m cs follows is stop os end = fillers-tail g.fillers os (blanks m ++ cs) cs m is (line-tail os cs m stop end)
 
--- behind a token that ends at this place
+-- after a token that ends at this place
 pub rest-arrives : (r : w.Rest) (e : rule.Position) → rule.IsRest e r → (c : Option ℕ) (m : ℕ) (cs : List ℕ) → Follows c m cs → Ends e c → stops_at (slice_index cs 0) ≡ false
     → (os : List ℕ) → EndsWord os m cs → (b : Bool) (p : Place) (before : List Token) (a i j : ℕ) (h : List Token)
     → Arrived c (standing false (key_of b p before) a (here (laid.rest_onto r (blanks m ++ cs)) i p.line j) h os) h os cs
@@ -118,7 +118,7 @@ rest-arrives (w.half g f) e is _ _ _ at_end fits stop os end b p before a i j h 
     let on = behind-gap g.end false b p before a os (laid.fillers_onto g.fillers (laid.filler_onto f [])) [] (half_column f) i p.line j h os tail refl in
     record { index = on.index; line = on.line; arrives = of-settled _ on.index on.line (half_column f) h os on.settles }
 
--- a plain scalar ends before what stands behind it
+-- a plain scalar ends before what stands after it
 pub record RestRead (r : w.Rest) (c : Option ℕ) (m : ℕ) (cs : List ℕ) (os text : List ℕ) (i l j : ℕ) : Type 0 where
   pub broken : Bool
   pub place : Place

@@ -98,7 +98,7 @@ pub record Starts (c : ℕ) (cs : List ℕ) : Type 0 where
   pub line_feed : (c == 10) ≡ false
   pub kind : (flow : Bool) (a : ℕ) (tail : List ℕ) (i l j : ℕ) → kind_of flow a (here (c ∷ (cs ++ tail)) i l j) ≡ k.Plain
 
--- what stands behind a `-` or a `.`
+-- what stands after a `-` or a `.`
 record IsBehind (c d : ℕ) : Type 0 where
   alone : is_blank_or_end d ≡ false
   other_sign : (d == c) ≡ false

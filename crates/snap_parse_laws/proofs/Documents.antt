@@ -58,7 +58,7 @@ held_at_start = at start_mark (k.StreamStart Utf8) ∷ at start_mark k.DocumentS
 abbrev pub begun : List ℕ → State
 begun cs = record (start_state cs) { started = true; held = at start_mark (k.StreamStart Utf8) ∷ [] }
 
--- the state behind `---`
+-- the state after `---`
 abbrev behind_start : List ℕ → State
 behind_start x = calm false 0 (here x 3 1 3) held_at_start []
 
@@ -75,7 +75,7 @@ layout-goes : (t : w.Layout) → rule.IsLayout rule.ending t → (j : ℕ) (s : 
 layout-goes (w.leaf v) is j s i l h stands = leaf-goes s (map type_of h) (layout_tokens (w.leaf v)) None [] [] (leaf v j rule.ending is true j [] refl refl None 0 [] at_end tt refl refl (inl refl) s i l h stands)
 layout-goes (w.collection t) is j s i l h stands = collection t rule.ending is j [] refl None 0 [] at_end tt refl refl s i l h stands
 
--- the state behind the end
+-- the state after the end
 abbrev before_end : Bool → Option SimpleKey → ℕ → ℕ → ℕ → ℕ → List Token → List ℕ → State
 before_end b key a i l j h os = unrolled (Some j) (standing b key a (here [] i l j) h os)
 

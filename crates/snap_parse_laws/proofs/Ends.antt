@@ -1,4 +1,4 @@
--- A token that ends its line, behind which a key is given up.
+-- A token that ends its line, after which a key is given up.
 use Rattle.snap_parse_laws.proofs.Prelude.{◌≡◌, ℕ, List, [], Bool, true, false, refl, Some, None, Option, length, Mark, Place, mark_of, Token, is_overdue, State, SimpleKey}
 
 -- the key that a token may be

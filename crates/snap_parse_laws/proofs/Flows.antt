@@ -4,7 +4,7 @@ use Rattle.snap_parse_laws.proofs.Beginnings.{open_kind, close_kind, closed-kind
 use Rattle.snap_parse_laws.proofs.Ends.{outside, key_of}
 use Rattle.snap_parse_laws.proofs.Pieces.{fetch-settled}
 
--- behind an opening bracket
+-- after an opening bracket
 abbrev pub inside : Option SimpleKey → ℕ → Place → List Token → List ℕ → State
 inside key a p h os = record {
   place = p;

@@ -1,7 +1,7 @@
 -- A free layout has plain scalars where it has plain pieces.
 use Rattle.snap_parse_laws.proofs.Prelude.{◌≡◌, ℕ, List, true, refl, sym, subst, inl, inr, is_bare}
 use Rattle.snap_content.specs.Plain.{null, bool, int, text, list, dict}
-use Rattle.snap_content.specs.Typed.{Typed, value, real, typed}
+use Rattle.snap_print.specs.Typed.{Typed, value, real, typed}
 use Rattle.snap_parse_laws.specs.FreeLayouts as f
 use Rattle.snap_parse_laws.specs.Layouts as w
 use Rattle.snap_parse_laws.specs.LayoutRules as rule

@@ -1,4 +1,4 @@
--- Skipping a line's end and lines that say nothing, between tokens and behind a plain scalar.
+-- Skipping a line's end and lines that say nothing, between tokens and after a plain scalar.
 use Rattle.snap_parse_laws.proofs.Prelude.{◌≡◌, ℕ, zero, suc, ◌+◌, ◌≤◌, List, [], ◌∷◌, ◌++◌, Bool, true, false, refl, ◌∙◌, arith, add-zero, zero-add, inl, inr, Some, None, Option, nat_lt, length, nat_tests, ◌||◌, ◌==◌, slice_index, list_all, is_break, is_blank, is_document_indicator, Place, mark_of, Token, fresh, is_overdue, State, to_next, SimpleKey, plain, is_outside, ends_plain, innermost, Broken, Gap, no_gap, blanks, here, calm, Settles, or_parts, and_parts, not_true}
 use Rattle.snap_scan.specs.State.{past_comment}
 use Rattle.snap_parse_laws.specs.Layouts as w
@@ -31,7 +31,7 @@ pub record Skips (p : Place) (l : ℕ) (cs : List ℕ) (m : ℕ) : Type 0 where
 abbrev pub folded_gap : List ℕ → Gap
 folded_gap t = record { fold = Broken; text = t }
 
--- a plain scalar ends in x, which begins a line, and what is left behind it is skipped
+-- a plain scalar ends in x, which begins a line, and what is left after it is skipped
 pub record Stops (columns x : List ℕ) (cs : List ℕ) (m : ℕ) (t text : List ℕ) (i l : ℕ) : Type 0 where
   pub place : Place
   pub reads : plain (innermost columns) false (folded_gap t) text x (here x i l 0) ≡ Some (word_end text place)
@@ -93,7 +93,7 @@ comment-passed (c ∷ cs) rest is b key a i l j h os =
     let f : j + 1 + length cs ≡ j + suc (length cs) = omega arith in
     rw (inside.line_end, inside.nul, inside.feed, ← e, ← f) (comment-passed cs rest two.1 b key a (i + 1) l (j + 1) h os)
 
--- an index behind a line's end
+-- an index after a line's end
 abbrev pub behind_break : w.Break → ℕ → ℕ
 behind_break w.feed i = i + 1
 behind_break w.return_feed i = i + 1 + 1
@@ -108,7 +108,7 @@ comment-ended : (e : w.Break) (x : List ℕ) (b : Bool) (key : Option SimpleKey)
 comment-ended w.feed x b key a i l j h os = refl
 comment-ended w.return_feed x b key a i l j h os = refl
 
--- a plain scalar goes on behind a line's end
+-- a plain scalar goes on after a line's end
 break-folded : (e : w.Break) (columns x t text : List ℕ) (i l j : ℕ)
     → plain (innermost columns) false (folded_gap t) text (laid.break_onto e x) (here (laid.break_onto e x) i l j)
     ≡ plain (innermost columns) false (folded_gap (t ++ 10 ∷ [])) text x (here x (behind_break e i) (l + 1) 0)
@@ -228,7 +228,7 @@ pub given-up : (b : Bool) (p : Place) (h : List Token) (i l j : ℕ) → nat_lt 
 given-up true p h i l j later = rw later refl
 given-up false p h i l j later = refl
 
--- a token behind a gap
+-- a token after a gap
 pub record Behind (s : State) (cs : List ℕ) (m l : ℕ) (h : List Token) (os : List ℕ) : Type 0 where
   pub index : ℕ
   pub line : ℕ
@@ -257,7 +257,7 @@ behind-gap e c b p before a columns x cs m i l j h os tail same =
     behind-skips c b p before a (here (laid.break_onto e x) i l j) (here x (behind_break e i) (l + 1) 0) (l + 1) cs m h os (tail.skips (behind_break e i) (l + 1)) line
     (break-passed e x c (key_of b p before) a i l j h os)
 
--- behind a mark or a colon, and blanks
+-- after a mark or a colon, and blanks
 pub settles-blanks : (n : ℕ) (cs : List ℕ) (b : Bool) (a i l j : ℕ) (h : List Token) (os : List ℕ) → stops_at (slice_index cs 0) ≡ false
     → Settles b (calm b a (here (32 ∷ (blanks n ++ cs)) i l j) h os) (here cs (i + 1 + n) l (j + 1 + n)) h os
 settles-blanks n cs b a i l j h os stop =
@@ -265,7 +265,7 @@ settles-blanks n cs b a i l j h os stop =
     settles-by b a (calm b a (here (32 ∷ (blanks n ++ cs)) i l j) h os) (calm b a q h os) q h os refl refl
     (to_next-blanks n cs b None a (i + 1) l (j + 1) h os ∙ to_next-stops cs (calm b a q h os) stop) refl refl
 
--- a token behind a gap, where no key is possible
+-- a token after a gap, where no key is possible
 pub settles-gap : (g : w.Gap) (c : Bool) (a m i l j : ℕ) (cs : List ℕ) (h : List Token) (os : List ℕ) → rule.is_gap g ≡ true → stops_at (slice_index cs 0) ≡ false
     → Behind (calm c a (here (laid.gap_onto g (blanks m ++ cs)) i l j) h os) cs m (l + 1) h os
 settles-gap g c a m i l j cs h os is stop =

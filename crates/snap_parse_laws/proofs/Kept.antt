@@ -6,7 +6,7 @@ use Rattle.std.specs.Str.{bytes_eq}
 use Rattle.snap_content.specs.Front.{begins}
 use Rattle.snap_content.specs.Numbers.{is_nothing, is_digits, is_integer_text, past_digits, has_digit, is_exponent, is_decimal_text, past_letter, then_letter, past_inf, past_nan, past_inity, is_end, ends_infinity, is_unsigned_float, is_float_text, is_octal_text, is_plus_text}
 use Rattle.snap_content.specs.Plain.{Plain, null, bool, int, text}
-use Rattle.snap_content.specs.Typed.{Typed, value, real, typed, is_inf_word, is_named_number, is_hexadecimal_text, is_null_word, has_128_bits, number_in}
+use Rattle.snap_print.specs.Typed.{Typed, value, real, typed, is_inf_word, is_named_number, is_hexadecimal_text, is_null_word, has_128_bits, number_in}
 use Rattle.snap_parse_laws.proofs.Escapes.{apart}
 use Rattle.snap_print.proofs.Words.{same_word}
 
@@ -101,7 +101,7 @@ decimal-all cs h = decimal-by (begins 46 (past_digits cs)) cs refl h
 
 -- letters
 
--- what is left behind some letters
+-- what is left after some letters
 abbrev Leads : Option (List ℕ) → List ℕ → Type 0
 Leads o cs = (ds : List ℕ) → o ≡ Some ds → AllOf ds → AllOf cs
 
@@ -229,12 +229,12 @@ started-behind c cs e h = rw (e, h) (last-either (is_word_start c))
 behind-by : (c d : ℕ) → is_of_number d ≡ true → (d == c) ≡ false → is_behind c d ≡ true
 behind-by c d h e = rw (word-of d h, e) refl
 
--- behind a minus
+-- after a minus
 behind-minus : (cs : List ℕ) → is_unsigned_float cs ≡ true → is_behind 45 (slice_index cs 0) ≡ true
 behind-minus [] h = absurd (let clash : false ≡ true = h in cc)
 behind-minus (d ∷ cs) h = behind-by 45 d (and_parts (is_of_number d) (list_all is_of_number cs) (unsigned-all (d ∷ cs) h)).0 (no-minus d cs (d == 45) refl h)
 
--- behind a point
+-- after a point
 point-digit : (d : ℕ) (cs : List ℕ) → is_unsigned_float (46 ∷ d ∷ cs) ≡ true → is_ascii_digit d ≡ true
 point-digit d cs h = both-left (is_ascii_digit d) _ h
 

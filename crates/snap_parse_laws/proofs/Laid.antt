@@ -52,7 +52,7 @@ pub begins-collection : (t : w.Collection) (j : ℕ) (e : rule.Position) (rest :
 begins-collection (w.list ts) j e rest h = refl
 begins-collection (w.dict es) j e rest h = begins-entries es j e rest h
 
--- what stands behind a mark or a colon is a blank or a line's end
+-- what stands after a mark or a colon is a blank or a line's end
 
 alone-break : (e : w.Break) (x : List ℕ) → is_blank_or_end (slice_index (laid.break_onto e x) 0) ≡ true
 alone-break w.feed x = refl
@@ -128,7 +128,7 @@ mark-again s cs i l j h columns os is blank same =
     let kinds : TokenKind → Option State = λ q. left_by (kind_step q (calm true is.adjacent p (h ++ ends m (Some j) columns) (kept (Some j) columns))) in
     step-at true s p h columns is ∙ ap kinds (mark-kind is.adjacent cs i l j blank) ∙ rw (same, level) refl
 
--- the mark of a value behind such a key
+-- the mark of a value after such a key
 mark-value : (s : State) (cs : List ℕ) (i l j : ℕ) (h : List Token) (columns os : List ℕ) (is : Settles true s (here (58 ∷ cs) i l j) h columns)
     → is_blank_or_end (slice_index cs 0) ≡ true → kept (Some j) columns ≡ j ∷ os
     → let m = mark_of (here (58 ∷ cs) i l j) in
@@ -325,7 +325,7 @@ mutual
         given = inner.given ∙ rw right (dict-tokens (map type_of h) (entries_tokens es) (closing c os));
       }
 
-  -- behind a mark at column j
+  -- after a mark at column j
   pub item : (t : w.Item) (e : rule.Position) → rule.IsItem e t → (j : ℕ) (os : List ℕ) (c : Option ℕ) (m : ℕ) (cs : List ℕ) → Follows c m cs → Ends e c
       → stops_at (slice_index cs 0) ≡ false → Within c j → EndsWord (j ∷ os) m cs → (a i l : ℕ) (h : List Token)
       → Goes (calm true a (here (laid.item_onto j t (blanks m ++ cs)) i l (j + 1)) h (j ∷ os)) (map type_of h) (item_tokens t) c (j ∷ os) cs
@@ -345,7 +345,7 @@ mutual
       let there = settles-gap g true a col i l (j + 1) (laid.collection_onto col v (blanks m ++ cs)) h (j ∷ os) is.0 (begins-collection v col e (blanks m ++ cs) is.1) in
       collection v e is.1 col (j ∷ os) (deeper-by j n) c m cs follows fits stop (near col (deeper-by j n)) s there.index there.line h there.settles
 
-  -- behind the first mark of items at column j
+  -- after the first mark of items at column j
   pub items : (ts : w.Items) (e : rule.Position) → rule.AreItems e ts → (j : ℕ) (os : List ℕ) (c : Option ℕ) (m : ℕ) (cs : List ℕ) → Follows c m cs → Ends e c
       → stops_at (slice_index cs 0) ≡ false → Within c j → EndsWord (j ∷ os) m cs → (a i l : ℕ) (h : List Token)
       → Goes (calm true a (here (laid.items_onto j ts (blanks m ++ cs)) i l (j + 1)) h (j ∷ os)) (map type_of h) (items_tokens ts) c (j ∷ os) cs
@@ -371,7 +371,7 @@ mutual
       let Q : List TokenType → Type 0 = λ x. Goes s (map type_of h) x c (j ∷ os) cs in
       subst Q (append_assoc (item_tokens t) (k.BlockEntry ∷ []) (items_tokens ts)) both
 
-  -- behind the colon of a key at column j
+  -- after the colon of a key at column j
   pub value : (v : w.Value) (e : rule.Position) → rule.IsValue e v → (j : ℕ) (os : List ℕ) (c : Option ℕ) (m : ℕ) (cs : List ℕ) → Follows c m cs → Ends e c
       → stops_at (slice_index cs 0) ≡ false → Within c j → EndsWord (j ∷ os) m cs → (a i l column : ℕ) (h : List Token) → nat_lt j column ≡ true
       → Goes (calm false a (here (laid.value_onto j v (blanks m ++ cs)) i l column) h (j ∷ os)) (map type_of h) (value_tokens v) c (j ∷ os) cs

@@ -61,7 +61,7 @@ further-key a p h os n token rest =
     let level : nat_lt p.col p.col ≡ false = grind (arith, nat_tests) in
     rw (insert-at h (scalar ∷ []) (at (mark_of p) t.Key), level) refl
 
--- a `:` may stand right behind a quoted scalar
+-- a `:` may stand right after a quoted scalar
 abbrev pub adjacent_behind : w.Scalar → ℕ → ℕ → ℕ
 adjacent_behind (w.bare x) a i = a
 adjacent_behind (w.quote x) a i = i

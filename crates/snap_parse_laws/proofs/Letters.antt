@@ -29,7 +29,7 @@ as-is-by c is false e =
     let ends = or_parts (c == 10) (c == 13) b.1 in
     passes-other-by c (record { quotes = a.0; slash = a.1; tab = e; line = ends.0; return = ends.1; nul = d.1 }) (c == 32) refl
 
--- behind a backslash
+-- after a backslash
 behind-slash : (e : ℕ) (gap text rest : List ℕ) (i l j : ℕ) → (j == 0) ≡ false
     → double (gap_in_line gap) text (92 ∷ rest) (here (92 ∷ rest) i l j) ≡ escape (text ++ gap) rest (here rest (i + 1) l (j + 1))
 behind-slash e gap text rest i l j right = rw right refl

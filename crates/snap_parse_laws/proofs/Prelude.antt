@@ -7,7 +7,7 @@ pub use Rattle.std.specs.Fmt.{digit_glyph, digits_onto, signed_decimal, decimal}
 pub use Rattle.std.specs.List.{flat_map, insert, list_all, list_any}
 pub use Rattle.std.specs.Prelude.{◌||◌, ◌&&◌, ◌==◌, slice_index, if◌then◌else◌, nat_le, is_some}
 pub use Rattle.snap_content.proofs.Booleans.{not_true, and_nothing}
-pub use Rattle.snap_content.specs.Spell.{escaped, escaped_code, spell_bool, spell_text, spelling, is_flat}
+pub use Rattle.snap_print.specs.Spell.{escaped, escaped_code, spell_bool, spell_text, spelling, is_flat}
 pub use Rattle.snap_scan.specs.Fetching.{closed, kind_step, innermost, value_of_key, Outcome, done, refused, stream_started}
 pub use Rattle.snap_scan.specs.Keys.{fresh, is_overdue, any_overdue}
 pub use Rattle.snap_scan.specs.Kinds.{kind_of, kind_of_sign}

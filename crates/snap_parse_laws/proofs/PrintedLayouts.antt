@@ -100,7 +100,7 @@ mutual
   same-text (form.list ts) node j rest = let f : List ℕ → List ℕ = λ x. 45 ∷ x in ap f (same-items ts j rest)
   same-text (form.dict es) node j rest = same-entries es j rest
 
-  -- behind a mark
+  -- after a mark
   same-item : (f : form.Form) (j : ℕ) (rest : List ℕ) → laid.item_onto j (p.item_of (w.next p.line) f) rest ≡ 32 ∷ (form.text_at (j + 1 + 1) f ++ rest)
   same-item (form.scalar v) j rest = let f : List ℕ → List ℕ = λ x. 32 ∷ x in ap f (same-word v rest)
   same-item (form.block u count more) j rest = refl

@@ -13,7 +13,7 @@ small-code c h = grind (arith, nat_tests)
 abbrev pub gap_in_line : List ℕ → Gap
 gap_in_line g = record { fold = Inline; text = g }
 
--- an index behind a text
+-- an index after a text
 abbrev pub advance : List ℕ → ℕ → ℕ
 advance [] i = i
 advance (x ∷ xs) i = advance xs (i + 1)
@@ -103,7 +103,7 @@ passes-other-by c is false e =
     five (is_blank c) (is_break c) (is_document_indicator p || c == 0) (c == 34) (c == 92) _ _ _ _ _ (double no_gap full rest (skipped p)) blank break_ stands is.quotes is.slash
     ∙ ap at (passed c rest i l j is.line))
 
--- a text as it is written by a rule for each character, with the quote behind it
+-- a text as it is written by a rule for each character, with the quote after it
 abbrev pub closed_by : (ℕ → List ℕ) → List ℕ → List ℕ
 closed_by write s = flat_map write s ++ 34 ∷ []
 

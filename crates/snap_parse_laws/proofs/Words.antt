@@ -10,7 +10,7 @@ pub if-false : (b x y : Bool) → b ≡ false → (if b then x else y) ≡ true 
 if-false false x y e h = h
 if-false true x y e h = cc
 
--- where a plain scalar ends behind a line
+-- where a plain scalar ends after a line
 abbrev pub EndsWord : List ℕ → ℕ → List ℕ → Type 0
 EndsWord columns n cs = (cs ≡ []) ⊎ (is_outside (innermost columns) n ≡ true)
 

@@ -3,7 +3,7 @@
 use Rattle.std.specs.Prelude.{ℕ, zero, suc, ◌+◌, if◌then◌else◌, slice_index, ◌==◌, ◌&&◌, ◌||◌, ◌≡◌, nat_le, length, List, [], ◌∷◌, ◌++◌, Bool, true, false, not, codes}
 use Rattle.std.specs.List.{list_any}
 use Rattle.snap_scan_tokens.specs.Characters.{is_blank, is_break}
-use Rattle.snap_content.specs.Spell.{quoted}
+use Rattle.snap_print.specs.Spell.{quoted}
 use Rattle.snap_print.specs.Blocks.{block_sign, empty_lines}
 use Rattle.snap_scan_tokens.specs.declared.token.TokenType.{TokenType}
 use Rattle.snap_scan_tokens.specs.declared.token.TokenType.TheVariants as k
@@ -49,7 +49,7 @@ mutual
     last : Form → Forms
     item : Form → Forms → Forms
 
-  -- a key before a colon and its value, or both behind marks of their own
+  -- a key before a colon and its value, or both after marks of their own
   pub data Entry : Type 0 where
     simple : Scalar → Form → Entry
     complex : Form → Form → Entry
@@ -97,7 +97,7 @@ is_sign c = list_any (λ sign. c == sign) (codes "[]{},-?*&!|>'\"%@`")
 abbrev pub is_word_start : ℕ → Bool
 is_word_start c = not (is_sign c || c == 46) && is_word_character c
 
--- what may stand behind a `-` or a `.` in front of a bare text: no second one, and nothing that ends it there
+-- what may stand after a `-` or a `.` in front of a bare text: no second one, and nothing that ends it there
 abbrev pub is_behind : ℕ → ℕ → Bool
 is_behind c d = is_word_character d && not (d == c)
 
@@ -157,7 +157,7 @@ abbrev mutual
   AreEntries (only e) = IsEntry e
   AreEntries (pair e es) = IsEntry e × AreEntries es
 
--- a value behind the colon of a key at column j: on the same line, or on the next, two columns further in
+-- a value after the colon of a key at column j: on the same line, or on the next, two columns further in
 abbrev pub value_block : ℕ → Form → List ℕ → List ℕ
 value_block j (scalar s) text = 32 ∷ text
 value_block j (block w kept more) text = 32 ∷ text
@@ -174,7 +174,7 @@ abbrev mutual
   text_at k (list ts) = 45 ∷ 32 ∷ inside k ts
   text_at k (dict es) = entries_at k es
 
-  -- the text behind the first mark of items at column k
+  -- the text after the first mark of items at column k
   pub inside : ℕ → Forms → List ℕ
   inside k (last t) = text_at (k + 1 + 1) t
   inside k (item t ts) = text_at (k + 1 + 1) t ++ (blanks k ++ (45 ∷ 32 ∷ inside k ts))
@@ -195,7 +195,7 @@ abbrev mutual
   tokens_of (dict es) = k.BlockMappingStart ∷ (entries_tokens es ++ k.BlockEnd ∷ [])
   tokens_of (list ts) = k.BlockSequenceStart ∷ k.BlockEntry ∷ (inside_tokens ts ++ k.BlockEnd ∷ [])
 
-  -- the tokens behind the first BlockEntry of items
+  -- the tokens after the first BlockEntry of items
   pub inside_tokens : Forms → List TokenType
   inside_tokens (last t) = tokens_of t
   inside_tokens (item t ts) = tokens_of t ++ (k.BlockEntry ∷ inside_tokens ts)

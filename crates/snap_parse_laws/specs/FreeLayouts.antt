@@ -3,8 +3,8 @@ use Rattle.std.specs.Prelude.{◌≡◌, ◌⊎◌, ℕ, List, true, false, leng
 use Rattle.std.specs.Fmt.{signed_decimal}
 use Rattle.snap_content.specs.Plain.{null, bool, int, text, list, dict}
 use Rattle.snap_content.specs.Quotes.{needs_quotes}
-use Rattle.snap_content.specs.Spell.{spell_bool}
-use Rattle.snap_content.specs.Typed.{Typed, value, real, typed}
+use Rattle.snap_print.specs.Spell.{spell_bool}
+use Rattle.snap_print.specs.Typed.{Typed, value, real, typed}
 use Rattle.snap_parse_laws.specs.Layouts.{Scalar, bare, quote, Leaf, word, empty, block, Collection, list as a_list, dict as a_dict, Items, last, item, Item, piece, beside, below, Value, piece_of, below_key, level, Entry, simple, complex, Entries, only, pair, Layout, leaf, collection, Document}
 use Rattle.snap_parse_laws.specs.LayoutTexts.{spelled}
 use Rattle.snap_parse_laws.specs.LayoutRules.{Position, inside, ending, is_gap, IsRest, are_letters}

@@ -21,7 +21,7 @@ abbrev mutual
   collection_tokens (list ts) = k.BlockSequenceStart ∷ k.BlockEntry ∷ (items_tokens ts ++ k.BlockEnd ∷ [])
   collection_tokens (dict es) = k.BlockMappingStart ∷ (entries_tokens es ++ k.BlockEnd ∷ [])
 
-  -- behind the first BlockEntry
+  -- after the first BlockEntry
   pub items_tokens : Items → List TokenType
   items_tokens (last t) = item_tokens t
   items_tokens (item t ts) = item_tokens t ++ (k.BlockEntry ∷ items_tokens ts)

@@ -3,7 +3,7 @@ use Rattle.std.specs.Prelude.{ℕ, List, [], ◌∷◌, ◌++◌, if◌then◌el
 use Rattle.std.specs.Fmt.{signed_decimal}
 use Rattle.snap_content.specs.Plain.{Plain, null, bool, int, text, list, dict, Plains, no_items, item, Entries, no_entries, entry}
 use Rattle.snap_content.specs.Quotes.{needs_quotes}
-use Rattle.snap_content.specs.Spell.{spell_bool}
+use Rattle.snap_print.specs.Spell.{spell_bool}
 use Rattle.snap_print.specs.Blocks.{Blocks, before_more, as_block}
 use Rattle.snap_print.specs.Lines.{before_items, before_entries}
 use Rattle.snap_scan_tokens.specs.declared.token.TokenType.{TokenType}

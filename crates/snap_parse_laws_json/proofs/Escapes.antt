@@ -15,7 +15,7 @@ passes c =
     let nul : (c == 0) ≡ false = grind (arith, nat_tests) in
     passes-other-by c (record { quotes = quotes; slash = slash; tab = tab; line = line; return = return; nul = nul }) (c == 32) refl))))))))
 
--- the place behind a text in quotes
+-- the place after a text in quotes
 abbrev pub read_string : List ℕ → List ℕ → ℕ → ℕ → Quoted
 read_string s tail i j = record { text = s; place = here tail (i + length (json_string s)) 1 (j + length (json_string s)) }
 

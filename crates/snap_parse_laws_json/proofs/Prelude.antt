@@ -9,7 +9,7 @@ pub use Rattle.std.specs.List.{flat_map, list_any, list_all}
 pub use Rattle.std.specs.Prelude.{◌==◌, ◌||◌, ◌&&◌, slice_index, if◌then◌else◌, slice_index_or, nat_le, codes}
 pub use Rattle.snap_content.proofs.Booleans.{and_nothing, not_true}
 pub use Rattle.snap_content.specs.Plain.{Plain, null, bool, int, text, list, dict, Plains, no_items, item, Entries, no_entries, entry}
-pub use Rattle.snap_content.specs.Spell.{spell_bool}
+pub use Rattle.snap_print.specs.Spell.{spell_bool}
 pub use Rattle.snap_json.specs.JsonText.{is_refused, has_refused, items_refused, entries_refused, text_at, items_at, entries_at, member_text}
 pub use Rattle.snap_json.specs.Strings.{json_escaped, json_string}
 pub use Rattle.snap_json.specs.declared.format.Format.TheVariants.{Condensed}

@@ -18,7 +18,7 @@ free-behind n b p h ks free =
     let late = still-free (mark_of p) n ks free in
     record { key = free-from b p h (fresh (mark_of p) ks.key) late.key; outer = late.outer; levels = late.levels }
 
--- the state behind a text in quotes
+-- the state after a text in quotes
 abbrev pub behind_string : Bool → List ℕ → List ℕ → ℕ → ℕ → List Token → Keys → State
 behind_string b s tail i j h ks =
     let p = here (json_string s ++ tail) i 1 j in
@@ -44,7 +44,7 @@ step-string n b a s tail i j h ks free =
     fetch-flow n b a p h ks free refl ∙ ap kinds (quote-kind (has_levels ks.outer) a (closed_by json_escaped s ++ tail) i 1 j)
     ∙ read-quotes b a p h late (read_string s tail i j) (still-free (mark_of p) n ks free).key (string-whole s tail i j)
 
--- the state behind a word
+-- the state after a word
 abbrev pub behind_word : Bool → ℕ → List ℕ → List ℕ → ℕ → ℕ → List Token → Keys → State
 behind_word b a w rest i j h ks =
     let p = here (w ++ rest) i 1 j in
@@ -86,7 +86,7 @@ colon-ends true sign same flow e f = refl
 colon-ends false true same flow e f = rw e refl
 colon-ends false false same flow e f = rw (e, f) refl
 
--- right behind a text in quotes a colon ends a key
+-- right after a text in quotes a colon ends a key
 colon-kind : (flow : Bool) (cs : List ℕ) (i j : ℕ) → flow ≡ true → kind_of flow i (here (58 ∷ cs) i 1 j) ≡ k.Value
 colon-kind flow cs i j e =
     let same : (i == i) ≡ true = grind (arith, nat_tests) in
@@ -94,7 +94,7 @@ colon-kind flow cs i j e =
     colon-ends (is_blank_or_end (slice_index cs 0)) (is_flow_sign (slice_index cs 0)) (i == i) flow e same in
     rw (and_nothing (j == 0), value) refl
 
--- the state behind a key that began at q, and its colon
+-- the state after a key that began at q, and its colon
 abbrev pub behind_colon : ℕ → Place → List ℕ → List Token → Token → List (Option SimpleKey) → State
 behind_colon n q cs h scalar outer =
     let p = here (58 ∷ cs) (q.index + n) 1 (q.col + n) in
@@ -123,7 +123,7 @@ fresh-key n i j col x h short =
     let near : nat_lt 1024 (i + n - i) ≡ false = grind (arith, nat_tests) in
     rw near refl
 
--- the colon behind a key is fetched
+-- the colon after a key is fetched
 pub step-colon : (m n : ℕ) (x cs : List ℕ) (i j : ℕ) (h : List Token) (scalar : Token) (outer : List (Option SimpleKey))
     → AreFree (suc m) (record { key = Some (key_at (here x i 1 j) h); outer = outer }) → n ≤ 1024
     → let p = here (58 ∷ cs) (i + n) 1 (j + n) in

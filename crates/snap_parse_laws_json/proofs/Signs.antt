@@ -40,7 +40,7 @@ free-inside n key ks free e = record {
   levels = length-append ks.outer (key ∷ []) ∙ (let same : length ks.outer ≡ n = free.levels in omega (arith, same));
 }
 
--- the state behind an opening bracket
+-- the state after an opening bracket
 abbrev pub opened : Brackets → Bool → ℕ → List ℕ → ℕ → ℕ → List Token → Keys → State
 opened q b a cs i j h ks =
     let p = here (open_sign q ∷ cs) i 1 j in
@@ -106,7 +106,7 @@ free-outside n ks free =
       levels = length-take-le (length ks.outer - 1) ks.outer (omega arith) ∙ one_less;
     }
 
--- the state behind a closing bracket
+-- the state after a closing bracket
 abbrev pub closed : Brackets → ℕ → List ℕ → ℕ → ℕ → List Token → Keys → State
 closed q a cs i j h ks =
     flow_state false a (here cs (i + 1) 1 (j + 1)) (h ++ at (mark_of (here (close_sign q ∷ cs) i 1 j)) (close_token q) ∷ []) (shallower (without_key ks))
@@ -134,7 +134,7 @@ step-close q n b a cs i j h ks free =
 comma-kind : (flow : Bool) (a : ℕ) (cs : List ℕ) (i j : ℕ) → kind_of flow a (here (44 ∷ cs) i 1 j) ≡ k.FlowEntry
 comma-kind flow a cs i j = rw (and_nothing (j == 0)) refl
 
--- the state behind a comma
+-- the state after a comma
 abbrev pub parted : ℕ → List ℕ → ℕ → ℕ → List Token → Keys → State
 parted a cs i j h ks = flow_state true a (here cs (i + 1) 1 (j + 1)) (h ++ at (mark_of (here (44 ∷ cs) i 1 j)) t.FlowEntry ∷ []) (without_key ks)
 

@@ -25,7 +25,7 @@ reached {s} {before} {toks} {n} {rest} r = flow_state false r.adjacent (here res
 one-step : (s t : State) → s.ended ≡ false → fetched s ≡ Some t → Steps s t
 one-step s t going is = one_more s t t going is (none_more t)
 
--- a step, and what is read behind it
+-- a step, and what is read after it
 then : (s t : State) (before next pre toks : List TokenType) (n : ℕ) (rest : List ℕ) → Steps s t → next ≡ before ++ pre → Reads t next toks n rest → Reads s before (pre ++ toks) n rest
 then s t before next pre toks n rest steps is r =
     let after : List TokenType → List TokenType = λ x. x ++ toks in
@@ -40,7 +40,7 @@ then s t before next pre toks n rest steps is r =
       given = r.given ∙ ap after is ∙ append_assoc before pre toks;
     }
 
--- two parts, one behind the other
+-- two parts, one after the other
 join : (s : State) (before xs ys : List TokenType) (m n : ℕ) (here_ rest : List ℕ) (r : Reads s before xs m here_) → Reads (reached r) (map type_of r.held) ys n rest → Reads s before (xs ++ ys) n rest
 join s before xs ys m n here_ rest r next = then s (reached r) before (map type_of r.held) xs ys n rest r.steps r.given next
 
@@ -214,7 +214,7 @@ nothing n a rest i j h ks free =
       given = sym (append-nil (map type_of h));
     }
 
--- a comma, and what is read behind it
+-- a comma, and what is read after it
 parting : (n a : ℕ) (cs rest : List ℕ) (i j : ℕ) (h : List Token) (ks : Keys) (toks : List TokenType) → AreFree (suc n) ks
     → ((held : List Token) (keys : Keys) → AreFree (suc n) keys → Reads (flow_state true a (here cs (i + 1) 1 (j + 1)) held keys) (map type_of held) toks (suc n) rest)
     → Reads (flow_state false a (here (44 ∷ cs) i 1 j) h ks) (map type_of h) (k.FlowEntry ∷ toks) (suc n) rest

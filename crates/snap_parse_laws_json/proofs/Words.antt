@@ -71,7 +71,7 @@ letters-read (c ∷ w) flow tail i j text h =
     let e : text ++ c ∷ [] ++ w ≡ text ++ (c ∷ w) = append_assoc text (c ∷ []) w in
     letter-read c flow (w ++ tail) i j text two.0 ∙ letters-read w flow tail (i + 1) (j + 1) (text ++ c ∷ []) two.1 ∙ rw (e, m, n) refl
 
--- what may stand behind a value: in a list or a dict a sign of flow, else nothing
+-- what may stand after a value: in a list or a dict a sign of flow, else nothing
 abbrev pub EndsValue : ℕ → List ℕ → Type 0
 EndsValue zero rest = rest ≡ []
 EndsValue (suc n) rest = is_flow_sign (slice_index rest 0) ≡ true
@@ -89,7 +89,7 @@ third-true false false false h = absurd (cc)
 abbrev pub word_read : List ℕ → List ℕ → ℕ → ℕ → Plain
 word_read text rest i j = record { text = text; is_broken = false; place = here rest i 1 j }
 
--- a plain scalar ends behind a value
+-- a plain scalar ends after a value
 word-ends : (n : ℕ) (outer : List (Option SimpleKey)) (rest : List ℕ) (i j : ℕ) (text : List ℕ) → length outer ≡ n → EndsValue n rest
     → plain None (has_levels outer) no_gap text rest (here rest i 1 j) ≡ Some (word_read text rest i j)
 word-ends zero outer rest i j text h end = rw end refl

@@ -2,7 +2,7 @@
 use Rattle.std.specs.Prelude.{None, codes}
 use Rattle.std.specs.Fmt.{signed_decimal}
 use Rattle.snap_content.specs.Plain as p
-use Rattle.snap_content.specs.Spell.{spell_bool}
+use Rattle.snap_print.specs.Spell.{spell_bool}
 use Rattle.snap_scan_tokens.specs.declared.token.TScalarStyle.TheVariants as style
 use Rattle.snap_parse_events.specs.Nodes as n
 use Rattle.snap_parse_events.specs.TokenTrees.{Tree, scalar, flow_list, flow_dict, Trees, no_items, item, Entries, no_entries, entry}

@@ -2,7 +2,7 @@
 use Rattle.std.specs.Prelude.{ℕ, List, [], ◌∷◌, ◌++◌, codes}
 use Rattle.std.specs.Fmt.{signed_decimal}
 use Rattle.snap_content.specs.Plain.{Plain, null, bool, int, text, list, dict, Plains, no_items, item, Entries, no_entries, entry}
-use Rattle.snap_content.specs.Spell.{spell_bool}
+use Rattle.snap_print.specs.Spell.{spell_bool}
 use Rattle.snap_scan_tokens.specs.declared.token.TokenType.{TokenType}
 use Rattle.snap_scan_tokens.specs.declared.token.TokenType.TheVariants as k
 use Rattle.snap_scan_tokens.specs.declared.token.TEncoding.TheVariants.{Utf8}

@@ -53,7 +53,7 @@ byte_at s front rest i m len is small =
     get_or-seam [] ys y = refl
     get_or-seam (x ∷ xs) ys y = get_or-seam xs ys y
 
--- the mark stands nowhere behind the last place where it is found
+-- the mark stands nowhere after the last place where it is found
 not_later : (s mark front xs ys : List ℕ) (i : ℕ) → ((k : ℕ) → i < k → k ≤ length s → LacksTextAt mark s k) → length front ≡ i → s ≡ xs ++ (mark ++ ys)
     → length xs ≤ length front
 not_later s mark front xs ys i later len is = by (cases_lt i (length xs))

@@ -81,7 +81,7 @@ component-longer (x ∷ []) [] h = h
 component-longer (x ∷ []) (y ∷ ys) h = refl
 component-longer (x ∷ z ∷ xs) ys h = refl
 
--- a name with more characters behind it is a name, where no slash is among them
+-- a name with more characters after it is a name, where no slash is among them
 pub name-longer : (name more : List ℕ) → IsName name → list_any is_slash more ≡ false → IsName (name ++ more)
 name-longer name more h k =
     let parts = name-parts name h in
@@ -143,7 +143,7 @@ joined-normal base tail = by (is_absolute tail)
         parts-normal (is_absolute base) (components base ++ components tail)
         (All-append IsName (components base) (components tail) (components-names base) (components-names tail))
 
--- a further part stands behind what the others make, and a slash
+-- a further part stands after what the others make, and a slash
 slashed-push : (part : List ℕ) (parts : List (List ℕ)) (last : List ℕ) → slashed ((part ∷ parts) ++ last ∷ []) ≡ slashed (part ∷ parts) ++ 47 ∷ last
 slashed-push part [] last = refl
 slashed-push part (next ∷ parts) last =
@@ -156,7 +156,7 @@ front-push true (part ∷ parts) last =
     ap (λ s. 47 ∷ s) (slashed-push part parts last ∙ sym (append_assoc (slashed (part ∷ parts)) (47 ∷ []) last))
 front-push false (part ∷ parts) last = slashed-push part parts last ∙ sym (append_assoc (slashed (part ∷ parts)) (47 ∷ []) last)
 
--- a name in a folder stands behind the folder's front
+-- a name in a folder stands after the folder's front
 pub joined-name : (folder name : List ℕ) → IsName name → joined folder name ≡ front_of folder ++ name
 joined-name folder name h =
     ap (λ b. cond b (path_of_parts true (components name)) (path_of_parts (is_absolute folder) (components folder ++ components name))) (name-relative name h)
@@ -180,7 +180,7 @@ front-parent path =
     ap (λ b. front_behind b (components (parent_of path))) (parts-absolute (is_absolute path) (all_but_last (components path)) names)
     ∙ ap (front_behind (is_absolute path)) (parts-components (is_absolute path) (all_but_last (components path)) names)
 
--- a path is its last component behind the front of its parent
+-- a path is its last component after the front of its parent
 pub parted : (path last : List ℕ) → IsNormal path → name_of path ≡ Some last → path ≡ front_of (parent_of path) ++ last
 parted path last normal name =
     normal ∙ ap (path_of_parts (is_absolute path)) (last_parts (components path) last name)

@@ -8,7 +8,7 @@ between_first : (c : ℕ) (before behind : List ℕ) (slash : Bool) → (c == 47
 between_first c before behind slash is none rest =
     ap (λ b. cond b ([] ∷ between_slashes (before ++ 47 ∷ behind)) (onto c (between_slashes (before ++ 47 ∷ behind)))) (is ∙ none) ∙ ap (onto c) rest
 
--- a text without a slash is its one part, and else its parts are the first, and those behind the slash
+-- a text without a slash is its one part, and else its parts are the first, and those after the slash
 between-cut : (before behind : List ℕ) → Lacks 47 before → between_slashes (before ++ 47 ∷ behind) ≡ before ∷ between_slashes behind
 between-cut [] behind none = refl
 between-cut (c ∷ cs) behind none =
@@ -26,7 +26,7 @@ components-first text before behind at =
 pub components-one : (text : List ℕ) → Lacks 47 text → components text ≡ filter is_component (text ∷ [])
 components-one text none = ap (filter is_component) (between-whole text none)
 
--- a path of parts: the first, and the others behind slashes
+-- a path of parts: the first, and the others after slashes
 pub slashed-cons : (part : List ℕ) (parts : List (List ℕ)) → slashed (part ∷ parts) ≡ part ++ flat_map behind_slash parts
 slashed-cons part [] = sym (append-nil part)
 slashed-cons part (next ∷ parts) = ap (λ s. part ++ 47 ∷ s) (slashed-cons next parts)
@@ -49,7 +49,7 @@ pub whole-path : (absolute : Bool) (parts : List (List ℕ)) → start absolute 
 whole-path true parts = refl
 whole-path false parts = refl
 
--- the components of the tail behind those of the base
+-- the components of the tail after those of the base
 pub joined-below : (base tail first whole : List ℕ) (absolute behind : Bool) → is_absolute tail ≡ false → absolute ≡ is_absolute base → first ≡ start absolute ++ then_slashed false (components base)
     → behind ≡ stand_behind false (components base) → whole ≡ first ++ then_slashed behind (components tail) → whole ≡ joined base tail
 joined-below base tail first whole absolute behind below root at_first stands_behind at_whole =
@@ -115,7 +115,7 @@ components-whole text is = ap (filter is_component) (subst (PartsAt text) is (pa
 only : (part : List ℕ) (is : Bool) → is_component part ≡ is → filter is_component (part ∷ []) ≡ cond is (part ∷ []) []
 only part is h = ap (λ b. cond b (part ∷ []) []) h
 
--- the first component, and what stands behind it
+-- the first component, and what stands after it
 pub next-here : (text before behind : List ℕ) → IsCutAtFirst 47 text before behind → is_component before ≡ true → components text ≡ before ∷ components behind
 next-here text before behind at is = components-first text before behind at ∙ ap (λ parts. parts ++ components behind) (only before true is)
 
@@ -140,7 +140,7 @@ whole-here text at is = components-whole text at ∙ only text true is
 pub whole-none : (text : List ℕ) → cut_last (codes "/") text ≡ None → is_component text ≡ false → components text ≡ []
 whole-none text at is = components-whole text at ∙ only text false is
 
--- one more part behind those that stand there
+-- one more part after those that stand there
 pub part-pushed : (old new whole part : List ℕ) (behind : Bool) (parts more : List (List ℕ)) → new ≡ old ++ then_slashed behind (part ∷ []) → parts ≡ part ∷ more
     → old ++ then_slashed behind parts ≡ whole → new ++ then_slashed true more ≡ whole
 part-pushed old new whole part behind parts more pushed is so_far =
@@ -171,7 +171,7 @@ pub apart-common : (path base more others : List (List ℕ)) (part other : List 
 apart-common path base more others part other is at same =
     ap (λ ps. apart ps base) is ∙ ap (apart (part ∷ more)) at ∙ ap (λ b. cond b (apart more others) (apart_of (part ∷ more) (other ∷ others))) same
 
--- the steps up, and what is left of the path behind them
+-- the steps up, and what is left of the path after them
 pub seen-apart : (seen first none : List ℕ) (behind : Bool) (whole : Apart) (below above : List (List ℕ)) → below ≡ whole.path → above ≡ whole.base → none ≡ []
     → first ≡ none ++ then_slashed false (steps_up above) → behind ≡ stand_behind false (steps_up above) → seen ≡ first ++ then_slashed behind below → seen ≡ from_apart whole
 seen-apart seen first none behind whole below above is_path is_base empty at_first stands_behind at_seen =

@@ -3,7 +3,7 @@ use Rattle.std.specs.Prelude.{◌==◌, ℕ, List, [], ◌∷◌, Option, None, 
 use Rattle.std.specs.Str.{bytes_eq}
 use Rattle.snap_path.specs.Paths.{name_of}
 
--- what stands before a mark, and what stands behind it
+-- what stands before a mark, and what stands after it
 pub record Cut : Type 0 where
   pub before : List ℕ
   pub behind : List ℕ
@@ -34,7 +34,7 @@ abbrev pub front_or : List ℕ → Option Cut → List ℕ
 front_or name None = name
 front_or name (Some cut) = if bytes_eq cut.before [] then name else cut.before
 
--- a name without its last part behind a dot; a dot in front begins no such part
+-- a name without its last part after a dot; a dot in front begins no such part
 abbrev pub stem_of : List ℕ → List ℕ
 stem_of name = if bytes_eq name (codes "..") then name else front_or name (cut_last (codes ".") name)
 

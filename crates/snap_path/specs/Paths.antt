@@ -102,7 +102,7 @@ front_behind absolute (part ∷ parts) = path_of_parts absolute (part ∷ parts)
 abbrev pub front_of : List ℕ → List ℕ
 front_of folder = front_behind (is_absolute folder) (components folder)
 
--- a slash, and the part behind it
+-- a slash, and the part after it
 abbrev pub behind_slash : List ℕ → List ℕ
 behind_slash part = 47 ∷ part
 

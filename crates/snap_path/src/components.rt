@@ -1,4 +1,4 @@
-//! A path in its components, which are read off its text: from its front and from its end. The one error is want of memory.
+//! A path in its components, which are read off its text: from its front and from its end. The one error is out of memory.
 ghost use Rattle.std.specs.Prelude.{◌≡◌, ◌<◌, [], ◌∷◌, ◌++◌, length, IfOk, IfSome, MatchOption, OnOk, Some, None, IsTrue, false};
 ghost use Rattle.std.specs.Char.{is_ascii};
 ghost use Rattle.std.specs.List.{list_all};
@@ -21,7 +21,7 @@ fn is_component(part: &str) -> bool
     }
 }
 
-/// The first component, and what stands behind it; none exactly where there is no component.
+/// The first component, and what stands after it; none exactly where there is no component.
 pub fn next_component(path: &str) -> Option<(&str, &str)>
     ensures component { MatchOption result (components (chars path.now) ≡ [])
         (λ p. components (chars path.now) ≡ chars p.0.now ∷ components (chars p.1.now)) }
@@ -41,7 +41,7 @@ pub fn next_component(path: &str) -> Option<(&str, &str)>
     }
 }
 
-/// What stands before and behind the last place of the mark in the text.
+/// What stands before and after the last place of the mark in the text.
 pub fn cut_at_last<'a>(text: &'a str, mark: &str) -> Option<(&'a str, &'a str)>
     requires ascii { IsTrue (list_all is_ascii mark.now) }
     requires mark { 0 < length mark.now }
@@ -52,7 +52,7 @@ pub fn cut_at_last<'a>(text: &'a str, mark: &str) -> Option<(&'a str, &'a str)>
     text.rsplit_once(mark)
 }
 
-/// The last component, behind what stands before it; none exactly where there is no component.
+/// The last component, after what stands before it; none exactly where there is no component.
 pub fn last_component(path: &str) -> Option<(&str, &str)>
     ensures { MatchOption result (components (chars path.now) ≡ [])
         (λ p. components (chars path.now) ≡ components (chars p.0.now) ++ chars p.1.now ∷ []) }
@@ -71,7 +71,7 @@ pub fn last_component(path: &str) -> Option<(&str, &str)>
     }
 }
 
-/// Adds the component: behind a slash, where others stand before it.
+/// Adds the component: after a slash, where others stand before it.
 fn push_component(
     alloc: Global,
     path: &mut Text,

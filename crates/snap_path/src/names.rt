@@ -19,7 +19,7 @@ pub fn path_name(path: &Text) -> Option<&str>
     }
 }
 
-/// The name without its last part behind a dot. A dot in front begins no such part.
+/// The name without its last part after a dot. A dot in front begins no such part.
 fn stem(name: &str) -> &str
     ensures { chars result.now ≡ stem_of (chars name.now) }
 {
@@ -32,8 +32,8 @@ fn stem(name: &str) -> &str
     }
 }
 
-/// The name and the module of the snapshot at the path: what stands behind and before the last two
-/// underscores of its last component, without the last part behind a dot.
+/// The name and the module of the snapshot at the path: what stands after and before the last two
+/// underscores of its last component, without the last part after a dot.
 /// Without underscores the module is empty, and without a component both are.
 pub fn names_of_path(alloc: Global, path: &Text) -> Result<(Text, Text), OutOfMemory>
     ensures name { IfOk result (λ names. names.0 ≡ snapshot_name path.now) }

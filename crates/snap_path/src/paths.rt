@@ -1,5 +1,5 @@
 //! Paths as texts. The paths that are made here are components with one slash between each two.
-//! The one error of these calls is want of memory.
+//! The one error of these calls is out of memory.
 ghost use Rattle.std.specs.Prelude.{◌≡◌, ◌<◌, length, IfOk, IfSome, MatchOption};
 ghost use Rattle.std.specs.Str.{bytes_eq, chars};
 ghost use Rattle.snap_path.specs.Paths.{start, components, all_but_last, path_of_parts, joined, parent_of, apart, AreApart, from_apart, relative_from, front_of};
@@ -67,7 +67,7 @@ fn is_same(part: &str, other: &str) -> bool
     part == other
 }
 
-/// What is left of both behind a first component that they have in common; none exactly where they have none.
+/// What is left of both after a first component that they have in common; none exactly where they have none.
 fn behind_common<'a, 'b>(path: &'a str, base: &'b str) -> Option<(&'a str, &'b str)>
     ensures left { MatchOption result
         (AreApart (components (chars path.now)) (components (chars base.now)))
@@ -100,7 +100,7 @@ fn apart<'a, 'b>(path: &'a str, base: &'b str) -> (&'a str, &'b str)
     (path_left, base_left)
 }
 
-/// The steps up for what is left of the base, and behind them what is left of the path.
+/// The steps up for what is left of the base, and after them what is left of the path.
 fn seen_from(alloc: Global, path: &str, base: &str) -> Result<Text, OutOfMemory>
     ensures { IfOk result (λ seen. seen
         ≡ from_apart (apart (components (chars path.now)) (components (chars base.now)))) }

@@ -2,12 +2,12 @@
 use Rattle.snap_pending.proofs.Prelude.{◌≡◌, ℕ, zero, suc, ◌/◌, ◌%◌, ◌==◌, ℤ, pos, negsuc, Bool, true, false, List, [], ◌∷◌, ◌++◌, Option, Result, Ok, Err, ap, sym, ◌∙◌, subst, append_assoc, append-nil, if◌then◌else◌, Error, FailedParsingYaml, UnexpectedDataType, MissingField, FileIo, FloatText, JsonKey, NotText, NoFile, OutOfMemory, Pending, Plain, null, bool, int, text, list, dict, no_items, item, no_entries, entry, content_of, plain, Tree, text_at, Condensed, IsJsonOf, tree, LineTells, LineRefused, LineEnd, RecordEnd, MayBeJsonOf, IsNoJson, parsing_refusal, PendingInlineSnapshot, Tell, Refuse, LoadRefused, lines, IsCallError}
 use Rattle.std.proofs.Common.{inl, inr}
 use Rattle.std.specs.Fmt.{decimal, signed_decimal, digits, digits_onto, digit_glyph}
-use Rattle.snap_content.specs.Readable.{IsWithin}
+use Rattle.snap_print.specs.Readable.{IsWithin}
 use Rattle.snap_content.proofs.PlainMade.{plain_made}
 use Rattle.snap_content.specs.declared.content.Content.{Content}
 use Rattle.snap_emit.specs.Parsed.{MayBeReadAs, IsUnspelled, IsReadFrom, RefusalEnd}
 
--- what the lines that are left tell, the whole tells behind what was read
+-- what the lines that are left tell, the whole tells after what was read
 abbrev pub Told : List (List ℕ) → List (List ℕ) → List Pending → Type 0
 Told whole left records = (more : List Pending) → Tell left more → Tell whole (records ++ more)
 

@@ -1,7 +1,7 @@
 -- What a saved record is read back as.
 use Rattle.std.specs.Prelude.{◌≡◌, ◌<◌, ◌^◌, ℕ, List, [], ◌∷◌, Option, None, Some, option_map, IfSome, is_some, true, false}
 use Rattle.snap_content.specs.Plain.{content_of}
-use Rattle.snap_content.specs.Readable.{IsWithin}
+use Rattle.snap_print.specs.Readable.{IsWithin}
 use Rattle.snap_parse_laws_json.specs.Bounded.{is_bounded}
 use Rattle.snap_json.specs.JsonPlain.{json_plain}
 use Rattle.snap_store.specs.Meta.{Meta}

@@ -3,7 +3,7 @@ use Rattle.std.specs.Prelude.{◌≡◌, ℕ, false, List, [], Option, None, Som
 use Rattle.snap_content.specs.Plain.{Plain, text, dict, Entries}
 use Rattle.snap_content.specs.declared.error.Error.{Error}
 use Rattle.snap_content.specs.declared.error.Error.TheVariants.{FailedParsingYaml, UnexpectedDataType, MissingField, FileIo, FloatText, JsonKey, NotText, NoFile, OutOfMemory}
-use Rattle.snap_content.specs.Readable.{IsWithin}
+use Rattle.snap_print.specs.Readable.{IsWithin}
 use Rattle.snap_emit.specs.Parsed.{MayBeReadAs, IsUnspelled}
 use Rattle.snap_parse_laws_json.specs.Bounded.{IsJsonOf}
 use Rattle.snap_fields.specs.Made.{last_value, last_filled, text_value, line_value}

@@ -18,7 +18,7 @@ use snap_store::named;
 use std::alloc::Global;
 
 impl PendingInlineSnapshot {
-    /// Adds the line of the record behind what the file at the path holds. `JsonKey`, where a key of the record is one that
+    /// Adds the line of the record after what the file at the path holds. `JsonKey`, where a key of the record is one that
     /// JSON refuses, changes nothing; after any other error only that file is unknown.
     pub fn save<S: Store>(&self, alloc: Global, store: &mut S, path: &Text) -> Result<(), Error>
         ensures added { OnOk result ((m : Files) → S.files store.old ≡ Some m

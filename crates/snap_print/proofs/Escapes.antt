@@ -1,7 +1,7 @@
 -- How a character is written between double quotes.
 use Rattle.snap_print.proofs.Prelude.{◌≡◌, ℕ, ◌<◌, ◌+◌, ◌*◌, ◌/◌, ◌%◌, List, [], ◌∷◌, ◌++◌, Bool, true, false, ◌==◌, ◌||◌, cond, nat_lt, refl, ap, ◌∙◌, arith, append_assoc, nat_tests, digit_glyph, flat_map, list_any, codes, is_break, escaped, escaped_code, or_left}
 
--- by a letter behind a backslash, by a code, or as it is
+-- by a letter after a backslash, by a code, or as it is
 pub data Kind (c : ℕ) : List ℕ → Type 0 where
   quote : 34 ≡ c → Kind c (codes "\\\"")
   slash : 92 ≡ c → Kind c (codes "\\\\")

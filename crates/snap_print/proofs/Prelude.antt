@@ -14,6 +14,6 @@ pub use Rattle.snap_content.proofs.Booleans.{both_second, both_first, or_left, o
 pub use Rattle.snap_content.proofs.Ends.{ends_badly-push, is_reserved-chars}
 pub use Rattle.snap_content.specs.Numbers.{is_digits, is_integer_text, is_decimal_text, past_digits, is_number_text, is_float_text, is_octal_text, is_plus_text, is_plus_inf, past_sign, ends_infinity, past_inf, is_end, past_nan, stays_within}
 pub use Rattle.snap_content.specs.Quotes.{is_special, ends_badly, needs_quotes, starts_badly, starts_as_hexadecimal, is_reserved, is_leading}
-pub use Rattle.snap_content.specs.Readable.{IsWithin, AreWithin, AreEntriesWithin, is_word, IsNumber}
-pub use Rattle.snap_content.specs.Spell.{escaped, escaped_code, spelling, is_flat, is_scalar, quoted}
+pub use Rattle.snap_print.specs.Readable.{IsWithin, AreWithin, AreEntriesWithin, is_word, IsNumber}
+pub use Rattle.snap_print.specs.Spell.{escaped, escaped_code, spelling, is_flat, is_scalar, quoted}
 pub use Rattle.snap_print.specs.Printed.{is_break, IsLine, IsRow, AreRows, EndsWell, is_trimmed, begins_dashes}

@@ -204,7 +204,7 @@ ends-trimmed inside s t h = absurd (cc)
 ends-trimmed end s t h = absurd (cc)
 ends-trimmed last s t h = ends-block s h
 
--- an item or a value behind a mark
+-- an item or a value after a mark
 sign-unbroken : (n : ℕ) → list_any is_break (block_sign n) ≡ false
 sign-unbroken zero = refl
 sign-unbroken (suc zero) = refl

@@ -2,7 +2,7 @@
 use Rattle.snap_print.proofs.Prelude.{◌≡◌, ℕ, suc, ◌<◌, ◌≤◌, ◌^◌, ℤ, pos, negsuc, List, [], ◌∷◌, Bool, true, false, ◌==◌, ◌||◌, ◌&&◌, not, cond, drop, refl, sym, ap, ◌∙◌, arith, nat_tests, decimal_is_IsNumeral_wide, is_ascii_digit, decimal, signed_decimal, list_any, list_all, codes, bytes_eq, is_digits, is_integer_text, is_number_text, is_float_text, is_octal_text, is_plus_text, is_plus_inf, needs_quotes, starts_badly, ends_badly, starts_as_hexadecimal, is_special, is_reserved, is_leading, is_word, IsWithin, IsNumber, spelling, not_true, both_second, both_first, false_from_ne_true, and_from, or_from}
 use Rattle.std.specs.Str.Parse.{digits_value}
 use Rattle.snap_content.specs.Plain as p
-use Rattle.snap_content.specs.Typed.{Typed, value, typed, number_in, below_zero, has_128_bits, is_hexadecimal_text, is_hexadecimal_integer, is_null_word, is_inf_word, is_named_number}
+use Rattle.snap_print.specs.Typed.{Typed, value, typed, number_in, below_zero, has_128_bits, is_hexadecimal_text, is_hexadecimal_integer, is_null_word, is_inf_word, is_named_number}
 use Rattle.snap_print.proofs.Digits.{decimal_digits, low_end, wide, wide_negative}
 use Rattle.snap_print.proofs.Tests.{absurd_tests, apart, no_and, and_no}
 use Rattle.snap_print.proofs.Words.{same_word, integer, no_number_no_integer}

@@ -86,7 +86,7 @@ block_sign zero = codes "|-"
 block_sign (suc zero) = codes "|"
 block_sign (suc (suc n)) = codes "|+"
 
--- how many empty lines stand behind a block: those that count, and where none counts one before what follows
+-- how many empty lines stand after a block: those that count, and where none counts one before what follows
 abbrev pub empty_lines : Bool → ℕ → ℕ
 empty_lines more (suc (suc n)) = suc n
 empty_lines more zero = if more then 1 else 0

@@ -4,7 +4,7 @@ use Rattle.std.specs.List.{flat_map}
 use Rattle.snap_str.specs.Lines.{onto}
 use Rattle.snap_content.specs.Lines.{ended}
 use Rattle.snap_content.specs.Plain.{Plain, null, bool, int, text, list, dict, Plains, no_items, item, Entries, no_entries, entry}
-use Rattle.snap_content.specs.Spell.{spelling, is_scalar, is_flat}
+use Rattle.snap_print.specs.Spell.{spelling, is_scalar, is_flat}
 use Rattle.snap_print.specs.Blocks.{Blocks, before_more, is_inside, as_block, core, kept_ends, block_sign, empty_lines}
 
 -- a text at its line ends: one more lines than these
@@ -32,17 +32,17 @@ abbrev pub indented : List ℕ → List ℕ
 indented [] = []
 indented (c ∷ cs) = 32 ∷ 32 ∷ c ∷ cs
 
--- the first line behind a mark and a blank, the others two columns further in
+-- the first line after a mark and a blank, the others two columns further in
 abbrev pub behind : ℕ → List (List ℕ) → List (List ℕ)
 behind mark [] = []
 behind mark (first ∷ rest) = (mark ∷ 32 ∷ first) ∷ map indented rest
 
--- an item or a value behind a mark: a block, or other lines
+-- an item or a value after a mark: a block, or other lines
 abbrev pub marked : Blocks → ℕ → Option (List ℕ) → List (List ℕ) → List (List ℕ)
 marked w mark None lines = behind mark lines
 marked w mark (Some s) lines = (mark ∷ 32 ∷ block_sign (kept_ends s)) ∷ block_lines w s
 
--- a value behind its key and a colon
+-- a value after its key and a colon
 abbrev pub keyed : Blocks → List ℕ → Plain → Option (List ℕ) → List (List ℕ) → List (List ℕ)
 keyed w key value None lines = if is_flat value then (key ++ 58 ∷ 32 ∷ spelling value) ∷ [] else (key ++ 58 ∷ []) ∷ map indented lines
 keyed w key value (Some s) lines = (key ++ 58 ∷ 32 ∷ block_sign (kept_ends s)) ∷ block_lines w s

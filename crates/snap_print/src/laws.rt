@@ -1,7 +1,7 @@
 //! Laws of printed texts.
 ghost use Rattle.std.specs.Prelude.{◌≡◌, true};
 ghost use Rattle.snap_content.specs.Plain.{Plain};
-ghost use Rattle.snap_content.specs.Readable.{IsWithin};
+ghost use Rattle.snap_print.specs.Readable.{IsWithin};
 ghost use Rattle.snap_print.specs.Blocks.{Blocks};
 ghost use Rattle.snap_print.specs.LineExamples.{ArePrinted};
 ghost use Rattle.snap_print.specs.Lines.{lines_of};

@@ -1,6 +1,6 @@
 //! How a text is spelled.
 ghost use Rattle.std.specs.Prelude.{◌≡◌, ◌++◌, IfOk, OnOk, false, ◌<◌};
-ghost use Rattle.snap_content.specs.Spell.{escaped, escaped_code, quoted, spell_text};
+ghost use Rattle.snap_print.specs.Spell.{escaped, escaped_code, quoted, spell_text};
 ghost use Rattle.std.specs.Fmt.{digit_glyph};
 
 use crate::quotes::need_quotes;

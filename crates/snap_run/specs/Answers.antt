@@ -3,7 +3,7 @@ use Rattle.std.specs.Prelude.{◌&&◌, ◌||◌, ℕ, Bool, true, false, not, L
 use Rattle.std.specs.List.{list_any}
 use Rattle.std.specs.Str.{bytes_eq}
 use Rattle.std.specs.FinMap.{get}
-use Rattle.snap_content.specs.Spell.{spell_text}
+use Rattle.snap_print.specs.Spell.{spell_text}
 use Rattle.snap_content.specs.Tree.{Tree}
 use Rattle.snap_io.specs.Files.{Files}
 use Rattle.snap_print.specs.Blocks.{blocks_if}

@@ -7,7 +7,7 @@ use Rattle.snap_content.specs.Plain.{plain}
 use Rattle.snap_content.specs.View as v
 use Rattle.snap_content.specs.declared.content.Content.{Content}
 use Rattle.snap_content.proofs.Booleans.{both_first, both_second}
-use Rattle.snap_content.specs.Readable.{IsWithin}
+use Rattle.snap_print.specs.Readable.{IsWithin}
 use Rattle.snap_content.specs.Tree.{Tree, Trees, no_trees, tree, TreePairs, map}
 use Rattle.snap_emit.proofs.OneText.{one_tree}
 use Rattle.snap_emit.specs.Spelled.{IsTextOf}

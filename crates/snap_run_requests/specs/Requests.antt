@@ -6,7 +6,7 @@ use Rattle.snap_content.specs.Tree.{Tree, Trees, no_trees, tree, TreePairs, map}
 use Rattle.snap_select.specs.Grammar.{IsSelector}
 use Rattle.snap_select.specs.InOrder.{in_order}
 use Rattle.snap_select.specs.Parts.{Parts}
-use Rattle.snap_content.specs.Readable.{IsWithin}
+use Rattle.snap_print.specs.Readable.{IsWithin}
 use Rattle.snap_emit.specs.Parsed.{MayBeReadAs}
 use Rattle.snap_emit.specs.Spelled.{IsTextOf}
 use Rattle.snap_fields.specs.Fields.{text_at, line_at}

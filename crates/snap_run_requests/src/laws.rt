@@ -3,12 +3,12 @@ ghost use Rattle.std.specs.Prelude.{◌≡◌, ◌∷◌, ℕ, List, [], codes};
 ghost use Rattle.std.specs.List.{concat};
 ghost use Rattle.std.specs.Str.{chars};
 ghost use Rattle.snap_content.specs.Plain.{Plain, content_of};
-ghost use Rattle.snap_content.specs.Readable.{IsWithin};
+ghost use Rattle.snap_print.specs.Readable.{IsWithin};
 ghost use Rattle.snap_emit.specs.Spelled.{IsTextOf};
 ghost use Rattle.snap_run_requests.specs.Cut.{documents};
 ghost use Rattle.snap_run_requests.specs.Requests.{RequestView, IsRequest, Spells, ReadsAs};
 
-/// The documents of an input, one behind the other, are the input.
+/// The documents of an input, one after the other, are the input.
 pub const fn cut_loses_nothing()
     ensures { (input : List ℕ) → concat (documents input) ≡ input }
 {}

@@ -1,4 +1,4 @@
--- A fetch puts a token behind the held ones.
+-- A fetch puts a token after the held ones.
 use Rattle.snap_scan.proofs.Prelude.{◌≡◌, ◌≤◌, ◌++◌, ◌∷◌, [], Bool, true, false, List, Option, Some, None, Result, Ok, Err, length, length-append, subst, sym, ap, arith, if◌then◌else◌, OnOk, nat_lt, not, ◌&&◌, ScanError, Mark, mark_of, Plain, plain_from, Quoted, single_from, double_from, Token, TScalarStyle, ScanInfo, SimpleKey, TokenKind, is_required, any_overdue, State, at, in_flow, is_key_owed, to_next, Outcome, done, refused, read, Leaves, Does, plain_read, quoted_read, block_read, Block, block_from, read_key, value_behind, innermost, kind_step, token_step, at_token, stream_started, step, cond_both, cond-false}
 use Rattle.snap_scan_tokens.specs.declared.token.TScalarStyle.TheVariants as style
 use Rattle.snap_scan.specs.declared.kind.TokenKind.TheVariants as k

@@ -1,4 +1,4 @@
--- Places in the source, and the possible keys behind them.
+-- Places in the source, and the possible keys after them.
 use Rattle.snap_scan.proofs.Prelude.{◌≡◌, ◌≢◌, ◌≤◌, ◌+◌, ◌++◌, ◌∷◌, [], ℕ, Bool, true, false, List, Option, Some, None, length, slice_index, length-append, append_assoc, subst, sym, ap, arith, refl, ◌∙◌, ◌==◌, if◌then◌else◌, cond, count_by, codes, All-weaker, Place, Later, here, next, skip_from, skipped, forced, behind, is_among, Keys, IsIn, IsKeyBehind, IsKeySound, IsPossible, ArePossible, SimpleKey}
 use Rattle.std.proofs.lemmas.List.Sums.{sum_by-append}
 
@@ -40,7 +40,7 @@ in-bracket-at source n (c ∷ cs) p left bracket is =
       brackets = omega (arith, count-append (codes "[{") is.before (c ∷ []), one);
     }
 
--- behind an opening bracket stands one more
+-- after an opening bracket stands one more
 pub in-bracket : (source : List ℕ) (n : ℕ) (p : Place) → is_among (codes "[{") (slice_index p.left 0) ≡ true → IsIn source n p → IsIn source (n + 1) (skipped p)
 in-bracket source n p bracket is = in-bracket-at source n p.left p refl bracket is
 
@@ -66,7 +66,7 @@ pub stands : (signs source : List ℕ) (n : ℕ) (p : Place) → IsIn source n p
 stands signs source n p is first some =
     rw is.text (some-stands signs is.before p.left first some)
 
--- what stands behind a place stands in the source
+-- what stands after a place stands in the source
 pub stands-behind : (signs source : List ℕ) (n m : ℕ) (p : Place) → IsIn source n p → m ≤ count_by (is_among signs) p.left → m ≤ count_by (is_among signs) source
 stands-behind signs source n m p is enough =
     rw is.text (omega (arith, count-append signs is.before p.left))
@@ -98,7 +98,7 @@ behind-length source d key p is =
     let long = ap length is.text in
     omega (arith, length-append (is.before ++ is.between) p.left, length-append is.before is.between, is.index)
 
--- further on a key lies behind
+-- further on a key lies after
 behind-further : (source : List ℕ) (d : ℕ) (key : SimpleKey) (p q : Place) → Later p q → length q.left + 1 ≤ length p.left → IsKeyBehind source d p key → IsKeyBehind source 1 q key
 behind-further source d key p q later further is =
     let on = behind-later source d key p q later is in

@@ -15,7 +15,7 @@ pub later-index : (p q : Place) → Later p q → p.index ≤ q.index
 later-index _ _ (here p) = omega arith
 later-index _ _ (next p q l) = let before = later-index p q l in let on = skip-index q.left q in omega arith
 
--- a token that was read is put behind the held ones
+-- a token that was read is put after the held ones
 pub does-read : {T : Type 0} (kind : TokenKind) (s : State) (p : Place) (mark : Mark) (token : TokenType) (r : Result T ScanError) (new : State) → IsTokenOf kind token
     → Later s.place p → length p.left + 1 ≤ length s.place.left → s.place.index ≤ mark.index → mark.index ≤ p.index
     → Gives r new (pushed (at mark token) (record s { place = p })) → Does (read kind s) r new
@@ -46,7 +46,7 @@ does-read-here kind s t u p mark token r new is free saved_is allowed_is marks l
     let on = later-index u.place p later in
     does-read-key kind s t u p mark token r new is free saved_is allowed_is later further (omega arith) (omega arith) gives
 
--- a directive, behind which all blocks are closed
+-- a directive, after which all blocks are closed
 pub does-directive : {T : Type 0} (s t u v : State) (p : Place) (mark : Mark) (token : TokenType) (r : Result T ScanError) (new : State) → IsTokenOf Directive token
     → t ≡ unrolled None s → is_required t.keys.key ≡ false → u ≡ keyless t → v ≡ allowing false u → mark ≡ mark_of v.place
     → Later v.place p → length p.left + 1 ≤ length v.place.left
@@ -60,7 +60,7 @@ does-directive s t u v p mark token r new is unrolled_is free removed_is allowed
     let reads = does-read Directive v p mark token r new is later further (omega arith) (omega arith) gives in
     rw unowed (rw same at reads)
 
--- a plain scalar is put behind the held tokens
+-- a plain scalar is put after the held tokens
 told-plain : {T : Type 0} (s t u : State) (o : Option Plain) (scalar : PlainScalar) (p : Place) (mark : Mark) (r : Result T ScanError) (new : State)
     → t ≡ saved s → u ≡ allowing scalar.is_broken (record t { place = p }) → mark ≡ mark_of s.place → ReadsPlain o (Ok scalar) p → Later t.place p
     → length p.left + 1 ≤ length t.place.left → Gives r new (pushed (at mark (k.Scalar style.Plain scalar.text)) u) → Does (plain_read o s) r new
@@ -87,7 +87,7 @@ does-plain s t u indent flow scalar p mark r new free saved_is allowed_is marks 
     let o = plain_from (innermost s.columns) (in_flow s) s.place in
     rw free (told-plain s t u o scalar p mark r new saved_is allowed_is marks (rw same at reads) later further gives)
 
--- a quoted scalar is put behind the held tokens
+-- a quoted scalar is put after the held tokens
 told-quoted : {T : Type 0} (written : TScalarStyle) (s t : State) (o : Option Quoted) (text : List ℕ) (p : Place) (n : ℕ) (mark : Mark) (r : Result T ScanError) (new : State)
     → t ≡ allowing false (saved s) → n ≡ p.index → mark ≡ mark_of s.place → ReadsQuoted o (Ok text) p → Later t.place p → length p.left + 1 ≤ length t.place.left
     → Gives r new (pushed (at mark (k.Scalar written text)) (record t { place = p; adjacent = n })) → Does (quoted_read written o s) r new
@@ -113,7 +113,7 @@ does-quoted written from s t u text p n mark r new free saved_is allowed_is inde
     let same : u ≡ allowing false (saved s) = allowed_is ∙ ap (λ (v : State). allowing false v) saved_is in
     rw free (told-quoted written s u (from s.place) text p n mark r new same index_is marks (rw (ap (λ (v : State). v.place) same) at reads) later further gives)
 
--- a block scalar is put behind the held tokens
+-- a block scalar is put after the held tokens
 told-block : {T : Type 0} (written : TScalarStyle) (s t : State) (o : Option Block) (scalar : BlockScalar) (p : Place) (r : Result T ScanError) (new : State)
     → t ≡ allowing true (saved s) → ReadsBlock o (Ok scalar) p → Later t.place p → length p.left + 1 ≤ length t.place.left → t.place.index ≤ scalar.mark.index → scalar.mark.index ≤ p.index
     → Gives r new (pushed (at scalar.mark (k.Scalar written scalar.text)) (record t { place = p })) → Does (block_read written o s) r new

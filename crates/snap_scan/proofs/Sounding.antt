@@ -172,7 +172,7 @@ sound-value source None s new is possible fresh first l =
     left-open source _ new (sound-sign source 1 t.Value (not (in_flow s)) (rolled s.place.col None token s) deep some (omega arith) tt refl refl)
     (unrefused (not (in_flow s) && not s.allowed) _ _ _ new l)
 
--- what a reader told stands behind the state's place
+-- what a reader told stands after the state's place
 sound-told : {ahead : Bool} → (source : List ℕ) (kind : TokenType) (u new : State) (p : Place) → IsSoundFrom false ahead source 0 u → IsFit source kind → Later u.place new.place → length new.place.left + 1 ≤ length u.place.left
     → new ≡ pushed (at (mark_of u.place) kind) (record u { place = p }) → IsSound ahead source new
 sound-told source kind u new p is fit later further leaves =

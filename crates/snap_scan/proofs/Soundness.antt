@@ -88,7 +88,7 @@ sound-moved is place keys = search
 pub sound-at : {ahead : Bool} → (source : List ℕ) (d : ℕ) (p : Place) (s : State) → Later s.place p → IsSoundFrom false ahead source d s → IsSoundFrom false ahead source d (record s { place = p })
 sound-at source d p s later is = sound-moved is (in-later source (length s.keys.outer) s.place p later is.place) (keys-later source d s.place p _ s.keys later is.keys)
 
--- a place that is one character later at least: what was a possible key here is one behind it
+-- a place that is one character later at least: what was a possible key here is one after it
 pub sound-further : {ahead : Bool} → (source : List ℕ) (d : ℕ) (p : Place) (s : State) → Later s.place p → length p.left + 1 ≤ length s.place.left → IsSoundFrom false ahead source d s
     → IsSoundFrom false ahead source 1 (record s { place = p })
 sound-further source d p s later further is =
@@ -148,7 +148,7 @@ some-innermost : (col : ℕ) (os : List ℕ) → is_innermost col os ≡ true �
 some-innermost col [] e = absurd (cc)
 some-innermost col (o ∷ os) e = omega arith
 
--- the next token may be a key, which lies behind once a character of it is passed
+-- the next token may be a key, which lies after once a character of it is passed
 pub sound-saved : {ahead : Bool} → (source : List ℕ) (d : ℕ) (s : State) → IsSoundFrom false ahead source d s → IsSoundFrom false ahead source 0 (saved s)
 sound-saved source d s is =
     let near = keys-nearer source d s.place _ s.keys is.keys in

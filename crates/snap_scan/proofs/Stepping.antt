@@ -22,7 +22,7 @@ step-token s going begun = cond-false s.ended _ _ going ∙ cond-true s.started 
 pub step-over : (s : State) → s.ended ≡ true → step s ≡ done s
 step-over s ended = cond-true s.ended _ _ ended
 
--- a fetch behind StreamStart
+-- a fetch after StreamStart
 pub does-step : {T : Type 0} (s t : State) (r : Result T ScanError) (new : State) → s.ended ≡ false → s.started ≡ true → t ≡ to_next s.place.left s
     → Does (token_step t) r new → Does (step s) r new
 does-step s t r new going begun at does =

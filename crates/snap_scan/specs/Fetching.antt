@@ -25,7 +25,7 @@ use Rattle.snap_scan.specs.declared.keys.SimpleKey.{SimpleKey}
 use Rattle.snap_scan.specs.State.{State, at, in_flow, pushed, inserted, advanced, allowing, to_next, unrolled, rolled, keyless, saved, is_key_owed, stale}
 
 -- what a fetch comes to: the state that it leaves; the same, where a reader went on from a place, or did so and its token has a mark
--- further on; the fault that it names; a token of this kind, which its reader makes of the characters behind the state's place; or
+-- further on; the fault that it names; a token of this kind, which its reader makes of the characters after the state's place; or
 -- what a reader refuses there
 pub data Outcome : Type 0 where
   done : State → Outcome
@@ -44,7 +44,7 @@ IsTokenOf k.Anchor (t.Anchor _) = Unit {0}
 IsTokenOf k.Tag (t.Tag _ _) = Unit {0}
 IsTokenOf _ _ = ⊥
 
--- a reader went on from the state s, and its token was put behind the held ones
+-- a reader went on from the state s, and its token was put after the held ones
 pub record IsRead (kind : TokenKind) (s new : State) : Type 0 where
   pub mark : Mark
   pub token : TokenType
@@ -69,7 +69,7 @@ Leaves (refused m info) new = ⊥
 Leaves (read kind s) new = IsRead kind s new
 Leaves (unreadable s) new = ⊥
 
--- the fault that is named: by the fetch itself, or by a reader, at or behind the place where it began
+-- the fault that is named: by the fetch itself, or by a reader, at or after the place where it began
 abbrev pub Names : Outcome → Mark → ScanInfo → Type 0
 Names (done u) m info = ⊥
 Names (told p u) m info = ⊥
@@ -82,7 +82,7 @@ abbrev pub MayFail : ScanError → Outcome → Type 0
 MayFail (Syntax m info) o = Names o m info
 MayFail OutOfMemory o = Unit {0}
 
--- the call does what the fetch comes to, and refuses exactly where it does, want of memory aside
+-- the call does what the fetch comes to, and refuses exactly where it does, out of memory aside
 abbrev pub Does : {T : Type 0} → Outcome → Result T ScanError → State → Type 0
 Does o (Ok _) new = Leaves o new
 Does o (Err e) new = MayFail e o
@@ -108,7 +108,7 @@ document kind s =
     if is_required s.keys.key then refused (mark_of s.place) i.S2 else (
     done (pushed (at (mark_of s.place) kind) (advanced (advanced (advanced (closed s))))))
 
--- a token that stands for one character, behind which a simple key may begin or not
+-- a token that stands for one character, after which a simple key may begin or not
 abbrev pub sign : TokenType → Bool → State → State
 sign kind b s = pushed (at (mark_of s.place) kind) (advanced (allowing b s))
 
@@ -139,7 +139,7 @@ block_key s =
     if is_required s.keys.key then refused (mark_of s.place) i.S2 else (
     done (sign t.Key (not (in_flow s)) (keyless (rolled s.place.col None (at (mark_of s.place) t.BlockMappingStart) s)))))
 
--- the `:` behind a simple key puts a Key before the token that began it
+-- the `:` after a simple key puts a Key before the token that began it
 abbrev pub value_of_key : SimpleKey → State → State
 value_of_key key s =
     let start = at (mark_of s.place) t.BlockMappingStart in
@@ -160,7 +160,7 @@ abbrev pub innermost : List ℕ → Option ℕ
 innermost [] = None
 innermost (o ∷ os) = Some o
 
--- a token that may be a simple key, and behind which none may begin
+-- a token that may be a simple key, and after which none may begin
 abbrev pub read_key : TokenKind → State → Outcome
 read_key kind s = if is_key_owed s then refused (mark_of s.place) i.S2 else read kind (allowing false (saved s))
 
@@ -173,7 +173,7 @@ abbrev pub plain : State → Outcome
 plain s =
     if is_key_owed s then refused (mark_of s.place) i.S2 else plain_read (plain_from (innermost s.columns) (in_flow s) s.place) s
 
--- behind a quoted scalar a `:` ends a key in flow, whatever stands behind it
+-- after a quoted scalar a `:` ends a key in flow, whatever stands after it
 abbrev pub quoted_read : TScalarStyle → Option Quoted → State → Outcome
 quoted_read written None s = unreadable s
 quoted_read written (Some r) s =
@@ -182,7 +182,7 @@ quoted_read written (Some r) s =
 abbrev pub quoted : Quotes → State → Outcome
 quoted quotes s = if is_key_owed s then refused (mark_of s.place) i.S2 else quoted_read (style_of quotes) (quoted_from quotes s.place) s
 
--- behind a block scalar, whose mark is where its content begins, a simple key may begin
+-- after a block scalar, whose mark is where its content begins, a simple key may begin
 abbrev pub block_read : TScalarStyle → Option Block → State → Outcome
 block_read written None s = unreadable s
 block_read written (Some r) s =

@@ -9,7 +9,7 @@ pub record Keys : Type 0 where
   pub key : Option SimpleKey
   pub outer : List (Option SimpleKey)
 
--- a place is on a later line than a key, or more than 1,024 characters behind its first
+-- a place is on a later line than a key, or more than 1,024 characters after its first
 abbrev pub is_past : Mark → SimpleKey → Bool
 is_past mark key = nat_lt key.mark.line mark.line || nat_lt 1024 (mark.index - key.mark.index)
 

@@ -11,7 +11,7 @@ use Rattle.snap_scan.specs.declared.kind.TokenKind.TheVariants as k
 abbrev pub is_alone : List ℕ → Bool
 is_alone cs = is_blank_or_end (slice_index cs 1)
 
--- a `:` that ends a key: alone, or in flow before a sign of flow or right behind a quoted scalar
+-- a `:` that ends a key: alone, or in flow before a sign of flow or right after a quoted scalar
 abbrev pub is_value : Bool → ℕ → Place → Bool
 is_value flow adjacent p = is_alone p.left || (flow && (is_flow_sign (slice_index p.left 1) || p.index == adjacent))
 

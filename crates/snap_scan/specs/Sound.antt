@@ -40,7 +40,7 @@ pub record HasQuestion (source : List ℕ) (mark : Mark) : Type 0 where
   pub text : source ≡ before ++ 63 ∷ after
   pub index : mark.index ≡ length before
 
--- behind the mark, on its line and at most 1,024 characters later, stands a `:`
+-- after the mark, on its line and at most 1,024 characters later, stands a `:`
 pub record HasColon (source : List ℕ) (mark : Mark) : Type 0 where
   pub before : List ℕ
   pub key : List ℕ
@@ -129,7 +129,7 @@ EndsStream [] = Unit {0}
 EndsStream (token ∷ []) = is_end token.1 ≡ true
 EndsStream (token ∷ next ∷ tokens) = IsNoEnd token × EndsStream (next ∷ tokens)
 
--- StreamEnd stands behind the held tokens once it was made, and among none before
+-- StreamEnd stands after the held tokens once it was made, and among none before
 abbrev pub IsEndLast : Bool → List Token → Type 0
 IsEndLast true held = EndsStream held
 IsEndLast false held = All IsNoEnd held
@@ -151,7 +151,7 @@ pub record IsSoundAt (over ahead : Bool) (source : List ℕ) (d : ℕ) (p : Plac
 abbrev pub IsSoundFrom : Bool → Bool → List ℕ → ℕ → State → Type 0
 IsSoundFrom over ahead source d s = IsSoundAt over ahead source d s.place s.held s.keys s.columns s.started s.ended
 
--- between two fetches: nothing was touched, or StreamEnd is ahead, or it was made; and each possible key lies behind
+-- between two fetches: nothing was touched, or StreamEnd is ahead, or it was made; and each possible key lies after
 pub data IsSound (ahead : Bool) (source : List ℕ) (s : State) : Type 0 where
   untouched : ahead ≡ true → s ≡ start_state source → IsSound ahead source s
   open_still : IsSoundFrom false ahead source 1 s → IsSound ahead source s

@@ -23,7 +23,7 @@ pub record State : Type 0 where
   pub ended : Bool
   -- a simple key may begin
   pub allowed : Bool
-  -- where a `:` stands right behind a quoted scalar
+  -- where a `:` stands right after a quoted scalar
   pub adjacent : ℕ
   pub keys : Keys
   -- the columns of the open blocks, the innermost first
@@ -66,7 +66,7 @@ abbrev pub spent : State → ℕ
 spent s =
     4 * length s.place.left + length s.held + length s.columns + (if s.ended then 0 else 1) + (if s.started then 0 else 1)
 
--- how many characters stand before the place and behind it
+-- how many characters stand before the place and after it
 abbrev pub extent : State → ℕ
 extent s = s.place.index + length s.place.left
 
@@ -91,7 +91,7 @@ advanced s = record s { place = skipped s.place }
 abbrev pub allowing : Bool → State → State
 allowing b s = record s { allowed = b }
 
--- behind a line end a simple key may begin, outside flow
+-- after a line end a simple key may begin, outside flow
 abbrev pub line_ended : State → State
 line_ended s = record s { allowed = in_flow s && s.allowed || not (in_flow s) }
 

@@ -65,7 +65,7 @@ impl<'a> Fetcher<'a> {
         }
     }
 
-    /// The `:` behind a simple key, whose Key and, where it begins a block, BlockMappingStart are put before its token.
+    /// The `:` after a simple key, whose Key and, where it begins a block, BlockMappingStart are put before its token.
     fn fetch_value_of_key(&mut self, key: SimpleKey) -> ScanResult
         requires { slice_index (state_of self.old).place.left 0 ≢ 0 }
         ensures value { Gives result (state_of self.new) (value_of_key key (state_of self.old)) }

@@ -26,7 +26,7 @@ pub struct Fetcher<'a> {
     /// Whether StreamEnd was made.
     pub(crate) ended: bool,
     pub(crate) simple_key_allowed: bool,
-    /// The index at which a `:` stands right behind a quoted scalar.
+    /// The index at which a `:` stands right after a quoted scalar.
     pub(crate) adjacent_value_allowed_at: usize,
     pub(crate) keys: Keys,
     pub(crate) columns: Columns,

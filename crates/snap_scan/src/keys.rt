@@ -141,7 +141,7 @@ impl Keys {
     }
 }
 
-/// Whether a place is on a later line than a key, or more than 1,024 characters behind its first.
+/// Whether a place is on a later line than a key, or more than 1,024 characters after its first.
 fn is_past(key: &SimpleKey, mark: Marker) -> bool
     ensures { result ≡ is_past mark key.now }
 {

@@ -33,7 +33,7 @@ pub enum TokenKind {
     Refused(ScanInfo),
 }
 
-/// What begins here. In flow a `:` right behind a quoted scalar, at the index `adjacent`, ends a key.
+/// What begins here. In flow a `:` right after a quoted scalar, at the index `adjacent`, ends a key.
 pub fn kind_here(cursor: &Cursor, in_flow: bool, adjacent: usize) -> TokenKind
     ensures kind { result ≡ kind_of in_flow adjacent cursor.now }
     ensures begins { Begins result (slice_index cursor.now.left 0) }
@@ -87,7 +87,7 @@ fn or_plain(is_sign: bool, kind: TokenKind) -> TokenKind
     if is_sign { kind } else { TokenKind::Plain }
 }
 
-/// Whether a blank, a break or the end stands behind the character here.
+/// Whether a blank, a break or the end stands after the character here.
 fn is_alone(cursor: &Cursor) -> bool
     ensures { result ≡ is_alone cursor.now.left }
 {

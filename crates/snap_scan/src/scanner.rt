@@ -14,7 +14,7 @@ use std::alloc::Global;
 use std::marker::Model;
 
 /// A scanner: the tokens of a text, one by one. The text ends at its first NUL.
-/// After its first failure each call that can answer an error answers the same one for good, want of memory too.
+/// After its first failure each call that can answer an error answers the same one for good, out of memory too.
 #[derive(Debug, Drop)]
 pub struct Scanner<'a> {
     source: &'a str,

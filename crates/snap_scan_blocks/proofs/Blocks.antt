@@ -5,7 +5,7 @@ use Rattle.snap_scan_tokens.specs.declared.info.ScanInfo.{ScanInfo}
 use Rattle.snap_scan_tokens.specs.declared.info.ScanInfo.TheVariants.{S28}
 use Rattle.snap_scan_blocks.proofs.Between.{opened-stop}
 
--- want of memory is an answer to any text
+-- out of memory is an answer to any text
 pub no-memory : (o : Option Block) (p : Place) (e : ScanError) → e ≡ OutOfMemory → ReadsBlock o (Err e) p
 no-memory None p e is = tt
 no-memory (Some b) p e is = is

@@ -13,7 +13,7 @@ use Rattle.snap_scan_tokens.specs.Characters.{is_blank, is_break, is_pair}
 use Rattle.snap_scan_tokens.specs.Mark.{Mark}
 use Rattle.snap_scan_tokens.specs.Place.{Place, skipped, mark_of}
 
--- lines that were read, and the place behind them
+-- lines that were read, and the place after them
 pub record Read : Type 0 where
   pub lines : Lines
   pub place : Place
@@ -22,7 +22,7 @@ abbrev pub stop : Lines → Place → Option Read
 stop l p = Some (record { lines = l; place = p })
 
 abbrev mutual
-  -- lines whose indentation is n, behind the end of a line: the characters cs are left
+  -- lines whose indentation is n, after the end of a line: the characters cs are left
   pub between : ℕ → Bool → Lines → List ℕ → Place → Option Read
   between n literal l [] p = stop l p
   between n literal l (c ∷ cs) p =
@@ -40,7 +40,7 @@ abbrev mutual
       if is_break c then (if is_pair c (slice_index cs 0) then within n literal l cs (skipped p) else between n literal (ended l) cs (skipped p)) else
       within n literal (with_character c l) cs (skipped p))
 
--- the place where the content begins: behind empty lines and the indentation n
+-- the place where the content begins: after empty lines and the indentation n
 abbrev pub opened : ℕ → List ℕ → Place → Place
 opened n [] p = p
 opened n (c ∷ cs) p = if is_break c || (c == 32 && nat_lt p.col n) then opened n cs (skipped p) else p
@@ -72,12 +72,12 @@ abbrev pub is_bad_tab : Option ℕ → Place → Bool
 is_bad_tab (Some digit) p = false
 is_bad_tab None p = first_sign p.left == 9
 
--- the lines behind a header that gives this indentation
+-- the lines after a header that gives this indentation
 abbrev pub lines_from : Option ℕ → Option ℕ → Bool → Lines → Place → Option Read
 lines_from digit indent literal l p =
     if is_bad_tab digit p then None else between (indentation_of digit indent p) literal l p.left p
 
--- a block scalar: its text, the place where its content begins, and the place behind it
+-- a block scalar: its text, the place where its content begins, and the place after it
 pub record Block : Type 0 where
   pub text : List ℕ
   pub mark : Mark

@@ -1,4 +1,4 @@
--- The header of a block scalar: what stands behind `|` or `>` on its line.
+-- The header of a block scalar: what stands after `|` or `>` on its line.
 use Rattle.std.specs.Prelude.{ℕ, ◌-◌, ◌==◌, if◌then◌else◌, slice_index, Option, Some, None, is_some, Result, Ok, Err, ◌≡◌}
 use Rattle.snap_scan_blocks.specs.declared.header.Chomping.{Chomping}
 use Rattle.snap_scan_blocks.specs.declared.header.Chomping.TheVariants.{Strip, Clip, Keep}
@@ -9,7 +9,7 @@ use Rattle.snap_scan_tokens.specs.declared.info.ScanInfo.TheVariants as i
 use Rattle.snap_scan_tokens.specs.Characters.{is_digit, is_break_or_end, past_break, past_comment}
 use Rattle.snap_scan_tokens.specs.Place.{Place, skipped}
 
--- `+` keeps the line ends behind the last line, `-` drops them
+-- `+` keeps the line ends after the last line, `-` drops them
 abbrev pub chomping_of : ℕ → Option Chomping
 chomping_of c = if c == 43 then Some Keep else (if c == 45 then Some Strip else None)
 
@@ -27,7 +27,7 @@ past_sign p = if is_some (chomping_of (slice_index p.left 0)) then skipped p els
 abbrev pub past_digit : Place → Place
 past_digit p = if is_digit (slice_index p.left 0) then skipped p else p
 
--- a header that was read, and the place behind it
+-- a header that was read, and the place after it
 pub record Headed : Type 0 where
   pub header : Header
   pub place : Place
@@ -35,12 +35,12 @@ pub record Headed : Type 0 where
 abbrev pub headed : Chomping → Option ℕ → Place → Option Headed
 headed chomping indentation p = Some (record { header = record { chomping = chomping; indentation = indentation }; place = p })
 
--- the digit behind a sign, which may be missing
+-- the digit after a sign, which may be missing
 abbrev pub sign_first : Chomping → Place → Option Headed
 sign_first chomping p =
     if slice_index p.left 0 == 48 then None else headed chomping (digit_of (slice_index p.left 0)) (past_digit p)
 
--- a digit and a sign behind it, or the digit alone, or neither
+-- a digit and a sign after it, or the digit alone, or neither
 abbrev pub digit_first : Place → Option Headed
 digit_first p =
     if slice_index p.left 0 == 48 then None else (
@@ -65,7 +65,7 @@ line_end (Some h) =
 abbrev pub header_from : Place → Option Headed
 header_from p = line_end (signs (skipped p))
 
--- what is wrong with a header that is refused: the digit 0, or something else than a comment behind the signs
+-- what is wrong with a header that is refused: the digit 0, or something else than a comment after the signs
 abbrev pub header_fault : Place → ScanInfo
 header_fault p = if is_some (signs (skipped p)) then i.S27 else i.S26
 

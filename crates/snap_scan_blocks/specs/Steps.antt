@@ -18,7 +18,7 @@ Passes n old p new q =
 abbrev pub is_open : ℕ → Place → Bool
 is_open n p = not (is_break (slice_index p.left 0) || (is_blank (slice_index p.left 0) && nat_lt p.col n))
 
--- the lines here are refused, want of memory aside
+-- the lines here are refused, out of memory aside
 abbrev pub IsRefusedLine : ℕ → List ℕ → Place → ScanError → Type 0
 IsRefusedLine n breaks p OutOfMemory = Unit {0}
 IsRefusedLine n breaks p (Syntax mark info) = (literal : Bool) (l : Lines) → between n literal (with_breaks breaks l) p.left p ≡ None
@@ -28,13 +28,13 @@ abbrev pub IsTabFirst : List ℕ → ScanError → Type 0
 IsTabFirst cs OutOfMemory = Unit {0}
 IsTabFirst cs (Syntax mark info) = (first_sign cs == 9) ≡ true
 
--- the lines behind a header are refused, want of memory aside
+-- the lines after a header are refused, out of memory aside
 abbrev pub IsRefusedOpening : Option ℕ → Option ℕ → List ℕ → Place → ScanError → Type 0
 IsRefusedOpening digit indent breaks p OutOfMemory = Unit {0}
 IsRefusedOpening digit indent breaks p (Syntax mark info) =
     (literal : Bool) (l : Lines) → lines_from digit indent literal (with_breaks breaks l) p ≡ None
 
--- the lines were read, and are refused exactly where they are refused here, want of memory aside
+-- the lines were read, and are refused exactly where they are refused here, out of memory aside
 abbrev pub ReadsLines : {T : Type 0} → Option Read → Result T ScanError → Lines → Place → Type 0
 ReadsLines (Some r) (Ok _) l p = (l ≡ r.lines) × (p ≡ r.place)
 ReadsLines None (Ok _) l p = ⊥

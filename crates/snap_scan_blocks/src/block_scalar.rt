@@ -1,4 +1,4 @@
-//! Block scalars: lines behind `|` or `>`.
+//! Block scalars: lines after `|` or `>`.
 ghost use Rattle.std.specs.Prelude.{◌≡◌, ◌+◌, ◌≤◌, true, codes, OnOk, IfOk, IfErr, length, slice_index};
 ghost use Rattle.snap_scan_tokens.specs.Causes.{IsExplained, IsFault, is_among};
 ghost use Rattle.snap_scan_tokens.specs.Place.{Travels};

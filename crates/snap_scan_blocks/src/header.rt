@@ -12,7 +12,7 @@ use snap_scan_tokens::cursor::Cursor;
 use snap_scan_tokens::info::{ScanError, ScanInfo};
 use snap_scan_tokens::marker::Marker;
 
-/// What becomes of the line ends behind the last line.
+/// What becomes of the line ends after the last line.
 #[derive(Clone, Copy, Debug, PartialEq, Eq)]
 pub enum Chomping {
     Strip,
@@ -20,7 +20,7 @@ pub enum Chomping {
     Keep,
 }
 
-/// What stands behind `|` or `>`.
+/// What stands after `|` or `>`.
 #[derive(Clone, Copy, Debug, PartialEq, Eq)]
 pub struct Header {
     pub chomping: Chomping,
@@ -67,7 +67,7 @@ fn scan_digit(cursor: &mut Cursor, mark: Marker) -> Result<Option<usize>, ScanEr
     Ok(Some((c as u32 - '0' as u32) as usize))
 }
 
-/// Reads `+` or `-` behind a digit.
+/// Reads `+` or `-` after a digit.
 fn scan_late_chomping(cursor: &mut Cursor) -> Chomping
     ensures value { result ≡ or_clip (chomping_of (slice_index cursor.old.left 0)) }
     ensures place { cursor.new ≡ past_sign cursor.old }
@@ -79,7 +79,7 @@ fn scan_late_chomping(cursor: &mut Cursor) -> Chomping
     }
 }
 
-/// Reads the signs behind `|` or `>` that begin with no `+` and no `-`.
+/// Reads the signs after `|` or `>` that begin with no `+` and no `-`.
 fn scan_digit_first(cursor: &mut Cursor, mark: Marker) -> Result<Header, ScanError>
     ensures value { ReadsHeader (digit_first cursor.old) result cursor.new }
     ensures zero { IfErr result (λ e. e ≡ Syntax mark S26) }
@@ -101,7 +101,7 @@ fn scan_digit_first(cursor: &mut Cursor, mark: Marker) -> Result<Header, ScanErr
     }
 }
 
-/// Reads the signs behind `|` or `>`, which may stand in either order.
+/// Reads the signs after `|` or `>`, which may stand in either order.
 fn scan_signs(cursor: &mut Cursor, mark: Marker) -> Result<Header, ScanError>
     ensures value { ReadsHeader (signs cursor.old) result cursor.new }
     ensures zero { IfErr result (λ e. e ≡ Syntax mark S26) }
@@ -120,7 +120,7 @@ fn scan_signs(cursor: &mut Cursor, mark: Marker) -> Result<Header, ScanError>
     }
 }
 
-/// Reads what stands behind the signs, with the line end. Something else than a comment is refused.
+/// Reads what stands after the signs, with the line end. Something else than a comment is refused.
 fn scan_rest_of_header(cursor: &mut Cursor, mark: Marker) -> Result<(), ScanError>
     ensures place { OnOk result (cursor.new ≡ past_break (past_comment cursor.old)) }
     ensures end { OnOk result (is_break_or_end (slice_index (past_comment cursor.old).left 0)

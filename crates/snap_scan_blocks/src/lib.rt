@@ -1,4 +1,4 @@
-//! The reader of block scalars, literal and folded: a function from a place in a text to what stands there, and the place behind it.
+//! The reader of block scalars, literal and folded: a function from a place in a text to what stands there, and the place after it.
 //!
 //! In the order in which data flows: `header` (the line of `|` or `>`), `indentation` (empty lines, and where the others begin),
 //! `lines` (the text of the lines as it is read), `block_scalar` (the whole).

@@ -22,13 +22,13 @@ use std::alloc::Global;
 /// The lines of a block scalar as they are read.
 #[derive(Debug, Drop)]
 pub struct Lines {
-    /// What the lines stand for so far, but for the line ends behind the last of them.
+    /// What the lines stand for so far, but for the line ends after the last of them.
     text: Text,
     /// Whether the last line has ended.
     is_ended: bool,
     /// Whether the last line began with a blank.
     is_deeper: bool,
-    /// The ends of the empty lines behind it.
+    /// The ends of the empty lines after it.
     pub(crate) breaks: Text,
 }
 
@@ -90,7 +90,7 @@ impl Lines {
         Ok(())
     }
 
-    /// Reads the lines that stand in the indentation, and the empty lines between and behind them.
+    /// Reads the lines that stand in the indentation, and the empty lines between and after them.
     pub(crate) fn scan(
         &mut self,
         alloc: Global,
@@ -118,7 +118,7 @@ impl Lines {
         Ok(())
     }
 
-    /// The text, with the line ends behind the last line that the header keeps.
+    /// The text, with the line ends after the last line that the header keeps.
     pub(crate) fn finish(self, alloc: Global, chomping: Chomping) -> Result<Text, OutOfMemory>
         ensures { IfOk result (λ text. text ≡ chomped chomping self) }
     {

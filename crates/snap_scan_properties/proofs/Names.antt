@@ -17,7 +17,7 @@ pub anchor-read : (p q r : Place) (text : List ℕ) → q ≡ skipped p → text
     → (is_nothing text || not (ends_name (ahead r))) ≡ false → anchor_from p ≡ found text r
 anchor-read p q r text one name place right = named-of p q r text one name place ∙ rw right refl
 
--- a name without a `!` behind it is no handle
+-- a name without a `!` after it is no handle
 pub shorthand-local : (p q : Place) → q ≡ skipped_while is_alpha p → ahead q ≢ 33 → local p ≡ shorthand p
 shorthand-local p q is other =
     let sign : (ahead (skipped_while is_alpha p) == 33) ≡ false = ne_eqb (ahead (skipped_while is_alpha p)) 33 (λ e. other (ap ahead is ∙ e)) in

@@ -112,7 +112,7 @@ one-more p q r k bits middle code (x ∷ []) n s all e more =
     }
 one-more p q r k bits middle code (x ∷ y ∷ xs) n s all e more = absurd (omega arith)
 
--- and so many behind it
+-- and so many after it
 pub continues-then : (p q r : Place) (k bits middle code : ℕ) → Continues p 1 bits middle q → Continues q k middle code r → Continues p (suc k) bits code r
 continues-then p q r k bits middle code one more = one-more p q r k bits middle code one.further one.many one.spells one.all one.made more
 

@@ -1,4 +1,4 @@
--- A run of characters, and what stands behind it.
+-- A run of characters, and what stands after it.
 use Rattle.snap_scan_properties.proofs.Prelude.{◌≡◌, ℕ, List, [], ◌∷◌, ◌++◌, Bool, true, false, cond, refl, sym, ap, ◌∙◌, take_while, slice_index, Place, passed, behind, skipped, skip_from}
 use Rattle.std.proofs.lemmas.List.Sums.{take_while-cons}
 
@@ -14,7 +14,7 @@ passed-true f c cs p is = rw is refl
 pub passed-false : (f : ℕ → Bool) (c : ℕ) (cs : List ℕ) (p : Place) → f c ≡ false → passed f (c ∷ cs) p ≡ p
 passed-false f c cs p is = rw is refl
 
--- a run, and then what is left behind it
+-- a run, and then what is left after it
 pub run-split : (f : ℕ → Bool) (cs : List ℕ) (p : Place) → p.left ≡ cs → cs ≡ take_while f cs ++ (passed f cs p).left
 run-split f [] p is = sym is
 run-split f (c ∷ cs) p is =
@@ -35,7 +35,7 @@ second-of : (cs : List ℕ) (p : Place) → p.left ≡ cs → slice_index (skip_
 second-of [] p is = ap (λ l. slice_index l 0) is
 second-of (c ∷ cs) p is = refl
 
--- the character behind the first one
+-- the character after the first one
 pub second-is : (p : Place) → slice_index (skipped p).left 0 ≡ slice_index p.left 1
 second-is p = second-of p.left p refl
 

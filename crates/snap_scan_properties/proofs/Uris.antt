@@ -31,7 +31,7 @@ headed-octets : (t : List ℕ) (c : ℕ) (o : Option (List ℕ)) (r : Place) →
 headed-octets t c None r s = refl
 headed-octets t c (Some bs) r s = headed-one t c bs r (is_utf8 bs) s refl
 
--- a text with one character more, at the place behind its octets
+-- a text with one character more, at the place after its octets
 pub headed-more : (t : List ℕ) (c : ℕ) (p q : Place) → IsScalar c → Spells p (encode_utf8 c) q → headed (t ++ c ∷ []) (uri_from q) ≡ headed t (uri_from p)
 headed-more t c p q s spells =
     let f : Option (List ℕ) → Result (Found (List ℕ)) ScanInfo = λ o. headed t (placed (text_of o) (skipped_while is_in_tag q)) in
@@ -146,7 +146,7 @@ headed-nil (Err info) = refl
 pub headed-alpha : (p : Place) → headed (take_while is_alpha p.left) (uri_from (skipped_while is_alpha p)) ≡ uri_from p
 headed-alpha p = headed-run p.left p [] refl ∙ headed-nil (uri_from p)
 
--- letters, and the text behind them
+-- letters, and the text after them
 pub headed-name : (p q : Place) (name : List ℕ) → name ≡ take_while is_alpha p.left → q ≡ skipped_while is_alpha p → headed name (uri_from q) ≡ uri_from p
 headed-name p q name text place =
     let f : List ℕ → Result (Found (List ℕ)) ScanInfo = λ l. headed l (uri_from q) in

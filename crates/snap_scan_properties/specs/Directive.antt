@@ -38,7 +38,7 @@ handle_with name =
 abbrev pub handle_from : Place → Result (Found (List ℕ)) ScanInfo
 handle_from p = if ahead p == 33 then handle_with (run_of is_alpha (skipped p)) else Err S15
 
--- a handle and the prefix that it stands for, with white space or the end behind them
+-- a handle and the prefix that it stands for, with white space or the end after them
 abbrev pub shorthand_from : Place → Result (Found Directive) ScanInfo
 shorthand_from p = do
   handle ← handle_from (past_blanks p)
@@ -55,7 +55,7 @@ said_by name =
     if bytes_eq name.value (codes "YAML") then version_from name.place else (
     if bytes_eq name.value (codes "TAG") then shorthand_from name.place else ignored name.place)
 
--- the name of a directive: letters, with white space or the end behind them
+-- the name of a directive: letters, with white space or the end after them
 abbrev pub entitled : Found (List ℕ) → Result (Found (List ℕ)) ScanInfo
 entitled name =
     if is_nothing name.value then Err S8 else (

@@ -9,7 +9,7 @@ use Rattle.snap_scan_tokens.specs.Place.{Place, skipped_while}
 use Rattle.snap_scan_tokens.specs.Quoted.{hexadecimal, value_of}
 use Rattle.snap_scan_properties.specs.Reading.{Found, found, ◌>>=◌}
 
--- octets, and further ones behind them
+-- octets, and further ones after them
 abbrev pub before_octets : List ℕ → Option (List ℕ) → Option (List ℕ)
 before_octets front None = None
 before_octets front (Some rest) = Some (front ++ rest)
@@ -26,7 +26,7 @@ abbrev mutual
       if c == 37 then escaped cs else (
       if is_uri c then before_octets (c ∷ []) (octets cs) else Some [])
 
-  -- what stands behind a `%`
+  -- what stands after a `%`
   pub escaped : List ℕ → Option (List ℕ)
   escaped [] = None
   escaped (high ∷ []) = None

@@ -1,4 +1,4 @@
--- What stands at a place: a value with the place behind it, or what is wrong.
+-- What stands at a place: a value with the place after it, or what is wrong.
 use Rattle.std.specs.Prelude.{ℕ, ◌≡◌, List, Bool, Result, Ok, Err, take_while, slice_index}
 use Rattle.snap_scan_tokens.specs.declared.info.ScanError.{ScanError}
 use Rattle.snap_scan_tokens.specs.declared.info.ScanError.TheVariants.{OutOfMemory, Syntax}
@@ -21,7 +21,7 @@ ahead p = slice_index p.left 0
 abbrev pub run_of : (ℕ → Bool) → Place → Found (List ℕ)
 run_of is_one p = record { value = take_while is_one p.left; place = skipped_while is_one p }
 
--- one part, and then what stands behind it
+-- one part, and then what stands after it
 infixl 10 ◌>>=◌
 abbrev pub ◌>>=◌ : {A B : Type 0} → Result (Found A) ScanInfo → (Found A → Result (Found B) ScanInfo) → Result (Found B) ScanInfo
 Ok part >>= rest = rest part
@@ -34,7 +34,7 @@ fault_of S19 = S21
 fault_of S20 = S21
 fault_of info = info
 
--- what is wrong there was named, want of memory aside
+-- what is wrong there was named, out of memory aside
 abbrev pub Refuses : {T : Type 0} → Result (Found T) ScanInfo → ScanError → Type 0
 Refuses there OutOfMemory = Unit {0}
 Refuses there (Syntax mark info) = there ≡ Err (fault_of info)

@@ -37,7 +37,7 @@ local p = do
   suffix ← uri_from p
   found (local_tag suffix.value) suffix.place
 
--- behind a `!`: a name and a `!` make a handle
+-- after a `!`: a name and a `!` make a handle
 abbrev pub shorthand : Place → Result (Found Tag) ScanInfo
 shorthand p = if ahead (run_of is_alpha p).place == 33 then with_handle (run_of is_alpha p) else local p
 

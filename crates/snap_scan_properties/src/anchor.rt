@@ -14,7 +14,7 @@ use snap_scan_tokens::cursor::Cursor;
 use snap_scan_tokens::info::{ScanError, ScanInfo};
 use std::alloc::Global;
 
-/// Whether a character may stand behind a name.
+/// Whether a character may stand after a name.
 fn ends_name(next: char) -> bool
     ensures { result ≡ ends_name next }
 {
@@ -28,7 +28,7 @@ fn is_unnamed(name: &str, next: char) -> bool
     is_nothing(name) || !ends_name(next)
 }
 
-/// Reads the name behind `*` or `&`.
+/// Reads the name after `*` or `&`.
 pub fn scan_anchor(alloc: Global, cursor: &mut Cursor) -> Result<Text, ScanError>
     requires { is_among (codes "*&") (slice_index cursor.old.left 0) ≡ true }
     ensures value { Reads (anchor_from cursor.old) result cursor.new }

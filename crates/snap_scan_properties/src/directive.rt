@@ -77,7 +77,7 @@ fn scan_version_directive_number(cursor: &mut Cursor, mark: Marker) -> Result<u3
     number_of(digits, mark)
 }
 
-/// Reads what stands behind `%YAML`.
+/// Reads what stands after `%YAML`.
 fn scan_version_directive_value(cursor: &mut Cursor, mark: Marker) -> Result<Directive, ScanError>
     ensures value { Reads (version_from cursor.old) result cursor.new }
     ensures travels { Travels cursor.old cursor.new }
@@ -116,7 +116,7 @@ fn scan_handle(alloc: Global, cursor: &mut Cursor, mark: Marker) -> Result<Text,
     Ok(handle)
 }
 
-/// Reads what stands behind `%TAG`.
+/// Reads what stands after `%TAG`.
 fn scan_tag_directive_value(
     alloc: Global,
     cursor: &mut Cursor,
@@ -136,7 +136,7 @@ fn scan_tag_directive_value(
     Ok(Directive::Tag(handle, prefix))
 }
 
-/// Reads what stands behind the name of a directive, up to the blanks and the comment at the end of its line.
+/// Reads what stands after the name of a directive, up to the blanks and the comment at the end of its line.
 fn scan_directive_value(
     alloc: Global,
     cursor: &mut Cursor,

@@ -117,7 +117,7 @@ fn further_octets(cursor: &mut Cursor, count: usize, bits: u32) -> Result<u32, S
     three_further(cursor, bits)
 }
 
-/// The least code that needs so many octets behind its first one.
+/// The least code that needs so many octets after its first one.
 fn least_code(count: usize) -> u32
     ensures { result ≡ least_code count }
 {
@@ -129,7 +129,7 @@ fn least_code(count: usize) -> u32
     }
 }
 
-/// The character of a code that took so many octets behind the first one.
+/// The character of a code that took so many octets after the first one.
 fn character(code: u32, count: usize) -> Option<char>
     ensures { MatchOption result (least_code count ≤ code → IsScalar code → ⊥)
         (λ c. (c ≡ code) × (least_code count ≤ code) × IsScalar code) }

@@ -16,7 +16,7 @@ use snap_scan_tokens::info::{ScanError, ScanInfo};
 use snap_scan_tokens::marker::Marker;
 use std::alloc::Global;
 
-/// A tag: its handle, and what stands behind it.
+/// A tag: its handle, and what stands after it.
 #[derive(Debug, Drop)]
 pub struct Tag {
     pub handle: Text,
@@ -34,7 +34,7 @@ pub(crate) fn handle_of(alloc: Global, name: &str) -> Result<Text, OutOfMemory>
     Ok(handle)
 }
 
-/// Reads what may stand in a tag, behind the text that is given.
+/// Reads what may stand in a tag, after the text that is given.
 pub(crate) fn scan_tag_uri(
     alloc: Global,
     cursor: &mut Cursor,
@@ -100,7 +100,7 @@ fn scan_verbatim(alloc: Global, cursor: &mut Cursor, mark: Marker) -> Result<Tag
     })
 }
 
-/// Reads the `!` behind the name of a handle, and the suffix.
+/// Reads the `!` after the name of a handle, and the suffix.
 fn scan_with_handle(
     alloc: Global,
     cursor: &mut Cursor,
@@ -135,7 +135,7 @@ fn local_tag(suffix: Text, sign: Text) -> Tag
     }
 }
 
-/// Reads what stands behind `!` and the first characters of a suffix.
+/// Reads what stands after `!` and the first characters of a suffix.
 fn scan_local(
     alloc: Global,
     cursor: &mut Cursor,
@@ -152,7 +152,7 @@ fn scan_local(
     Ok(local_tag(suffix, sign))
 }
 
-/// Reads `suffix` or `handle!suffix`, behind a `!`.
+/// Reads `suffix` or `handle!suffix`, after a `!`.
 fn scan_shorthand(alloc: Global, cursor: &mut Cursor, mark: Marker) -> Result<Tag, ScanError>
     ensures value { Reads (shorthand cursor.old) result cursor.new }
     ensures travels { Travels cursor.old cursor.new }
@@ -165,7 +165,7 @@ fn scan_shorthand(alloc: Global, cursor: &mut Cursor, mark: Marker) -> Result<Ta
     scan_local(alloc, cursor, mark, name)
 }
 
-/// Reads a tag, whatever stands behind it.
+/// Reads a tag, whatever stands after it.
 fn scan_any_tag(alloc: Global, cursor: &mut Cursor, mark: Marker) -> Result<Tag, ScanError>
     requires { slice_index cursor.old.left 0 ≢ 0 }
     ensures value { Reads (any_tag cursor.old) result cursor.new }

@@ -125,7 +125,7 @@ word-at g text (c ∷ cs) i l j blank broken sign end no34 no92 =
     let further : 1 ≤ s.col = rw feed (omega arith) in
     ap f (regroup (text ++ joined g) c cs q.left (passed-ends (is_of DoubleQuoted) cs s refl)) ∙ run-of ((text ++ joined g) ++ c ∷ []) cs s.index s.line s.col further ∙ sym taken
 
--- a character that stands for itself is passed, and those behind it
+-- a character that stands for itself is passed, and those after it
 pub double-word : (t u : Piece) (g : Gap) (p q : Place) → is_blank (slice_index p.left 0) ≡ false → is_break (slice_index p.left 0) ≡ false
     → is_document_indicator p ≡ false → slice_index p.left 0 ≢ 0 → slice_index p.left 0 ≢ 34 → slice_index p.left 0 ≢ 92
     → q ≡ skipped_while (is_of DoubleQuoted) (skipped p)
@@ -174,7 +174,7 @@ double-escape t g p s sign slash is =
     let P : Place → Type 0 = λ x. double_at t g p ≡ escape (t.text ++ joined h) x.left x in
     subst P (sym is) (escape-at h t.text p.left p.index p.line p.col sign slash)
 
--- a text that goes on before what is left, behind no gap or behind an escaped line end
+-- a text that goes on before what is left, after no gap or after an escaped line end
 pub double-none : (text : List ℕ) (t : Piece) (q : Place) → t ≡ record { text = text; behind = q.left } → double_at t no_gap q ≡ double no_gap text q.left q
 double-none text t q is =
     let f : Gap → Option Quoted = λ h. double h text q.left q in

@@ -38,7 +38,7 @@ before-cons c cs ys ends = let f : List ℕ → List ℕ = λ l. c ∷ l in befo
 pub ends-cons : (c : ℕ) (cs ys : List ℕ) → EndsIn cs ys → EndsIn (c ∷ cs) ys
 ends-cons c cs ys ends = let f : List ℕ → List ℕ = λ l. c ∷ l in ends-of (c ∷ cs) (c ∷ before cs ys) ys (ap f ends)
 
--- what stands behind a run is an end of what was left before it
+-- what stands after a run is an end of what was left before it
 pub passed-ends : (f : ℕ → Bool) (cs : List ℕ) (p : Place) → p.left ≡ cs → EndsIn cs (passed f cs p).left
 passed-ends f [] p is = let P : List ℕ → Type 0 = λ l. EndsIn [] l in subst P (sym is) (ends-same [])
 passed-ends f (c ∷ cs) p is =

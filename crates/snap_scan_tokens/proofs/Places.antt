@@ -1,7 +1,7 @@
 -- Places that are reached by passing characters.
 use Rattle.snap_scan_tokens.proofs.Prelude.{◌≡◌, ℕ, List, [], ◌∷◌, Bool, true, false, slice_index, refl, subst, sym, ap, Place, Later, next, skipped, skip_from, passed, behind, Travels, ◌∙◌, arith}
 
--- where the place behind a character is known, it is the next place
+-- where the place after a character is known, it is the next place
 pub later-next : (p q r : Place) → r ≡ skipped q → Later p q → Later p r
 later-next p q r is h = let P : Place → Type 0 = λ x. Later p x in subst P (sym is) (next p q h)
 

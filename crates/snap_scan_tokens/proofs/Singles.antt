@@ -121,7 +121,7 @@ word-at g text (c ∷ cs) i l j blank broken sign end no39 =
     let further : 1 ≤ s.col = rw feed (omega arith) in
     ap f (regroup (text ++ joined g) c cs q.left (passed-ends (is_of SingleQuoted) cs s refl)) ∙ run-of ((text ++ joined g) ++ c ∷ []) cs s.index s.line s.col further ∙ sym taken
 
--- a character that stands for itself is passed, and those behind it
+-- a character that stands for itself is passed, and those after it
 pub single-word : (t u : Piece) (g : Gap) (p q : Place) → is_blank (slice_index p.left 0) ≡ false → is_break (slice_index p.left 0) ≡ false
     → is_document_indicator p ≡ false → slice_index p.left 0 ≢ 0 → slice_index p.left 0 ≢ 39
     → q ≡ skipped_while (is_of SingleQuoted) (skipped p)

@@ -85,12 +85,12 @@ abbrev pub IsExplained : Place → ScanError → Type 0
 IsExplained p OutOfMemory = Unit {0}
 IsExplained p (Syntax mark info) = HasCause p.left info × (p.index ≤ mark.index) × (mark.index ≤ p.index + length p.left)
 
--- an error of a part of such a call: want of memory, or a refusal that names the mark, and that each of the signs explains
+-- an error of a part of such a call: out of memory, or a refusal that names the mark, and that each of the signs explains
 abbrev pub IsRefusedBy : List ℕ → Mark → ScanError → Type 0
 IsRefusedBy signs at OutOfMemory = Unit {0}
 IsRefusedBy signs at (Syntax mark info) = (mark ≡ at) × ((c : ℕ) → is_among signs c ≡ true → explains c info ≡ true)
 
--- the error is this refusal, or want of memory
+-- the error is this refusal, or out of memory
 abbrev pub IsFault : ScanInfo → ScanError → Type 0
 IsFault info OutOfMemory = Unit {0}
 IsFault info (Syntax mark found) = found ≡ info

@@ -57,7 +57,7 @@ is_of k.DoubleQuoted c = not (is_blank_or_end c || c == 34 || c == 92)
 abbrev pub past_break : Place → Place
 past_break p = if is_pair (slice_index p.left 0) (slice_index p.left 1) then skipped (skipped p) else skipped p
 
--- the place behind blanks
+-- the place after blanks
 abbrev pub past_blanks : Place → Place
 past_blanks p = skipped_while (is_of k.Blank) p
 

@@ -9,7 +9,7 @@ before all rest = take (length all - length rest) all
 abbrev pub EndsIn : List ℕ → List ℕ → Type 0
 EndsIn all rest = all ≡ before all rest ++ rest
 
--- the text of a scalar so far, and what stands behind it in the source
+-- the text of a scalar so far, and what stands after it in the source
 pub record Piece : Type 0 where
   pub text : List ℕ
   pub behind : List ℕ

@@ -23,7 +23,7 @@ mark_of p = record { index = p.index; line = p.line; col = p.col }
 abbrev pub start_of : List ℕ → Place
 start_of cs = record { left = cs; index = 0; line = 1; col = 0 }
 
--- the place behind a character c: a line feed begins a line
+-- the place after a character c: a line feed begins a line
 abbrev pub behind : ℕ → List ℕ → Place → Place
 behind c cs p =
     record {
@@ -41,7 +41,7 @@ skip_from (c ∷ cs) p = behind c cs p
 abbrev pub skipped : Place → Place
 skipped p = skip_from p.left p
 
--- the place behind the characters of a kind, of which cs are left
+-- the place after the characters of a kind, of which cs are left
 abbrev pub passed : (ℕ → Bool) → List ℕ → Place → Place
 passed is_one [] p = p
 passed is_one (c ∷ cs) p = if is_one c then passed is_one cs (behind c cs p) else p

@@ -33,7 +33,7 @@ is_bad_tab indent g c col = is_folded g.fold && c == 9 && is_outside indent col
 
 pub record Plain : Type 0 where
   pub text : List ℕ
-  -- whether a line ended behind the text
+  -- whether a line ended after the text
   pub is_broken : Bool
   pub place : Place
 

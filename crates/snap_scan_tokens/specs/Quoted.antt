@@ -42,7 +42,7 @@ abbrev mutual
 abbrev pub single_from : Place → Option Quoted
 single_from p = single no_gap [] (skipped p).left (skipped p)
 
--- a reader of single quotes that gathered a text, and stands behind a gap
+-- a reader of single quotes that gathered a text, and stands after a gap
 abbrev pub single_at : Piece → Gap → Place → Option Quoted
 single_at text g p = single (gap_of g (before text.behind p.left)) text.text p.left p
 
@@ -69,7 +69,7 @@ IsBadEscape info = explains 34 info ≡ true
 abbrev pub is_code : ℕ → Bool
 is_code n = nat_lt n 55296 || (nat_lt 57343 n && nat_lt n 1114112)
 
--- the character that a letter behind a backslash stands for
+-- the character that a letter after a backslash stands for
 abbrev pub escaped : ℕ → Option ℕ
 escaped c =
     if c == 48 then Some 0 else (
@@ -87,7 +87,7 @@ escaped c =
     if c == 76 then Some 8232 else (
     if c == 80 then Some 8233 else None)))))))))))))
 
--- how many hexadecimal digits follow a letter behind a backslash, besides the first
+-- how many hexadecimal digits follow a letter after a backslash, besides the first
 abbrev pub further_digits : ℕ → Option ℕ
 further_digits c =
     if c == 120 then Some 1 else (
@@ -114,7 +114,7 @@ abbrev mutual
       if is_some (escaped c) then double no_gap (text ++ value_of (escaped c) ∷ []) cs (skipped p) else (
       if is_some (further_digits c) then digits (value_of (further_digits c)) 0 text cs (skipped p) else None))
 
-  -- a code in hexadecimal digits, of which a part with this value is read; n digits stand behind the next one
+  -- a code in hexadecimal digits, of which a part with this value is read; n digits stand after the next one
   pub digits : ℕ → ℕ → List ℕ → List ℕ → Place → Option Quoted
   digits n value text [] p = None
   digits zero value text (c ∷ cs) p =
@@ -132,7 +132,7 @@ are_digits (suc n) (c ∷ cs) = is_some (hexadecimal c) && are_digits n cs
 abbrev pub code_fault : ℕ → List ℕ → ScanInfo
 code_fault further cs = if are_digits further cs then i.S33 else i.S32
 
--- what is wrong with what stands behind a backslash: no such letter, or its code
+-- what is wrong with what stands after a backslash: no such letter, or its code
 abbrev pub letter_fault : Option ℕ → List ℕ → ScanInfo
 letter_fault None cs = i.S31
 letter_fault (Some further) cs = code_fault further cs
@@ -141,7 +141,7 @@ letter_fault (Some further) cs = code_fault further cs
 abbrev pub escape_fault : Place → ScanInfo
 escape_fault p = letter_fault (further_digits (slice_index p.left 0)) (skipped p).left
 
--- a reader of double quotes that gathered a text, and stands behind a gap
+-- a reader of double quotes that gathered a text, and stands after a gap
 abbrev pub double_at : Piece → Gap → Place → Option Quoted
 double_at text g p = double (gap_of g (before text.behind p.left)) text.text p.left p
 
@@ -188,7 +188,7 @@ ReadsQuoted None (Ok text) p = ⊥
 ReadsQuoted (Some q) (Err e) p = e ≡ OutOfMemory
 ReadsQuoted None (Err e) p = Unit {0}
 
--- what a step of such a reader answers: the rest is read as before, or it is refused, want of memory aside
+-- what a step of such a reader answers: the rest is read as before, or it is refused, out of memory aside
 abbrev pub Continues : {T : Type 0} → Option Quoted → Option Quoted → Result T ScanError → Type 0
 Continues old new (Ok _) = new ≡ old
 Continues old new (Err OutOfMemory) = Unit {0}

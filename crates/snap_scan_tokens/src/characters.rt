@@ -22,7 +22,7 @@ pub enum Kind {
     Uri,
     /// Decimal digits.
     Digit,
-    /// What neither ends nor folds a plain scalar, whatever stands behind it.
+    /// What neither ends nor folds a plain scalar, whatever stands after it.
     Word,
     /// What stands for itself in single quotes.
     SingleQuoted,

@@ -166,7 +166,7 @@ impl<'a> Cursor<'a> {
         self.skip();
     }
 
-    /// Passes blanks, and a comment behind them.
+    /// Passes blanks, and a comment after them.
     pub fn skip_comment(&mut self)
         ensures value { self.new ≡ past_comment self.old }
         ensures travels { Travels self.old self.new }

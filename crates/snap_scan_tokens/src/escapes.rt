@@ -1,4 +1,4 @@
-//! What a backslash and the characters behind it stand for.
+//! What a backslash and the characters after it stand for.
 ghost use Rattle.std.specs.Prelude.{ℕ, ◌≡◌, ◌<◌, ◌≤◌, ⊤, true, false, [], ◌∷◌, ◌++◌, List, None, IfErr, MatchResult, MatchOption};
 ghost use Rattle.snap_scan_tokens.specs.Folding.{no_gap, escaped_gap};
 ghost use Rattle.snap_scan_tokens.specs.Place.{Travels};
@@ -26,7 +26,7 @@ pub fn hexadecimal(c: char) -> Option<u32>
     None
 }
 
-/// The character that a letter behind a backslash stands for.
+/// The character that a letter after a backslash stands for.
 fn escaped(c: char) -> Option<char>
     ensures { result ≡ escaped c }
 {
@@ -49,7 +49,7 @@ fn escaped(c: char) -> Option<char>
     }
 }
 
-/// How many hexadecimal digits follow a letter behind a backslash, besides the first.
+/// How many hexadecimal digits follow a letter after a backslash, besides the first.
 fn further_digits(c: char) -> Option<usize>
     ensures { result ≡ further_digits c }
 {
@@ -98,7 +98,7 @@ fn scan_code(cursor: &mut Cursor, further: usize) -> Result<char, ScanInfo>
     }
 }
 
-/// Reads what stands behind a backslash: the character that it stands for, or none at the end of a line.
+/// Reads what stands after a backslash: the character that it stands for, or none at the end of a line.
 pub fn scan_escape(cursor: &mut Cursor) -> Result<Option<char>, ScanInfo>
     ensures value { MatchResult result (λ found. MatchOption found ((text : List ℕ)
         → escape text cursor.old.left cursor.old

@@ -93,7 +93,7 @@ pub struct Gathered<'a> {
     copied: Text,
     /// What was left of the source where the part began that isn't copied.
     from: &'a str,
-    /// What was left of the source behind that part.
+    /// What was left of the source after that part.
     rest: &'a str,
 }
 

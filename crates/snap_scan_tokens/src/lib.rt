@@ -1,4 +1,4 @@
-//! The tokens of YAML, and the readers of one token: functions from a place in a text to what stands there, and the place behind it.
+//! The tokens of YAML, and the readers of one token: functions from a place in a text to what stands there, and the place after it.
 //!
 //! In the order in which data flows: `marker` (places), `info` (what is wrong with a text), `token`, `characters` (their kinds),
 //! `cursor` (a place, and what is left of the text), `folding` (a scalar's text as it is read), and the readers: `plain`,

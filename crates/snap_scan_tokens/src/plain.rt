@@ -13,7 +13,7 @@ use crate::info::{ScanError, ScanInfo};
 use snap_content::Lent;
 use std::alloc::Global;
 
-/// A plain scalar, and whether a line ended behind it.
+/// A plain scalar, and whether a line ended after it.
 #[derive(Debug, Drop)]
 pub struct PlainScalar<'a> {
     pub text: Lent<'a>,

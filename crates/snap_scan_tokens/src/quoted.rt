@@ -47,7 +47,7 @@ impl Quotes {
     }
 }
 
-/// Takes a character that stands for itself, and those of a kind behind it.
+/// Takes a character that stands for itself, and those of a kind after it.
 pub(crate) fn take_word<'a>(
     alloc: Global,
     cursor: &mut Cursor<'a>,
@@ -106,7 +106,7 @@ fn take_doubled<'a>(
     Ok(())
 }
 
-/// Takes a backslash, and what it stands for with the characters behind it.
+/// Takes a backslash, and what it stands for with the characters after it.
 fn take_escape<'a>(
     alloc: Global,
     cursor: &mut Cursor<'a>,

@@ -14,9 +14,9 @@ pub enum TScalarStyle {
     Plain,
     SingleQuoted,
     DoubleQuoted,
-    /// Behind `|`.
+    /// After `|`.
     Literal,
-    /// Behind `>`; the name is spelled as in insta.
+    /// After `>`; the name is spelled as in insta.
     Foled,
 }
 
@@ -44,7 +44,7 @@ pub enum TokenType<'a> {
     Value,
     Alias(Text),
     Anchor(Text),
-    /// The handle and what stands behind it.
+    /// The handle and what stands after it.
     Tag(Text, Text),
     Scalar(TScalarStyle, Lent<'a>),
 }

@@ -3,7 +3,7 @@ use Rattle.snap_select.proofs.Prelude.{w64, to_z, of_z, ◌≡◌, ℤ, ℕ, Lis
 use Rattle.snap_select.proofs.PieceFacts.{kept_bound}
 use Rattle.snap_select.proofs.Readers.{colon_near, same_near}
 
--- behind the colon of a number that is a bound
+-- after the colon of a number that is a bound
 pub number_colon : (text num after later : List ℕ) (v : ℤ) → IsNumberThen text num after → past is_blank after ≡ 58 ∷ later → v ≡ number_value num → FitsBound v
     → (ps : Parts) (ss : List Segment) → outcome (inside ps ss bracket) text ≡ outcome (inside ps ss (colon (Some (to_z w64 (of_z w64 v))))) later
 number_colon text num after later v h e is fits ps ss =

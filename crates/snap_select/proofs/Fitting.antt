@@ -4,7 +4,7 @@ use Rattle.std.proofs.lemmas.Bool.Decides.{nat_tests}
 use Rattle.snap_select.proofs.Walks.{Leads, Ons, at_blank}
 use Rattle.snap_select.proofs.Tokens.{pick}
 
--- bounds that fit, by the number behind the minus
+-- bounds that fit, by the number after the minus
 pub near_fits : (bound : ℤ) → is_far bound ≡ false → FitsBound bound
 near_fits (pos n) h = leb-false (2 ^ 63) n h
 near_fits (negsuc n) h = leb-false (2 ^ 63) n h
@@ -41,11 +41,11 @@ near_over negative ds h = grind (arith, nat_tests)
 pub one_near : (negative : Bool) (c : ℕ) → digit_value c < 10 → is_far (signed_value negative (c ∷ [])) ≡ false
 one_near negative c h = grind (arith, nat_tests)
 
--- a segment that may stand behind these
+-- a segment that may stand after these
 abbrev pub MayStand : List Segment → Segment → Type 0
 MayStand ss segment = Fits segment × (is_deep segment && has_deep ss ≡ false)
 
--- what fits of a token behind these segments
+-- what fits of a token after these segments
 abbrev pub TokenFits : List Segment → Token → Type 0
 TokenFits ss (number negative digits) = is_over negative digits ≡ false
 TokenFits ss (behind_number negative digits gap) = is_over negative digits ≡ false
@@ -82,7 +82,7 @@ free = (λ h. tt, λ h. (tt, refl))
 blank_apart : (c : ℕ) → is_blank c ≡ true → (c == 58) ≡ false
 blank_apart c h = at_blank (λ x. (x == 58) ≡ false) c h refl refl
 
--- behind a number, by whether a colon follows, or else a bracket
+-- after a number, by whether a colon follows, or else a bracket
 behind_fits : (ss : List Segment) (negative : Bool) (digits : List ℕ) (e i : Bool)
     → MoveFits ((is_over negative digits ≡ false) × (cond (e && is_far (signed_value negative digits)) (Some TooLarge) None ≡ None)) ss
     (cond e (on (colon (Some (signed_value negative digits)))) (cond (i && not negative) (ends (Index (digits_value 10 digits))) nowhere))

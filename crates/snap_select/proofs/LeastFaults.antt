@@ -106,7 +106,7 @@ spilled text lead k negative digits after ps ss place is h n o at =
       at = omega (arith, at, counted_since k negative w.near, length-append lead (signed negative w.near));
     }
 
--- a number that the colon behind it makes too large
+-- a number that the colon after it makes too large
 colon_flawed : (text lead : List ℕ) (negative : Bool) (digits gap back after : List ℕ) (ps : Parts) (ss : List Segment) (place : ℕ) → text ≡ (lead ++ signed negative digits) ++ after → after ≡ gap ++ 58 ∷ back → AreBlanks gap
     → Leads (before_part []) lead (inside ps ss bracket) → IsNumeral 10 digits → is_far (signed_value negative digits) ≡ true → place ≡ length lead + 1 → Flawed text TooLarge place
 colon_flawed text lead negative digits gap back after ps ss place is e b h k o at =
@@ -283,7 +283,7 @@ unflawed other rest front m d back c kind z near h k flawed e f =
     let clear = fitting_half (before_part []) other d m z near (subst (λ x. Fitting (before_part []) x z) e h) k in
     none_some SelectFault (flaw near c) kind (subst (λ x. flaw near x ≡ None) same clear) flawed
 
--- behind a front without a flaw, a flaw stands no earlier
+-- after a front without a flaw, a flaw stands no earlier
 flaw_later : (text : List ℕ) (h : Clear (before_part []) text) (kind : SelectFault) (place : ℕ) (k : Flawed text kind place)
     → (m : List ℕ) × (k.front ≡ h.front ++ m) × (h.back ≡ m ++ k.c ∷ k.back) × Leads h.near m k.near
 flaw_later text h kind place k = elim (cuts h.front h.back k.front (k.c ∷ k.back) (sym h.is ∙ k.is)) [

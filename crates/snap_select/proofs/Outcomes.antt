@@ -22,7 +22,7 @@ pub record Clear (s : Place) (text : List ℕ) : Type 0 where
   pub is : text ≡ front ++ back
   pub fitting : Fitting s front near
 
--- behind it no step leads on, or one has a flaw
+-- after it no step leads on, or one has a flaw
 pub data Refused (s : Place) (text : List ℕ) (kind : SelectFault) (left : ℕ) : Type 0 where
   by_stuck : (h : Clear s text) → BadToken ≡ kind → left ≡ length h.back → Stuck h.near h.back → Refused s text kind left
   by_flaw : (h : Clear s text) (c : ℕ) (rest : List ℕ) → h.back ≡ c ∷ rest → left ≡ since h.near + suc (length rest) → flaw h.near c ≡ Some kind → Refused s text kind left

@@ -61,7 +61,7 @@ pub spills : (k : Spot) (negative : Bool) (digits : List ℕ) → IsNumeral 10 d
 spills k negative [] h t = absurd (omega (arith, h.0))
 spills k negative (d ∷ ds) h t = spills_from k negative (d ∷ []) ds (omega arith, (h.1.0, tt)) h.1.1 (one_small k negative d h.1.0) t
 
--- a colon behind a number
+-- a colon after a number
 pub colon_flaw : (ps : Parts) (ss : List Segment) (negative : Bool) (digits gap : List ℕ) (far : Bool) → is_far (signed_value negative digits) ≡ far → flaw (inside ps ss (at_number negative digits gap)) 58 ≡ cond far (Some TooLarge) None
 unfolding at_number
 colon_flaw ps ss negative digits gap far h = grind arith

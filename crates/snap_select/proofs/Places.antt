@@ -10,7 +10,7 @@ pub record Between (ps : Parts) (text : List ℕ) : Type 0 where
   pub commas : EachBeforeComma ps front
   pub blank : AreBlanks blanks
 
--- earlier parts, blanks, segments of this part, and then a piece; behind a lone dot only a bracket goes on
+-- earlier parts, blanks, segments of this part, and then a piece; after a lone dot only a bracket goes on
 pub record Opened (ps : Parts) (ss : List Segment) (piece text : List ℕ) : Type 0 where
   pub lead : List ℕ
   pub body : List ℕ
@@ -122,13 +122,13 @@ whole_part ps ss lead body t is h stands filled = record {
 filled_whole : (ps : Parts) (ss : List Segment) (t : List ℕ) → Filled ps ss t → IsSpelled t (ps ++ ss ∷ [])
 filled_whole ps ss t h = whole_part ps ss h.lead h.body t h.is h.between h.stands h.filled
 
--- behind a part
+-- after a part
 separated : (ps : Parts) (t : List ℕ) (c : ℕ) → IsSpelled t ps → MaybeMeans (t ++ c ∷ []) (separate ps c)
 separated ps t c h =
     let P = MaybeMeans (t ++ c ∷ []) in
     pick (is_blank c) _ _ P (λ e. spelled_blank ps t c h e) (λ f. pick (c == 44) _ _ P (λ e. rw (eqb-true c 44 e) (comma_between ps t h)) (λ g. tt))
 
--- behind a segment
+-- after a segment
 followed : (ps : Parts) (ss : List Segment) (t : List ℕ) (c : ℕ) → Filled ps ss t → MaybeMeans (t ++ c ∷ []) (follow ps ss c)
 followed ps ss t c h =
     let P = MaybeMeans (t ++ c ∷ []) in

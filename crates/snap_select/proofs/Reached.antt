@@ -123,7 +123,7 @@ stays ss allows path c here below =
     same_redacted ss allows (λ p c. IsCalm ss p) (λ p c quiet. ap (path_match ss) (sym (append-nil p)) ∙ quiet [])
     (λ p c quiet k child e. calm_below ss p child.steps quiet) path c (calm ss path here below)
 
--- where no segment may match a path that has this step behind so many, a deep wildcard comes later, or a segment doesn't fit
+-- where no segment may match a path that has this step after so many, a deep wildcard comes later, or a segment doesn't fit
 abbrev Shut : List Segment → List Step → Step → Option ℕ → Type 0
 Shut ss path step None = (length ss ≤ length path) ⊎ (fit_each ss (path ++ step ∷ []) ≡ false)
 Shut ss path step (Some at) = (length path < at) × (at ≤ length ss) × (fit_each (take at ss) (path ++ step ∷ []) ≡ false)
@@ -213,7 +213,7 @@ closed_parts R path step one (ss ∷ ps) e =
     let parts = none_of (segments_open ss (length path) step) (opens ps (length path) step) e in
     ap (λ b. b || list_any (λ ss. R ss (path ++ step ∷ [])) ps) (one ss parts.0) ∙ closed_parts R path step one ps parts.1
 
--- where no part may match a path with this step behind the others, the tree there stays as it is
+-- where no part may match a path with this step after the others, the tree there stays as it is
 pub closed_stays : (ps : Parts) (allows : Allowed) (items : List PathItem) (step : Step) (c : t.Tree) (count : ℕ) → count ≡ length items → opens ps count step ≡ false
     → RedactedAt ps allows (map step_of items ++ step ∷ []) c c
 closed_stays ps allows items step c count same e =

@@ -91,7 +91,7 @@ large_refused ps ss k negative digits after h f =
     ∙ flawed_here near w.c (w.more ++ after) TooLarge (w.flawed ps ss)
     ∙ ap (refuses TooLarge) (omega (arith, counted_since k negative w.near, length-append (signed negative w.near) (w.c ∷ (w.more ++ after)))))
 
--- blanks behind a number
+-- blanks after a number
 gap_fits : (ps : Parts) (ss : List Segment) (negative : Bool) (digits gap : List ℕ) → AreBlanks gap → is_over negative digits ≡ false → Fitting (inside ps ss (number negative digits)) gap (inside ps ss (at_number negative digits gap))
 unfolding at_number
 gap_fits ps ss negative digits gap b h = (tokens_fit ps ss (number negative digits) gap (at_number negative digits gap) (gap_behind negative digits gap b) (still_fits gap)).0
@@ -107,7 +107,7 @@ number_text text num after is = is ∙ ap (λ x. x ++ after) (number_is num)
 minus_text : (text num after : List ℕ) → text ≡ num ++ after → begins 45 num ≡ true → text ≡ signed true (unsigned num) ++ after
 minus_text text num after is b = rw b at (number_text text num after is)
 
--- what an opened number, and blanks behind it, come to
+-- what an opened number, and blanks after it, come to
 behind_gap : (ps : Parts) (ss : List Segment) (negative : Bool) (digits text after rest : List ℕ) → text ≡ signed negative digits ++ after → IsNumeral 10 digits → rest ≡ past is_blank after → is_over negative digits ≡ false
     → outcome (inside ps ss bracket) text ≡ outcome (inside ps ss (at_number negative digits (front is_blank after))) rest
 behind_gap ps ss negative digits text after rest is n e k =
@@ -120,7 +120,7 @@ large_text : (ps : Parts) (ss : List Segment) (k : Spot) (negative : Bool) (digi
     → outcome (inside ps ss (opening k)) text ≡ refuses TooLarge (length text)
 large_text ps ss k negative digits text after is n f = subst (λ x. outcome (inside ps ss (opening k)) x ≡ refuses TooLarge (length x)) (sym is) (large_refused ps ss k negative digits after n f)
 
--- a colon behind a number
+-- a colon after a number
 pub colon_far : (text num after later : List ℕ) → IsNumberThen text num after → past is_blank after ≡ 58 ∷ later → ¬ FitsBound (number_value num)
     → (ps : Parts) (ss : List Segment) → outcome (inside ps ss bracket) text ≡ refuses TooLarge (length text)
 colon_far text num after later h e u ps ss =
@@ -216,7 +216,7 @@ past_shorter p text = omega (arith, ap length (cut_at p text), length-append (fr
 pub past_within : (p : ℕ → Bool) (text rest : List ℕ) → rest ≡ past p text → length rest ≤ length text
 past_within p text rest e = omega (arith, past_shorter p text, ap length e)
 
--- what a reader gives: it goes on behind the token, or stops there, and what is left is shorter
+-- what a reader gives: it goes on after the token, or stops there, and what is left is shorter
 abbrev pub Read : Token → List ℕ → Result (Segment × Bor (List ℕ)) Stop → Type 0
 Read token text r = IfOk r (λ p. GoesOn token text p.0 (chars p.1.now)) × IfErr r (λ s. StopsAt token text s) × IfOk r (λ p. length (chars p.1.now) < length text)
 
@@ -289,7 +289,7 @@ first_dotted ps (c ∷ cs) h = either (begins_name c) _ (λ e. rw e refl) (λ e.
 pub dotted_part : (ps : Parts) (text body : List ℕ) → text ≡ 46 ∷ body → goes_on_dot body ≡ true → outcome (before_part ps) text ≡ outcome (ready ps []) text
 dotted_part ps text body e h = ap (λ x. outcome (before_part ps) x) e ∙ first_dotted ps body h ∙ ap (λ x. outcome (ready ps []) x) (sym e)
 
--- behind a first dot that no name and no star follows
+-- after a first dot that no name and no star follows
 pub led_part : (ps : Parts) (text : List ℕ) → goes_on_dot text ≡ false → begins 91 text ≡ true → outcome (first_dot ps) text ≡ outcome (ready ps []) text
 led_part ps [] h k = absurd (cc)
 led_part ps (c ∷ cs) h k = rw (eqb-true c 91 k) (bracket_here ps cs)
@@ -300,7 +300,7 @@ unled_part ps [] h k = absurd (cc)
 unled_part ps (c ∷ cs) h k =
     either (c == 46) _ (λ e. let is = ap (λ x. x ∷ cs) (eqb-true c 46 e) in dotted_part ps (c ∷ cs) cs is (k cs is)) (λ e. rw (eqb-true c 91 (rw e at h)) refl)
 
--- behind a part
+-- after a part
 no_comma_here : (ps : Parts) (t : List ℕ) → Fails is_blank t → ((cs : List ℕ) → t ≡ 44 ∷ cs → ⊥) → 0 < length t → outcome (behind_part ps) t ≡ refuses BadToken (length t)
 no_comma_here ps t h k n = grind arith
 

@@ -8,7 +8,7 @@ count_is (x ∷ xs) = ap suc (count_is xs)
 
 -- a list that is made anew element by element, the trees of it, and what is to hold of the trees from a place on, before and after
 module _ {X T : Type 0} (trees : List X → T) (joins : List X → T → T) (R : ℕ → T → T → Type 0) where
-  -- what is still to come makes, behind what is done, what the whole list becomes
+  -- what is still to come makes, after what is done, what the whole list becomes
   abbrev SoFar : List X → ℕ → List X → Type 0
   SoFar all i now = (rest : T) → R i (trees (drop i now)) rest → R 0 (trees all) (joins (take i now) rest)
 

@@ -14,7 +14,7 @@ starts = record { front = []; blanks = []; is = refl; commas = refl; blank = ref
 pub leads_means : (t : List ℕ) (z : Place) → Leads (before_part []) t z → Means z t
 leads_means t z h = leads_kept (before_part []) [] t z starts h
 
--- how the text of segments begins: with a bracket, or with a dot and what a part may begin with behind a dot
+-- how the text of segments begins: with a bracket, or with a dot and what a part may begin with after a dot
 data Shape (text : List ℕ) : Type 0 where
   by_bracket : (r : List ℕ) → text ≡ 91 ∷ r → Shape text
   by_dot : (c : ℕ) (r : List ℕ) → text ≡ 46 ∷ c ∷ r → ((ps : Parts) → step (inside ps [] dot) c ≡ step (first_dot ps) c) → Shape text
@@ -53,7 +53,7 @@ by_first : (ps : Parts) (text : List ℕ) (z : Place) → Shape text → Leads (
 by_first ps text z (by_bracket r is) h = rw is (rw is at h)
 by_first ps text z (by_dot c r is same) h = rw is (behind_dot ps c r z (same ps) (rw is at h))
 
--- behind a first dot a bracket leads on as at the start
+-- after a first dot a bracket leads on as at the start
 led_first : (ps : Parts) (c : ℕ) (r : List ℕ) (z : Place) → c ≡ 91 → Leads (ready ps []) (c ∷ r) z → Leads (before_part ps) (46 ∷ c ∷ r) z
 unfolding unicode_ident is_xid_start
 led_first ps c r z e h = rw e (first_dot ps, refl, rw e at h)
@@ -96,7 +96,7 @@ stands_part ps ss text (to_end to h k) n = record { to = to; leads = h; at = k.p
 stands_part ps ss text (to_dot e f) n = rw (e, f) (record { to = first_dot ps; leads = (first_dot ps, refl, refl); at = dot_ends ps })
 stands_part ps ss text (at_start e f) n = absurd (n e)
 
--- blanks behind a part
+-- blanks after a part
 trail : (s : Place) (ps : Parts) (after : List ℕ) → PartEnds s ps → AreBlanks after → ToPart s after ps
 trail s ps [] h b = record { to = s; leads = refl; at = h }
 trail s ps (c ∷ cs) h b =
@@ -152,7 +152,7 @@ pub record Live (s : Place) : Type 0 where
   pub leads : Leads s rest to
   pub end : ended to ≡ Some parts
 
--- a place where the text may end, one behind a character, and one in front of a closing bracket
+-- a place where the text may end, one after a character, and one in front of a closing bracket
 end_live : (s : Place) (parts : Parts) → ended s ≡ Some parts → Live s
 end_live s parts e = record { rest = []; to = s; parts = parts; leads = refl; end = e }
 
@@ -201,7 +201,7 @@ leads_begins t z h =
 pub begins_leads : (t : List ℕ) → Begins t → (z : Place) × Leads (before_part []) t z
 begins_leads t h = let k = spelled_on (t ++ h.rest) h.parts h.spelled in let w = leads_half (before_part []) t h.rest k.to k.leads in (w.0, w.1)
 
--- a place where a bracket may open, and where a dot may stand behind a deep wildcard
+-- a place where a bracket may open, and where a dot may stand after a deep wildcard
 pub record MayOpen (s : Place) (text : List ℕ) (ps : Parts) (ss : List Segment) : Type 0 where
   pub to : Place
   pub leads : Leads s text to

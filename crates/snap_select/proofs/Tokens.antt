@@ -3,7 +3,7 @@ use Rattle.snap_select.proofs.Prelude.{◌≡◌, ℕ, ℤ, Bool, true, false, i
 use Rattle.std.proofs.lemmas.Int.Digits.{digits_push}
 use Rattle.std.proofs.lemmas.List.Folds.{list_all-append}
 
--- an opened range, up to the blanks behind its colon
+-- an opened range, up to the blanks after its colon
 pub record OpenRange (from : Option ℤ) (text : List ℕ) : Type 0 where
   pub blanks : List ℕ
   pub bound : List ℕ
@@ -15,7 +15,7 @@ pub record OpenRange (from : Option ℤ) (text : List ℕ) : Type 0 where
   pub blank_gap : AreBlanks gap
   pub blank_more : AreBlanks more
 
--- an opened number, up to the blanks behind it
+-- an opened number, up to the blanks after it
 pub record OpenNumber (negative : Bool) (digits gap text : List ℕ) : Type 0 where
   pub blanks : List ℕ
   pub is : text ≡ 91 ∷ blanks ++ signed negative digits ++ gap
@@ -38,7 +38,7 @@ TokenMeans (to_minus from) t = (front : List ℕ) × OpenRange from front × (t 
 TokenMeans (to_number from negative digits) t = (front : List ℕ) × OpenRange from front × (t ≡ front ++ signed negative digits) × IsNumeral 10 digits
 TokenMeans (closing segment) t = (blanks : List ℕ) → AreBlanks blanks → Spells segment (t ++ blanks ++ 93 ∷ [])
 
--- the text behind the character, or the one before it
+-- the text after the character, or the one before it
 abbrev pub MoveMeans : List ℕ → List ℕ → Move → Type 0
 MoveMeans t more (on token) = TokenMeans token more
 MoveMeans t more (ends segment) = Spells segment more
@@ -83,7 +83,7 @@ signed_more negative ds cs = grind arith
 pub bound_spelled : (negative : Bool) (digits : List ℕ) → IsNumeral 10 digits → SpellsBound (signed_value negative digits) (signed negative digits)
 bound_spelled negative digits h = record { negative = negative; digits = digits; is = refl; numeral = h; value = refl }
 
--- behind a number, with blanks or without
+-- after a number, with blanks or without
 index_spelled : (negative : Bool) (digits gap text : List ℕ) (c : ℕ) → OpenNumber negative digits gap text → (c == 93) && not negative ≡ true → Spells (Index (digits_value 10 digits)) (text ++ c ∷ [])
 index_spelled true digits gap text c h e = absurd (let q = and_parts (c == 93) false e in cc (q.1))
 index_spelled false digits gap text c h e = record {
@@ -142,7 +142,7 @@ first_digit negative blanks t c is h e = record {
   blank_gap = refl;
 }
 
--- behind the colon of a range
+-- after the colon of a range
 range_more : (from : Option ℤ) (t : List ℕ) (c : ℕ) → OpenRange from t → is_blank c ≡ true → OpenRange from (t ++ c ∷ [])
 range_more from t c h e = record {
   blanks = h.blanks;

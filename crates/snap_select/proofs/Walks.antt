@@ -59,7 +59,7 @@ digit_is c h = lt-ltb (digit_value c) 10 h
 pub no_blank : (c : ℕ) → digit_value c < 10 → is_blank c ≡ false
 no_blank c h = let a = digit_apart c 32 h (λ k. omega arith) in let b = digit_apart c 9 h (λ k. omega arith) in rw (a, b) refl
 
--- where a number stands: behind a bracket, or behind the colon of a range from that bound
+-- where a number stands: after a bracket, or after the colon of a range from that bound
 pub data Spot : Type 0 where
   behind_bracket : Spot
   behind_colon : Option ℤ → Spot
@@ -191,13 +191,13 @@ key_bracketed s ps ss key text h k =
     (inside ps ss (in_quotes []), refl, tokens_lead ps ss (in_quotes []) held.inside (in_quotes key) (quotes_on [] key held.inside held.quotes)) (inside ps ss (closing (Key key)), refl, refl))
     (closes ps ss (Key key) k.after k.blank_after)))
 
--- behind a number, along blanks
+-- after a number, along blanks
 gap_on : (negative : Bool) (digits : List ℕ) (count : ℕ) (gap : List ℕ) → AreBlanks gap → (total : ℕ) → total ≡ count + length gap → Ons (behind_number negative digits count) gap (behind_number negative digits total)
 gap_on negative digits count [] b total e = ap (behind_number negative digits) (sym (e ∙ omega arith))
 gap_on negative digits count (c ∷ cs) b total e =
     let q = and_parts (is_blank c) (list_all is_blank cs) b in (behind_number negative digits (suc count), rw q.0 refl, gap_on negative digits (suc count) cs q.1 total (omega (arith, e)))
 
--- where a number has been read, with blanks behind it or without
+-- where a number has been read, with blanks after it or without
 unfoldable pub at_number : Bool → List ℕ → List ℕ → Token
 at_number negative digits [] = number negative digits
 at_number negative digits (c ∷ cs) = behind_number negative digits (length (c ∷ cs))
@@ -233,7 +233,7 @@ index_on s ps ss digits before after text h b b' k is =
     (leads_as (inside ps ss bracket) ((digits ++ after) ++ 93 ∷ []) (digits ++ (after ++ 93 ∷ [])) z (append_assoc digits after (93 ∷ []))
     (leads_on (inside ps ss bracket) (digits ++ after) (93 ∷ []) (inside ps ss (at_number false digits after)) z (gap_leads ps ss false digits after k b') (z, ap (moved ps ss 93) (index_move digits after), refl)))
 
--- up to behind a colon
+-- up to after a colon
 pub from_leads : (ps : Parts) (ss : List Segment) (from : Option ℤ) (bound gap more : List ℕ) → MayBound from bound → AreBlanks gap → AreBlanks more
     → Leads (inside ps ss bracket) (bound ++ gap ++ 58 ∷ more) (inside ps ss (colon from))
 from_leads ps ss None bound gap more k b b' =

@@ -28,7 +28,7 @@ pub record BadTokenAt (text : List ℕ) (column : ℕ) : Type 0 where
   pub begins : Begins front
   pub stuck : IsStuck front back
 
--- the text of earlier parts, and of so many segments of the next one, behind which a bracket may stand
+-- the text of earlier parts, and of so many segments of the next one, after which a bracket may stand
 pub record Opens (segments : List Segment) (text : List ℕ) : Type 0 where
   pub earlier : Parts
   pub front : List ℕ
@@ -44,14 +44,14 @@ abbrev pub FitsIndex : Bool → List ℕ → Type 0
 FitsIndex negative digits = (negative ≡ false) × (digits_value 10 digits < 2 ^ 64)
 
 -- between what opens its brackets and what follows it, the number doesn't fit: it fits neither an index nor a bound; or the
--- colon behind it makes it a bound, and it fits none; or it is the second bound, and fits none
+-- colon after it makes it a bound, and it fits none; or it is the second bound, and fits none
 pub data IsTooLarge (opening : List ℕ) (negative : Bool) (digits after : List ℕ) : Type 0 where
   neither : (blanks : List ℕ) → opening ≡ 91 ∷ blanks → AreBlanks blanks → ¬ FitsIndex negative digits → ¬ FitsBound (signed_value negative digits) → IsTooLarge opening negative digits after
   first : (blanks gap back : List ℕ) → opening ≡ 91 ∷ blanks → AreBlanks blanks → after ≡ gap ++ 58 ∷ back → AreBlanks gap → ¬ FitsBound (signed_value negative digits) → IsTooLarge opening negative digits after
   second : (blanks bound gap gap' : List ℕ) (from : Option ℤ) → opening ≡ 91 ∷ blanks ++ bound ++ gap ++ 58 ∷ gap' → AreBlanks blanks → MayBound from bound → AreBlanks gap → AreBlanks gap'
       → ¬ FitsBound (signed_value negative digits) → IsTooLarge opening negative digits after
 
--- a number that doesn't fit begins at this column, its minus counted, behind a bracket that may stand there
+-- a number that doesn't fit begins at this column, its minus counted, after a bracket that may stand there
 pub record TooLargeAt (text : List ℕ) (column : ℕ) : Type 0 where
   pub before : List ℕ
   pub segments : List Segment

@@ -42,7 +42,7 @@ abbrev pub IsName : List ℕ → Type 0
 IsName [] = ⊥
 IsName (c ∷ cs) = IsTrue (begins_name c) × IsTrue (list_all is_xid_continue cs)
 
--- a character inside quotes: it stands there itself, or behind a backslash, as a quote and a backslash must
+-- a character inside quotes: it stands there itself, or after a backslash, as a quote and a backslash must
 abbrev pub Quoted : ℕ → List ℕ → List ℕ → Type 0
 Quoted c inside rest = ((inside ≡ c ∷ rest) × (c ≢ 34) × (c ≢ 92)) ⊎ (inside ≡ 92 ∷ c ∷ rest)
 
@@ -66,7 +66,7 @@ pub data SpellsKey (key text : List ℕ) : Type 0 where
 abbrev pub SpellsNumber : ℕ → List ℕ → Type 0
 SpellsNumber number text = IsNumeral 10 text × (digits_value 10 text ≡ number)
 
--- digits, behind a minus where the number is to be below zero
+-- digits, after a minus where the number is to be below zero
 abbrev pub signed : Bool → List ℕ → List ℕ
 signed negative digits = if negative then 45 ∷ digits else digits
 
@@ -99,7 +99,7 @@ Spells Wildcard text = text ≡ 46 ∷ 42 ∷ []
 Spells DeepWildcard text = text ≡ 46 ∷ 42 ∷ 42 ∷ []
 Spells (Range from to) text = Bracketed (SpellsBounds from to) text
 
--- the texts of segments, one behind the other
+-- the texts of segments, one after the other
 abbrev pub SpellsEach : List Segment → List ℕ → Type 0
 SpellsEach [] text = text ≡ []
 SpellsEach (s ∷ ss) text = Behind (Spells s) (SpellsEach ss) text
@@ -126,13 +126,13 @@ pub record SpellsPart (segments : List Segment) (text : List ℕ) : Type 0 where
   pub stands : Stands segments inside
   pub filled : inside ≢ []
 
--- a part, and a comma behind it
+-- a part, and a comma after it
 pub record BeforeComma (segments : List Segment) (text : List ℕ) : Type 0 where
   pub part : List ℕ
   pub is : text ≡ part ++ 44 ∷ []
   pub spelled : SpellsPart segments part
 
--- parts, each of them with a comma behind it
+-- parts, each of them with a comma after it
 abbrev pub EachBeforeComma : Parts → List ℕ → Type 0
 EachBeforeComma [] text = text ≡ []
 EachBeforeComma (p ∷ ps) text = Behind (BeforeComma p) (EachBeforeComma ps) text

@@ -6,7 +6,7 @@ use Rattle.std.specs.Ordering.{is_lt, ordering_then}
 use Rattle.snap_content.specs.Tree as t
 use Rattle.snap_content.specs.Orders.{text_cmp, tree_cmp}
 
--- an element behind those that are less
+-- an element after those that are less
 abbrev pub put_in : {X : Type 0} → (X → X → Ordering) → X → List X → List X
 put_in cmp x [] = x ∷ []
 put_in cmp x (y ∷ ys) = if is_lt (cmp y x) then y ∷ put_in cmp x ys else x ∷ y ∷ ys
@@ -44,7 +44,7 @@ pair_cmp p q = ordering_then (tree_cmp p.0 q.0) (tree_cmp p.1 q.1)
 abbrev pub field_cmp : List ℕ × t.Tree → List ℕ × t.Tree → Ordering
 field_cmp f g = ordering_then (text_cmp f.0 g.0) (tree_cmp f.1 g.1)
 
--- the tree with its list in order, behind its wrappers: the items of a list, the pairs of a map, the fields of a struct.
+-- the tree with its list in order, after its wrappers: the items of a list, the pairs of a map, the fields of a struct.
 -- Tuples and all else are as they are, and so is what stands below.
 abbrev pub in_order : t.Tree → t.Tree
 in_order (t.some inner) = t.some (in_order inner)

@@ -79,7 +79,7 @@ last_of count xs = drop (length xs - count) xs
 abbrev pub matches_whole : List Segment → List Step → Bool
 matches_whole ss path = length ss == length path && fit_each ss path
 
--- with one, there are more steps than segments before it, which fit the first steps; and those behind it fit the last
+-- with one, there are more steps than segments before it, which fit the first steps; and those after it fit the last
 -- steps, as far as both go
 abbrev pub matches_ends : List Segment → List Segment → List Step → Bool
 matches_ends before after path =

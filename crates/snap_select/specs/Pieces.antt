@@ -6,7 +6,7 @@ use Rattle.unicode_ident.specs.Ident.{is_xid_continue}
 use Rattle.snap_content.specs.Front.{begins}
 use Rattle.snap_select.specs.Grammar.{IsName, begins_name, signed_value}
 
--- what is left behind the characters that pass
+-- what is left after the characters that pass
 abbrev pub past : (ℕ → Bool) → List ℕ → List ℕ
 past passes [] = []
 past passes (c ∷ cs) = if passes c then past passes cs else c ∷ cs

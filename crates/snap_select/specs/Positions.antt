@@ -49,7 +49,7 @@ abbrev pub part_at : t.Tree → List ℕ → Option t.Tree
 part_at c [] = Some c
 part_at c (k ∷ ks) = option_and_then (λ child. part_at child.part ks) (slice_get (children c) k)
 
--- and the steps to it, behind those that lead to the tree
+-- and the steps to it, after those that lead to the tree
 abbrev pub path_at : List Step → t.Tree → List ℕ → Option (List Step)
 path_at path c [] = Some path
 path_at path c (k ∷ ks) = option_and_then (λ child. path_at (path ++ child.steps) child.part ks) (slice_get (children c) k)

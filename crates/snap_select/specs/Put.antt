@@ -12,7 +12,7 @@ use Rattle.snap_select.specs.declared.redaction.Redaction.TheVariants.{Static, S
 abbrev pub Allowed : Type 1
 Allowed = Tree → List Step → Tree → Type 0
 
--- what an object in a box allows is told by its table: X is the type of tables, P the type that stands behind each
+-- what an object in a box allows is told by its table: X is the type of tables, P the type that stands after each
 abbrev pub Objects : (X : Type 0) → (X → Type 0) → Type 1
 Objects X P = (v : X) → P v → Allowed
 

@@ -16,7 +16,7 @@ segments_reach ss path = option_map_or (λ at. fit_each (take at ss) path) (posi
 abbrev pub reaches : Parts → List Step → Bool
 reaches parts path = list_any (λ ss. segments_reach ss path) parts
 
--- the segments may match a path that has this step behind so many: one of the earlier segments is a deep wildcard, or the
+-- the segments may match a path that has this step after so many: one of the earlier segments is a deep wildcard, or the
 -- segment in the step's place fits it
 abbrev pub segments_open : List Segment → ℕ → Step → Bool
 segments_open ss count step = option_map_or (λ s. fits_step s step) (slice_get ss count) false || has_deep (take count ss)

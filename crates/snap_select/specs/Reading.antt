@@ -35,7 +35,7 @@ pub data Move : Type 0 where
   ended_before : Segment → Move
   nowhere : Move
 
--- behind a whole number: a colon makes it a bound, and a bracket an index
+-- after a whole number: a colon makes it a bound, and a bracket an index
 abbrev pub behind : Bool → List ℕ → ℕ → Move
 behind negative digits c =
     if c == 58 then on (colon (Some (signed_value negative digits))) else (
@@ -97,11 +97,11 @@ pub data Place : Type 0 where
   inside : Parts → List Segment → Token → Place
   behind_part : Parts → Place
 
--- behind a part
+-- after a part
 abbrev pub separate : Parts → ℕ → Option Place
 separate ps c = if is_blank c then Some (behind_part ps) else (if c == 44 then Some (before_part ps) else None)
 
--- behind a segment
+-- after a segment
 abbrev pub follow : Parts → List Segment → ℕ → Option Place
 follow ps ss c = if c == 46 then Some (inside ps ss dot) else (if c == 91 then Some (inside ps ss bracket) else separate (ps ++ ss ∷ []) c)
 

@@ -16,11 +16,11 @@ abbrev pub IsStop : Outcome → Stop → Type 0
 IsStop o (Fault kind rest) = o ≡ refuses kind (length (chars rest.now))
 IsStop o OutOfMemory = ⊤
 
--- behind any parts and segments, the text comes to what the rest comes to with one segment more, which is no deep wildcard
+-- after any parts and segments, the text comes to what the rest comes to with one segment more, which is no deep wildcard
 abbrev pub GoesOn : Token → List ℕ → Segment → List ℕ → Type 0
 GoesOn token text segment rest = (is_deep segment ≡ false) × ((ps : Parts) (ss : List Segment) → outcome (inside ps ss token) text ≡ outcome (ready ps (ss ++ segment ∷ [])) rest)
 
--- behind any parts and segments, the text comes to the fault of the stop
+-- after any parts and segments, the text comes to the fault of the stop
 abbrev pub StopsAt : Token → List ℕ → Stop → Type 0
 StopsAt token text stop = (ps : Parts) (ss : List Segment) → IsStop (outcome (inside ps ss token) text) stop
 
@@ -40,21 +40,21 @@ ReadsSegment text segment rest = (ps : Parts) (ss : List Segment) → outcome (r
 abbrev pub StopsReady : List ℕ → Stop → Type 0
 StopsReady text stop = (ps : Parts) (ss : List Segment) → IsStop (outcome (ready ps ss) text) stop
 
--- from that place behind any parts, the text comes to what the rest comes to with one part more
+-- from that place after any parts, the text comes to what the rest comes to with one part more
 abbrev pub ReadsPart : (Parts → Place) → List ℕ → List Segment → List ℕ → Type 0
 ReadsPart place text part rest = (ps : Parts) → outcome (place ps) text ≡ outcome (behind_part (ps ++ part ∷ [])) rest
 
 abbrev pub StopsPart : (Parts → Place) → List ℕ → Stop → Type 0
 StopsPart place text stop = (ps : Parts) → IsStop (outcome (place ps) text) stop
 
--- a closing bracket follows behind blanks, or none does
+-- a closing bracket follows after blanks, or none does
 abbrev pub Closes : List ℕ → List ℕ → Type 0
 Closes text rest = past is_blank text ≡ 93 ∷ rest
 
 abbrev pub ClosesNot : List ℕ → Stop → Type 0
 ClosesNot text stop = IsStop (refuses BadToken (length (past is_blank text))) stop × ((cs : List ℕ) → past is_blank text ≡ 93 ∷ cs → ⊥)
 
--- a number, and what is left behind it and blanks
+-- a number, and what is left after it and blanks
 pub record IsNumberBehind (text number rest : List ℕ) : Type 0 where
   pub after : List ℕ
   pub is : text ≡ number ++ after

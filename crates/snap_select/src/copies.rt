@@ -56,7 +56,7 @@ fn owned_parts(alloc: Global, parts: &[Part<'_>]) -> Result<Vec<Part<'static>>, 
     Ok(copies)
 }
 
-/// The one error of these calls is want of memory.
+/// The one error of these calls is out of memory.
 impl<'a> Selector<'a> {
     ghost use Rattle.snap_select.specs.Selectors.{parts_of};
 

@@ -32,7 +32,7 @@ impl FnRedactor {
     ghost use Rattle.snap_select.specs.Put.{Gives};
 
     /// The function in this box, which the caller makes, so that its contract is known there: whatever it puts is what that
-    /// contract promises of a call on such a value behind such steps.
+    /// contract promises of a call on such a value after such steps.
     pub fn new(func: RedactFn) -> FnRedactor
         requires { RedactFn.IsAlwaysCallable func }
         ensures { (t : Tree) (steps : List Step) (out : Tree) → Gives result t steps out

@@ -8,7 +8,7 @@ use snap_content::{Content, Fields, Items, OutOfMemory, Pairs, Text};
 use std::alloc::Global;
 use std::cmp::Ordering;
 
-/// The tree with its list in order, behind its wrappers.
+/// The tree with its list in order, after its wrappers.
 #[cycle(in_order)]
 pub(crate) fn in_order(alloc: Global, value: Content) -> Result<Content, OutOfMemory>
     ensures { IfOk result (λ out. tree out ≡ in_order (tree value)) }

@@ -105,7 +105,7 @@ fn is_deep_before(segments: &[Segment<'_>], count: usize) -> bool
     has_deep(&segments[..count.min(segments.len())])
 }
 
-/// Whether the segments may match a path that has this step behind so many, whatever those are.
+/// Whether the segments may match a path that has this step after so many, whatever those are.
 fn segments_open(segments: &[Segment<'_>], count: usize, step: StepRef<'_>) -> bool
     ensures { result ≡ segments_open segments.now count (lent_step step.entry) }
 {
@@ -120,7 +120,7 @@ impl Selector<'_> {
 
     /// Whether the selector matches the path: where one of its parts does. Without a deep wildcard a part has as many segments
     /// as the path has steps, of which each fits its own; with one, the segments before it fit the first steps, of which there
-    /// are fewer than the path has, and those behind it the last ones, as far as there are any.
+    /// are fewer than the path has, and those after it the last ones, as far as there are any.
     /// A key fits a text key and a field of that name, an index the item at that position and a key that is that number, a
     /// range the items between its bounds, and a wildcard every step.
     pub fn is_match(&self, path: &[PathItem]) -> bool
@@ -139,7 +139,7 @@ impl Selector<'_> {
             .iter()
             .any(|part| segments_reach(part.segments(), path))
     }
-    /// Whether one of the parts may match a path that has this step behind so many, whatever those are.
+    /// Whether one of the parts may match a path that has this step after so many, whatever those are.
     pub(crate) fn opens(&self, count: usize, step: StepRef<'_>) -> bool
         ensures { result ≡ opens (parts_of self.now) count (lent_step step.entry) }
     {

@@ -4,7 +4,7 @@ ghost use Rattle.std.specs.Prelude.{◌≡◌};
 use crate::segment::Segment;
 use std::marker::Model;
 
-/// A part of a selector: its segments, one behind the other.
+/// A part of a selector: its segments, one after the other.
 #[derive(Debug, Drop)]
 pub struct Part<'a> {
     segments: Vec<Segment<'a>>,

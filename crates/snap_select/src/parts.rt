@@ -39,7 +39,7 @@ fn read_segments<'a>(alloc: Global, text: &'a str) -> Result<(Part<'a>, &'a str)
     Ok((Part::of(segments), rest))
 }
 
-/// The part behind a dot that no name and no star follows, and what follows the part.
+/// The part after a dot that no name and no star follows, and what follows the part.
 fn read_led<'a>(alloc: Global, text: &'a str) -> Result<(Part<'a>, &'a str), Stop<'a>>
     requires { goes_on_dot (chars text.now) ≡ false }
     ensures ok { IfOk result (λ p. ReadsPart first_dot (chars text.now) p.0 (chars p.1.now)) }
@@ -68,7 +68,7 @@ fn read_unled<'a>(alloc: Global, text: &'a str) -> Result<(Part<'a>, &'a str), S
     }
 }
 
-/// The part at the front, behind blanks, and what follows it.
+/// The part at the front, after blanks, and what follows it.
 pub(crate) fn read_part<'a>(alloc: Global, text: &'a str) -> Result<(Part<'a>, &'a str), Stop<'a>>
     ensures ok { IfOk result (λ p. ReadsPart before_part (chars text.now) p.0 (chars p.1.now)) }
     ensures stop { IfErr result (λ s. StopsPart before_part (chars text.now) s) }

@@ -16,7 +16,7 @@ fn is_blank(character: char) -> bool
     character == ' ' || character == '\t'
 }
 
-/// What is left behind blanks and tabs.
+/// What is left after blanks and tabs.
 pub(crate) fn past_blanks(text: &str) -> &str
     ensures { chars result.now ≡ past is_blank (chars text.now) }
 {
@@ -47,7 +47,7 @@ pub(crate) fn goes_on_dot(text: &str) -> bool
     }
 }
 
-/// What is left behind the characters that a name may go on with.
+/// What is left after the characters that a name may go on with.
 fn past_name(text: &str) -> &str
     ensures { chars result.now ≡ past is_xid_continue (chars text.now) }
 {
@@ -82,7 +82,7 @@ fn is_decimal(character: char) -> bool
     character.to_digit(10).is_some()
 }
 
-/// What is left behind the digits.
+/// What is left after the digits.
 fn past_digits(text: &str) -> &str
     ensures { chars result.now ≡ past is_decimal (chars text.now) }
 {

@@ -12,7 +12,7 @@ use snap_content::characters::{after_character, before_rest, split_first};
 use snap_content::{Lent, OutOfMemory, Text};
 use std::alloc::Global;
 
-/// What is left behind the characters that are no quote and no backslash.
+/// What is left after the characters that are no quote and no backslash.
 fn past_plain(text: &str) -> &str
     ensures { chars result.now ≡ past is_plain (chars text.now) }
 {
@@ -37,7 +37,7 @@ fn split_plain(text: &str) -> Option<(&str, &str)>
     Some((before_rest(text, quote), rest))
 }
 
-/// The character that is kept, and what follows: the one behind a backslash, or the character itself.
+/// The character that is kept, and what follows: the one after a backslash, or the character itself.
 fn kept_character<'a>(character: char, text: &'a str) -> Option<(char, &'a str)>
     requires { character ≢ 34 }
     ensures kept { (ps : Parts) (ss : List Segment) (key : List ℕ)
@@ -78,7 +78,7 @@ fn read_escaped(alloc: Global, text: &str) -> Result<Option<(Text, &str)>, OutOf
     Ok(None)
 }
 
-/// The key behind an opening quote, and what follows the closing one; none where that is missing.
+/// The key after an opening quote, and what follows the closing one; none where that is missing.
 pub(crate) fn read_quoted<'a>(
     alloc: Global,
     text: &'a str,

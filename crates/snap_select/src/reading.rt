@@ -15,7 +15,7 @@ use snap_content::Lent;
 use snap_content::characters::{after_character, begins_with};
 use std::alloc::Global;
 
-/// The segment, where a closing bracket follows behind blanks, and the text behind that.
+/// The segment, where a closing bracket follows after blanks, and the text after that.
 fn closed<'a>(segment: Segment<'a>, text: &'a str) -> Result<(Segment<'a>, &'a str), Stop<'a>>
     ensures ok { IfOk result (λ p.
         (p.0 ≡ segment.entry) × Closes (chars text.now) (chars p.1.now)) }
@@ -28,7 +28,7 @@ fn closed<'a>(segment: Segment<'a>, text: &'a str) -> Result<(Segment<'a>, &'a s
     }
 }
 
-/// The range from the first bound up to the one at the front, and the text behind the closing bracket.
+/// The range from the first bound up to the one at the front, and the text after the closing bracket.
 fn read_second<'a>(from: Option<i64>, text: &'a str) -> Result<(Segment<'a>, &'a str), Stop<'a>>
     requires no_blank { Fails is_blank (chars text.now) }
     requires no_bracket { (cs : List ℕ) → chars text.now ≡ 93 ∷ cs → ⊥ }
@@ -45,7 +45,7 @@ fn read_second<'a>(from: Option<i64>, text: &'a str) -> Result<(Segment<'a>, &'a
     }
 }
 
-/// The range from that bound, behind its colon, and the text behind the closing bracket.
+/// The range from that bound, after its colon, and the text after the closing bracket.
 fn read_to<'a>(from: Option<i64>, text: &'a str) -> Result<(Segment<'a>, &'a str), Stop<'a>>
     ensures ok { IfOk result (λ p. GoesOn (colon from) (chars text.now) p.0 (chars p.1.now)) }
     ensures stop { IfErr result (λ s. StopsAt (colon from) (chars text.now) s) }
@@ -58,7 +58,7 @@ fn read_to<'a>(from: Option<i64>, text: &'a str) -> Result<(Segment<'a>, &'a str
     }
 }
 
-/// The index of that number, which no colon follows, and the text behind the closing bracket.
+/// The index of that number, which no colon follows, and the text after the closing bracket.
 fn read_index<'a>(
     text: &'a str,
     number: &'a str,
@@ -82,7 +82,7 @@ fn read_index<'a>(
     }
 }
 
-/// The index, or the range, that begins with a number, and the text behind the closing bracket.
+/// The index, or the range, that begins with a number, and the text after the closing bracket.
 fn read_number<'a>(text: &'a str) -> Result<(Segment<'a>, &'a str), Stop<'a>>
     requires no_blank { Fails is_blank (chars text.now) }
     requires no_quote { (cs : List ℕ) → chars text.now ≡ 34 ∷ cs → ⊥ }
@@ -105,7 +105,7 @@ fn read_number<'a>(text: &'a str) -> Result<(Segment<'a>, &'a str), Stop<'a>>
     }
 }
 
-/// The index, or the range, behind an opening bracket and blanks, and the text behind the closing bracket.
+/// The index, or the range, after an opening bracket and blanks, and the text after the closing bracket.
 fn read_numbers<'a>(text: &'a str) -> Result<(Segment<'a>, &'a str), Stop<'a>>
     requires no_blank { Fails is_blank (chars text.now) }
     requires no_quote { (cs : List ℕ) → chars text.now ≡ 34 ∷ cs → ⊥ }
@@ -122,7 +122,7 @@ fn read_numbers<'a>(text: &'a str) -> Result<(Segment<'a>, &'a str), Stop<'a>>
     }
 }
 
-/// The key behind an opening quote, and the text behind the closing bracket.
+/// The key after an opening quote, and the text after the closing bracket.
 fn read_key<'a>(alloc: Global, text: &'a str) -> Result<(Segment<'a>, &'a str), Stop<'a>>
     ensures ok { IfOk result (λ p. GoesOn (in_quotes []) (chars text.now) p.0 (chars p.1.now)) }
     ensures stop { IfErr result (λ s. StopsAt (in_quotes []) (chars text.now) s) }
@@ -134,7 +134,7 @@ fn read_key<'a>(alloc: Global, text: &'a str) -> Result<(Segment<'a>, &'a str), 
     }
 }
 
-/// The segment behind an opening bracket, and the text behind the closing one.
+/// The segment after an opening bracket, and the text after the closing one.
 fn read_bracketed<'a>(alloc: Global, text: &'a str) -> Result<(Segment<'a>, &'a str), Stop<'a>>
     ensures ok { IfOk result (λ p. GoesOn bracket (chars text.now) p.0 (chars p.1.now)) }
     ensures stop { IfErr result (λ s. StopsAt bracket (chars text.now) s) }
@@ -147,7 +147,7 @@ fn read_bracketed<'a>(alloc: Global, text: &'a str) -> Result<(Segment<'a>, &'a 
     }
 }
 
-/// The wildcard behind a dot and a star, and the text behind it.
+/// The wildcard after a dot and a star, and the text after it.
 fn read_wildcard<'a>(text: &'a str) -> (Segment<'a>, &'a str)
     ensures read { ReadsWildcard (chars text.now) result.0 (chars result.1.now) }
     ensures within { length (chars result.1.now) ≤ length (chars text.now) }
@@ -158,7 +158,7 @@ fn read_wildcard<'a>(text: &'a str) -> (Segment<'a>, &'a str)
     }
 }
 
-/// The segment behind a dot, and the text behind it.
+/// The segment after a dot, and the text after it.
 fn read_dotted<'a>(text: &'a str) -> Result<(Segment<'a>, &'a str), Stop<'a>>
     ensures ok { IfOk result (λ p. ReadsDotted (chars text.now) p.0 (chars p.1.now)) }
     ensures stop { IfErr result (λ s. StopsAt dot (chars text.now) s) }
@@ -180,7 +180,7 @@ pub(crate) fn begins_segment(text: &str) -> bool
     begins_with(text, '.') || begins_with(text, '[')
 }
 
-/// The first segment of what is left, and the text behind it.
+/// The first segment of what is left, and the text after it.
 pub(crate) fn read_segment<'a>(
     alloc: Global,
     text: &'a str,

@@ -39,7 +39,7 @@ fn key_name(alloc: Global) -> Result<Text, OutOfMemory>
     Text::from_ascii(alloc, "$key")
 }
 
-// Where the walk itself ends a tree or a step, each goal behind has the steps of that, and where one is alive at an early return,
+// Where the walk itself ends a tree or a step, each later goal has the steps of that, and where one is alive at an early return,
 // each of them is walked through there. So they end in calls of `drop`, and a name stands for the step that is made of it.
 
 /// The name of the field that the step leads into. Any other step has none.
@@ -55,7 +55,7 @@ fn name_of(step: PathItem) -> Text
     }
 }
 
-/// The key that the step leads behind. Any other step has none.
+/// The key that the step leads after. Any other step has none.
 fn key_of(step: PathItem) -> Content
     ensures { (key : Content) → step ≡ PathItem.Content key → result ≡ key }
 {
@@ -113,7 +113,7 @@ fn redact_at<P: Put>(
     Ok(())
 }
 
-/// The same behind one step more, which comes back.
+/// The same after one step more, which comes back.
 #[cycle(redact)]
 fn redact_behind<P: Put>(
     value: &mut Content,
@@ -134,7 +134,7 @@ fn redact_behind<P: Put>(
     Ok(taken_step(path))
 }
 
-/// The same in a box, behind the same steps.
+/// The same in a box, after the same steps.
 #[cycle(redact)]
 fn redact_box<P: Put>(
     mut inner: Box<Content>,
@@ -203,7 +203,7 @@ fn redact_inside<P: Put>(
     }
 }
 
-/// The items of a list, each redacted behind its place.
+/// The items of a list, each redacted after its place.
 #[cycle(redact)]
 fn redact_list<P: Put>(
     list: Items,
@@ -244,7 +244,7 @@ fn redact_items<P: Put>(
     Ok(())
 }
 
-/// The item at a place, redacted behind it.
+/// The item at a place, redacted after it.
 #[cycle(redact)]
 fn redact_item<P: Put>(
     item: &mut Content,
@@ -317,7 +317,7 @@ fn redact_pairs<P: Put>(
     Ok(())
 }
 
-/// First the value, so that its step has the key as it was; then the key behind the field of that name, where a match may lie there.
+/// First the value, so that its step has the key as it was; then the key after the field of that name, where a match may lie there.
 #[cycle(redact)]
 fn redact_pair<P: Put>(
     pair: &mut (Content, Content),
@@ -347,7 +347,7 @@ fn redact_pair<P: Put>(
     redact_named(&mut pair.0, name, selector, put, alloc, path)
 }
 
-/// The value of a pair, redacted behind its key.
+/// The value of a pair, redacted after its key.
 #[cycle(redact)]
 fn redact_value<P: Put>(
     pair: &mut (Content, Content),
@@ -372,7 +372,7 @@ fn redact_value<P: Put>(
     Ok(())
 }
 
-/// The tree in the field of that name, redacted behind it.
+/// The tree in the field of that name, redacted after it.
 #[cycle(redact)]
 fn redact_named<P: Put>(
     value: &mut Content,
@@ -397,7 +397,7 @@ fn redact_named<P: Put>(
     Ok(())
 }
 
-/// The fields of a struct, each redacted behind its name.
+/// The fields of a struct, each redacted after its name.
 #[cycle(redact)]
 fn redact_struct<P: Put>(
     list: Fields,
@@ -495,7 +495,7 @@ impl Selector<'_> {
     /// The tree with what the redaction puts in place of each part whose path the selector matches. Nothing below such a part is visited.
     /// The path of the tree is empty. The key of a map stands in the field `$key`, its value under the key as it was; an
     /// item of a list, a tuple, a tuple struct and a tuple variant at its place, and the value of a field under the
-    /// field's name. `Some`, newtypes and names of variants add nothing to a path. The one error is want of memory.
+    /// field's name. `Some`, newtypes and names of variants add nothing to a path. The one error is out of memory.
     pub fn redact(
         &self,
         alloc: Global,

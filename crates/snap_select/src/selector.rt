@@ -23,7 +23,7 @@ pub struct Selector<'a> {
     pub(crate) parts: Vec<Part<'a>>,
 }
 
-/// What follows the comma behind a part; none where the text ends.
+/// What follows the comma after a part; none where the text ends.
 fn behind_comma<'a>(text: &'a str) -> Result<Option<&'a str>, Stop<'a>>
     ensures ok { IfOk result (λ found. (ps : Parts)
         → MatchOption found (outcome (behind_part ps) (chars text.now) ≡ selects ps)
@@ -119,8 +119,8 @@ impl<'a> Selector<'a> {
     /// The selector that the text spells: parts with commas between them, and blanks or tabs round them. A part is `.` for
     /// the root, or a segment for each step: `.key` or `["key"]`, `[index]`, `.*`, `[from:to]` with both bounds or without,
     /// `[]` for every item, and at most once `.**`. Blanks may stand inside brackets.
-    /// A key behind a dot begins with `_`, `$` or a character that begins an identifier, and goes on as an identifier does.
-    /// In quotes a backslash is dropped, and the character behind it kept. A dot may stand before a first bracket.
+    /// A key after a dot begins with `_`, `$` or a character that begins an identifier, and goes on as an identifier does.
+    /// In quotes a backslash is dropped, and the character after it kept. A dot may stand before a first bracket.
     /// Any other text is refused at its first fault: `TooLarge` at a number that doesn't fit, 64 bits for an index and 64 bits
     /// with a sign for a bound, `DeepTwice` at the second `.**` of a part, `BadToken` at the character with which no selector
     /// goes on.

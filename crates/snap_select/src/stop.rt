@@ -3,7 +3,7 @@ use crate::fault::SelectFault;
 use snap_content::OutOfMemory;
 use std::alloc::AllocFailed;
 
-/// A fault, with the text from there on, or want of memory.
+/// A fault, with the text from there on, or out of memory.
 #[derive(Debug, Drop)]
 pub enum Stop<'a> {
     Fault(SelectFault, &'a str),

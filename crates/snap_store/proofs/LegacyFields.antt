@@ -1,7 +1,7 @@
 -- What the lines of a file without a header tell.
 use Rattle.snap_store.proofs.Prelude.{◌≡◌, ◌==◌, ℕ, List, [], ◌∷◌, Bool, true, false, cond, map, drop, Option, None, Some, Bor, refl, sym, ap, ◌∙◌, codes, true-eqb, MatchOption, option_map, chars, ended_lines, line_of, before_blank, behind_name, legacy_lines, legacy_field, Meta, empty_meta, legacy_meta}
 
--- behind the whole name a colon must stand
+-- after the whole name a colon must stand
 pub colon_behind : (result : Option (Bor (List ℕ))) (letters rest : List ℕ) → letters ≡ []
     → MatchOption result ((cs : List ℕ) → rest ≡ 58 ∷ cs → ⊥) (λ more. rest ≡ 58 ∷ chars more.now)
     → option_map (λ more. chars more.now) result ≡ behind_name letters rest
@@ -17,7 +17,7 @@ colon_behind result letters rest none h = at_end result rest h ∙ ap (λ ls. be
     at_end None (c ∷ cs) h = no_colon c cs h (c == 58) refl
     at_end (Some more) rest h = sym (ap (behind_name []) h)
 
--- the field of a name, in the lines behind the first one
+-- the field of a name, in the lines after the first one
 pub field_told : (text lines : List ℕ) (name : List ℕ) (value : Option (List ℕ)) → chars name ≡ name → ended_lines lines ≡ drop 1 (ended_lines text)
     → value ≡ legacy_field (chars name) (before_blank (map line_of (ended_lines lines))) → value ≡ legacy_field name (before_blank (legacy_lines text))
 field_told text lines name value plain behind is =

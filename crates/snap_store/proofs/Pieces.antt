@@ -10,7 +10,7 @@ pieces-line [] more h = refl
 pieces-line (c ∷ line) more h =
     inside c line h (line ++ 10 ∷ more) ∙ ap (onto c) (pieces-line line more (or_right (is_line_end c) (list_any is_line_end line) h))
 
--- a line behind a line's end
+-- a line after a line's end
 abbrev pub behind_break : List ℕ → List ℕ
 behind_break line = 10 ∷ line
 

@@ -12,7 +12,7 @@ pub use Rattle.snap_content.proofs.Booleans.{or_left, or_right}
 pub use Rattle.snap_content.proofs.Views.{tree-Map}
 pub use Rattle.snap_content.specs.Lines.{ended}
 pub use Rattle.snap_content.specs.Plain.{plain, text, int, dict, Entries, entry, no_entries, pair_entries, Plain, content_of, null, bool, list, no_items, item}
-pub use Rattle.snap_content.specs.Readable.{IsWithin}
+pub use Rattle.snap_print.specs.Readable.{IsWithin}
 pub use Rattle.snap_content.specs.View.{tree, pair_list, pair_trees, Pairs}
 pub use Rattle.snap_content.specs.declared.content.Content.{Content, String, U32, Map, the_lemmas}
 pub use Rattle.snap_content.specs.declared.error.Error.{Error}

@@ -2,7 +2,7 @@
 use Rattle.snap_store.proofs.Prelude.{◌≡◌, ◌<◌, ◌^◌, inl, inr, ℕ, pos, Bool, true, false, List, [], ◌∷◌, ◌++◌, Option, None, Some, refl, sym, ap, ◌∙◌, subst, append_assoc, codes, IfSome, option_map, plain, content_of, dict, Entries, IsWithin, document_of, lines_of, body_of, is_headed, kind_told, fields_told, kind_in, fields, Meta, text_field, line_field, info_field, kind_fields, header_tree, text_pair, info_pair, kind_pairs, meta_in, contents_in, legacy_in, number_text_in, SnapshotKind, Error}
 use Rattle.std.proofs.Common.{◌⊎◌, arith}
 use Rattle.snap_content.specs.Plain.{number_tree, pairs_made}
-use Rattle.snap_content.specs.Readable.{AreEntriesWithin}
+use Rattle.snap_print.specs.Readable.{AreEntriesWithin}
 use Rattle.snap_content.specs.Tree as t
 use Rattle.snap_content.specs.declared.error.Error.TheVariants.{FailedParsingYaml, UnexpectedDataType, MissingField, FileIo, FloatText, JsonKey, NotText, NoFile, OutOfMemory}
 use Rattle.snap_emit.specs.Spelled.{IsPrintedOf}

@@ -4,7 +4,7 @@ use Rattle.std.proofs.lemmas.Slice.Eq.{bytes_eq-Decides}
 use Rattle.snap_print.specs.Blocks.{Blocks, before_more, as_block, kept_ends, block_sign}
 use Rattle.snap_print.specs.Lines.{behind, marked, keyed, block_lines, is_simple, indented, before_items, before_entries, item_lines, entry_lines}
 use Rattle.snap_print.specs.Printed.{IsRow, AreRows, is_break, begins_dashes}
-use Rattle.snap_content.specs.Spell.{spelling, is_flat}
+use Rattle.snap_print.specs.Spell.{spelling, is_flat}
 use Rattle.snap_store.proofs.Pieces.{pieces-line}
 use Rattle.snap_store.proofs.LineEnds.{ended_by_feed}
 use Rattle.snap_store.proofs.Bodies.{body-headed}

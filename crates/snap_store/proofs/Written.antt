@@ -1,4 +1,4 @@
--- What a store holds behind a write, and where nothing was written.
+-- What a store holds after a write, and where nothing was written.
 use Rattle.snap_store.proofs.Prelude.{◌≡◌, ℕ, List, Option, Some, Result, Ok, Err, refl, ap, sym, ◌∙◌, subst, OnOk, OnErr, insert, encode_utf8_all, IsUtf8, chars, Error, Files, SameBut}
 use Rattle.std.proofs.lemmas.Str.{encodes-chars}
 

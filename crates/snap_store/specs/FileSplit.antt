@@ -37,7 +37,7 @@ abbrev pub up_to_fence : List (List ℕ) → List (List ℕ)
 up_to_fence [] = []
 up_to_fence (piece ∷ rest) = if is_fence piece then [] else piece ∷ up_to_fence rest
 
--- the pieces behind the next fence
+-- the pieces after the next fence
 abbrev pub past_fence : List (List ℕ) → List (List ℕ)
 past_fence [] = []
 past_fence (piece ∷ rest) = if is_fence piece then rest else past_fence rest
@@ -63,7 +63,7 @@ is_headed text = first_is_fence (ended_lines text)
 abbrev pub header_of : List ℕ → List ℕ
 header_of text = header_text (ended_lines text)
 
--- of a headed text: the lines behind the header's end
+-- of a headed text: the lines after the header's end
 abbrev pub headed_body : List ℕ → List ℕ
 headed_body text = lines_text (past_fence (drop 1 (ended_lines text)))
 
@@ -79,7 +79,7 @@ abbrev pub before_blank : List (List ℕ) → List (List ℕ)
 before_blank [] = []
 before_blank (line ∷ lines) = if is_blank line then [] else line ∷ before_blank lines
 
--- the lines behind the first blank one are the body
+-- the lines after the first blank one are the body
 abbrev pub past_blank : List (List ℕ) → List (List ℕ)
 past_blank [] = []
 past_blank (line ∷ lines) = if is_blank line then lines else past_blank lines
@@ -92,7 +92,7 @@ abbrev pub trimmed_front : List ℕ → List ℕ
 trimmed_front [] = []
 trimmed_front (c ∷ cs) = if is_whitespace c then trimmed_front cs else c ∷ cs
 
--- what stands behind the name and a colon, where the line begins with them; case does not count in ASCII
+-- what stands after the name and a colon, where the line begins with them; case does not count in ASCII
 abbrev pub behind_name : List ℕ → List ℕ → Option (List ℕ)
 behind_name name [] = None
 behind_name [] (c ∷ cs) = if c == 58 then Some cs else None
@@ -112,7 +112,7 @@ legacy_expression text = legacy_field (codes "expression") (before_blank (legacy
 abbrev pub legacy_source : List ℕ → Option (List ℕ)
 legacy_source text = legacy_field (codes "source") (before_blank (legacy_lines text))
 
--- what the snapshot's text is: it stands behind the header, or behind the first blank line where there is none
+-- what the snapshot's text is: it stands after the header, or after the first blank line where there is none
 abbrev pub body_of : List ℕ → List ℕ
 body_of text = if is_headed text then headed_body text else legacy_body text
 

@@ -1,7 +1,7 @@
 -- What a text snapshot that was saved is read back as.
 use Rattle.std.specs.Prelude.{◌≡◌, ◌<◌, ◌^◌, ℕ, List, false, IfSome, option_map}
 use Rattle.snap_content.specs.Plain.{plain, content_of}
-use Rattle.snap_content.specs.Readable.{IsWithin}
+use Rattle.snap_print.specs.Readable.{IsWithin}
 use Rattle.snap_text.specs.Normal.{normal}
 use Rattle.snap_store.specs.Meta.{Meta}
 use Rattle.snap_store.specs.MetaTree.{without_nil_info}

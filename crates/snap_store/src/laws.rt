@@ -1,7 +1,7 @@
 //! Laws of snapshots.
 ghost use Rattle.std.specs.Prelude.{◌≡◌, ◌<◌, ◌^◌, ◌⊎◌, ℕ, List, Option, IfSome, true};
 ghost use Rattle.snap_content.specs.Plain.{Plain, plain};
-ghost use Rattle.snap_content.specs.Readable.{IsWithin};
+ghost use Rattle.snap_print.specs.Readable.{IsWithin};
 ghost use Rattle.snap_print.specs.Blocks.{Blocks};
 ghost use Rattle.snap_print.specs.Lines.{text_of};
 ghost use Rattle.snap_print.specs.Printed.{is_trimmed};

@@ -28,7 +28,7 @@ pub fn legacy_metadata(alloc: Global, text: &str) -> Result<MetaData, OutOfMemor
     Ok(metadata)
 }
 
-/// The lines behind the first blank one, joined. The one error is that memory is out.
+/// The lines after the first blank one, joined. The one error is that memory is out.
 pub fn legacy_text(alloc: Global, text: &str) -> Result<Text, OutOfMemory>
     ensures { IfOk result (λ body. body ≡ legacy_body (chars text.now)) }
 {
@@ -51,7 +51,7 @@ fn is_blank(line: &str) -> bool
     is_same(trimmed_text(line), "")
 }
 
-/// What stands behind the first blank line.
+/// What stands after the first blank line.
 fn behind_blank(text: &str) -> &str
     ensures { map line_of (ended_lines (chars result.now))
         ≡ past_blank (map line_of (ended_lines (chars text.now))) }
@@ -105,7 +105,7 @@ fn field_value<'a>(line: &'a str, name: &str) -> Option<&'a str>
     }
 }
 
-/// What stands behind the name and a colon, where the line begins with them. The name is in small letters.
+/// What stands after the name and a colon, where the line begins with them. The name is in small letters.
 fn behind_name<'a>(line: &'a str, name: &str) -> Option<&'a str>
     ensures { option_map (λ rest. chars rest.now) result
         ≡ behind_name (chars name.now) (chars line.now) }

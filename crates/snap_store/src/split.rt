@@ -70,7 +70,7 @@ fn push_header(alloc: Global, header: &mut Text, text: &str) -> Result<(), OutOf
     Ok(())
 }
 
-/// What stands behind the next fence.
+/// What stands after the next fence.
 fn behind_fence(text: &str) -> &str
     ensures { ended_lines (chars result.now) ≡ past_fence (ended_lines (chars text.now)) }
 {

@@ -23,7 +23,7 @@ pub fn strip_suffix<'a>(text: &'a str, suffix: &str) -> Option<&'a str>
     text.strip_suffix(suffix)
 }
 
-/// What stands before and behind the first place of the mark.
+/// What stands before and after the first place of the mark.
 pub fn split_once(text: &str, mark: char) -> Option<(&str, &str)>
     ensures cut { MatchOption result (Lacks mark (chars text.now))
         (λ parts. IsCutAtFirst mark (chars text.now) (chars parts.0.now) (chars parts.1.now)) }
@@ -59,7 +59,7 @@ pub fn split_at_byte(text: &str, mark: u8) -> Option<(&str, &str)>
     }
 }
 
-/// What stands before and behind the last place of the mark.
+/// What stands before and after the last place of the mark.
 pub fn rsplit_once(text: &str, mark: char) -> Option<(&str, &str)>
     ensures cut { MatchOption result (Lacks mark (chars text.now))
         (λ parts. IsCutAtLast mark (chars text.now) (chars parts.0.now) (chars parts.1.now)) }
@@ -69,7 +69,7 @@ pub fn rsplit_once(text: &str, mark: char) -> Option<(&str, &str)>
     text.rsplit_once(mark)
 }
 
-/// What stands behind the last place of the mark: the whole text where there is none.
+/// What stands after the last place of the mark: the whole text where there is none.
 pub fn last_part(text: &str, mark: char) -> &str
     ensures { IsLastPart mark (chars text.now) (chars result.now) }
 {

@@ -7,7 +7,7 @@ pub use Rattle.std.specs.Str.{chars, IsUtf8}
 pub use Rattle.snap_content.proofs.Booleans.{or_left, or_right}
 pub use Rattle.snap_content.specs.Lines.{ended}
 pub use Rattle.snap_content.specs.Plain.{Plain}
-pub use Rattle.snap_content.specs.Readable.{IsWithin}
+pub use Rattle.snap_print.specs.Readable.{IsWithin}
 pub use Rattle.snap_text_literals.specs.Inline.{inline_normal, from_byte, written}
 pub use Rattle.snap_text_literals.specs.Normal.{trimmed}
 pub use Rattle.snap_text_literals.specs.Spelled.{spelled, meant, IsIndentation}

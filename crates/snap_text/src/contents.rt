@@ -1,4 +1,4 @@
-//! The text of a snapshot, with its kind. The one error of these calls is want of memory.
+//! The text of a snapshot, with its kind. The one error of these calls is out of memory.
 ghost use Rattle.std.specs.Prelude.{◌≡◌, ◌↔◌, IsTrue, IfOk};
 ghost use Rattle.std.specs.Str.{chars};
 ghost use Rattle.snap_text_literals.specs.OfLiteral.{of_literal};

@@ -28,7 +28,7 @@ unsigned text body is never = ap (begins sign) (sym is) ∙ by body never
     by [] n = refl
     by (c ∷ cs) n = ne_eqb c 8942 (λ e. n cs (ap (λ d. d ∷ cs) e))
 
--- what stands behind the last line end
+-- what stands after the last line end
 lacking : (part : List ℕ) → Lacks 10 part → part ≡ last_line part
 lacking [] h = refl
 lacking (c ∷ cs) h = ap (λ b. cond b (last_line cs) (c ∷ cs)) (sym h)

@@ -65,7 +65,7 @@ cut-indent n c cs h =
     let outside : nat_lt (suc n) (len_utf8 c) ≡ false = grind (arith, nat_tests, width) in
     cond-false (suc n == 0) _ _ (not_none n) ∙ cond-false (nat_lt (suc n) (len_utf8 c)) _ _ outside ∙ ap (λ k. from_byte k cs) left
 
--- what is cut is the whole, nothing, or what is cut behind the first character
+-- what is cut is the whole, nothing, or what is cut after the first character
 pub from_byte-either : (P : List ℕ → Type 0) (n c : ℕ) (cs : List ℕ) → P (c ∷ cs) → P [] → P (from_byte (n - len_utf8 c) cs) → P (from_byte n (c ∷ cs))
 from_byte-either P n c cs all none more = cond_both (n == 0) _ _ P (λ _. all) (λ _. cond_both (nat_lt n (len_utf8 c)) _ _ P (λ _. none) (λ _. more))
 

@@ -129,7 +129,7 @@ least-last found best ((c ∷ cs) ∷ m ∷ ls) w =
     cond_both (not found || nat_lt (length (lead (c ∷ cs))) (length best)) _ _ (λ t. length t ≤ length (lead (last_of (m ∷ ls))))
     (λ _. least-last true (lead (c ∷ cs)) (m ∷ ls) w) (λ _. least-last found best (m ∷ ls) w)
 
--- white space behind the last line
+-- white space after the last line
 first_end : (ws : List ℕ) → Lacks 10 ws ⊎ ((before : List ℕ) × (after : List ℕ) × (ws ≡ before ++ 10 ∷ after) × Lacks 10 before)
 first_end [] = inl refl
 first_end (c ∷ cs) = by (c == 10) refl (first_end cs)
@@ -162,7 +162,7 @@ chop-behind [] d ds = refl
 chop-behind (c ∷ []) d ds = refl
 chop-behind (c ∷ e ∷ es) d ds = ap (λ t. c ∷ t) (chop-behind (e ∷ es) d ds)
 
--- the last line, with white space behind it, is a first line with white space behind it, and lines of white space
+-- the last line, with white space after it, is a first line with white space after it, and lines of white space
 record IsLast (line : List ℕ) (ls : List (List ℕ)) : Type 0 where
   end : List ℕ
   rest : List (List ℕ)

@@ -1,4 +1,4 @@
--- The older form of an inline text. The oldest inline texts stand in a frame: each line behind white space and a sign, `⋮`.
+-- The older form of an inline text. The oldest inline texts stand in a frame: each line after white space and a sign, `⋮`.
 use Rattle.std.specs.Prelude.{ℕ, ◌-◌, List, [], ◌∷◌, ◌++◌, Bool, false, not, ◌==◌, ◌&&◌, ◌||◌, nat_lt, length, drop, Option, None, Some, if◌then◌else◌}
 use Rattle.std.specs.Char.{is_whitespace, len_utf8}
 use Rattle.std.specs.List.{list_any, list_all, flat_map}
@@ -19,7 +19,7 @@ abbrev pub space_front : List ℕ → List ℕ
 space_front [] = []
 space_front (c ∷ cs) = if is_whitespace c then c ∷ space_front cs else []
 
--- what stands behind the last line end
+-- what stands after the last line end
 abbrev pub last_line : List ℕ → List ℕ
 last_line [] = []
 last_line (c ∷ cs) = if list_any is_line_end (c ∷ cs) then last_line cs else c ∷ cs

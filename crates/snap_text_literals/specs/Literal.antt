@@ -5,12 +5,12 @@ use Rattle.snap_text_literals.specs.Units.{unit_of}
 use Rattle.snap_text_literals.specs.Hashes.{hashes, has_end}
 use Rattle.snap_text_literals.specs.Lines.{is_return}
 
--- from behind the first quote: units, and the last quote
+-- from after the first quote: units, and the last quote
 pub data Inside : List ℕ → List ℕ → Type 0 where
   ends : {source text : List ℕ} → source ≡ 34 ∷ [] → text ≡ [] → Inside source text
   goes_on : {source text : List ℕ} (given rest more : List ℕ) → unit_of source ≡ Some (given, rest) → text ≡ given ++ more → Inside rest more → Inside source text
 
--- from behind the first quote of a raw literal with so many `#`: the text as it stands, the last quote, the `#`
+-- from after the first quote of a raw literal with so many `#`: the text as it stands, the last quote, the `#`
 pub record IsBody (count : ℕ) (body text : List ℕ) : Type 0 where
   pub is : body ≡ text ++ 34 ∷ hashes count
   pub no_return : list_any is_return text ≡ false

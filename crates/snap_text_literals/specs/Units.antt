@@ -27,12 +27,12 @@ abbrev pub unit_given : Option ℕ → List ℕ → Unit_read
 unit_given None rest = None
 unit_given (Some c) rest = Some (c ∷ [], rest)
 
--- behind `\x`: two digits below 80
+-- after `\x`: two digits below 80
 abbrev pub hexadecimal : List ℕ → Unit_read
 hexadecimal (a ∷ b ∷ cs) = if nat_lt (digit_value a) 8 && nat_lt (digit_value b) 16 then Some ((digit_value a * 16 + digit_value b) ∷ [], cs) else None
 hexadecimal _ = None
 
--- behind `\u{` and some digits, of this count and value: up to six digits of a character
+-- after `\u{` and some digits, of this count and value: up to six digits of a character
 abbrev pub braced : ℕ → ℕ → List ℕ → Unit_read
 braced count value [] = None
 braced count value (c ∷ cs) =
@@ -43,7 +43,7 @@ abbrev pub unicode : List ℕ → Unit_read
 unicode [] = None
 unicode (c ∷ cs) = if c == 123 then braced 0 0 cs else None
 
--- behind a backslash
+-- after a backslash
 abbrev pub escape : List ℕ → Unit_read
 escape [] = None
 escape (c ∷ cs) =

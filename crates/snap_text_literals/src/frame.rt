@@ -1,5 +1,5 @@
-//! The older form of an inline text, which loses the frame of insta's oldest format: each line behind white space and a sign.
-//! The one error is want of memory.
+//! The older form of an inline text, which loses the frame of insta's oldest format: each line after white space and a sign.
+//! The one error is out of memory.
 ghost use Rattle.std.specs.Prelude.{◌≡◌, ◌++◌, false, length, IfOk, OnOk, None, Some, MatchOption};
 ghost use Rattle.std.specs.List.{flat_map, list_any, list_all};
 ghost use Rattle.std.specs.Str.{chars, encode_utf8_all};
@@ -31,7 +31,7 @@ fn split_sign(text: &str) -> Option<(&str, &str)>
     }
 }
 
-/// How many bytes stand behind the last line end.
+/// How many bytes stand after the last line end.
 fn last_width(text: &str) -> usize
     ensures { result ≡ length (encode_utf8_all (last_line (chars text.now))) }
 {

@@ -43,7 +43,7 @@ pub fn after_end(text: &str, count: usize) -> Option<&str>
     after_hashes(rest, count)
 }
 
-/// One more than the longest run of `#` behind a quote, and 0 without a quote.
+/// One more than the longest run of `#` after a quote, and 0 without a quote.
 pub fn required_hashes(text: &str) -> usize
     ensures { result ≡ required (chars text.now) }
 {

@@ -1,4 +1,4 @@
-//! The normal form of an inline text. The one error is want of memory.
+//! The normal form of an inline text. The one error is out of memory.
 ghost use Rattle.std.specs.Prelude.{◌≡◌, ◌++◌, ◌∷◌, length, IfOk, OnOk};
 ghost use Rattle.std.specs.List.{flat_map};
 ghost use Rattle.std.specs.Str.{chars};
@@ -40,7 +40,7 @@ pub fn min_indentation(alloc: Global, text: &str) -> Result<Text, OutOfMemory>
     Text::from_str(alloc, shortest_lead(text))
 }
 
-/// Adds each line, from a byte on, behind a line end.
+/// Adds each line, from a byte on, after a line end.
 fn push_lines(alloc: Global, made: &mut Text, text: &str, byte: usize) -> Result<(), OutOfMemory>
     ensures { OnOk result (made.new ≡ made.old
         ++ flat_map (behind_end byte) (lines (chars text.now))) }

@@ -44,7 +44,7 @@ pub(crate) fn without_fence(text: &str) -> &str
 }
 
 /// The older form: the normal form without breaks and then without one fence at its front.
-/// The one error is want of memory.
+/// The one error is out of memory.
 pub fn legacy_text(alloc: Global, text: &str) -> Result<Text, OutOfMemory>
     ensures { IfOk result (λ made. made ≡ legacy (chars text.now)) }
 {

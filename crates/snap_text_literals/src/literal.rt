@@ -1,5 +1,5 @@
 //! How an inline text is written as a literal, and what is made of the text that a literal reads as.
-//! The one error is want of memory.
+//! The one error is out of memory.
 ghost use Rattle.std.specs.Prelude.{◌≡◌, IfOk};
 ghost use Rattle.std.specs.Str.{chars};
 ghost use Rattle.snap_text_literals.specs.Inline.{inline_normal};

@@ -16,7 +16,7 @@ pub fn trimmed_text(text: &str) -> &str
 }
 
 /// The text without white space at its end and without the returns in front of a line's end. Few texts hold a return.
-/// The one error is want of memory.
+/// The one error is out of memory.
 pub fn normal_text(alloc: Global, text: &str) -> Result<Text, OutOfMemory>
     ensures { IfOk result (λ made. made ≡ normal (chars text.now)) }
 {

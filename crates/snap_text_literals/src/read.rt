@@ -11,7 +11,7 @@ use snap_content::Text;
 use snap_content::characters::{after_character, split_first};
 use std::alloc::Global;
 
-/// Behind the first quote.
+/// After the first quote.
 fn read_quoted(alloc: Global, source: &str) -> Result<Text, LiteralError>
     ensures { MatchResult result (λ text. Inside (chars source.now) text)
         (λ error. Refuses error (Inside (chars source.now))) }
@@ -35,7 +35,7 @@ fn read_quoted(alloc: Global, source: &str) -> Result<Text, LiteralError>
     }
 }
 
-/// Behind the first quote of a raw literal with so many `#`.
+/// After the first quote of a raw literal with so many `#`.
 fn read_body(alloc: Global, source: &str, count: usize) -> Result<Text, LiteralError>
     ensures { MatchResult result (λ text. IsBody count (chars source.now) text)
         (λ error. Refuses error (IsBody count (chars source.now))) }
@@ -60,7 +60,7 @@ fn read_body(alloc: Global, source: &str, count: usize) -> Result<Text, LiteralE
     Err(LiteralError::NotLiteral)
 }
 
-/// Behind the `r` of a raw literal.
+/// After the `r` of a raw literal.
 fn read_raw(alloc: Global, source: &str) -> Result<Text, LiteralError>
     ensures { MatchResult result (λ text. IsRaw (114 ∷ chars source.now) text)
         (λ error. Refuses error (IsRaw (114 ∷ chars source.now))) }

@@ -1,4 +1,4 @@
-//! The literal of a normal form. The one error is want of memory.
+//! The literal of a normal form. The one error is out of memory.
 ghost use Rattle.std.specs.Prelude.{◌≡◌, ◌++◌, ◌<◌, ◌∷◌, IfOk, OnOk};
 ghost use Rattle.std.specs.Char.{digit_char};
 ghost use Rattle.std.specs.List.{flat_map};

@@ -36,7 +36,7 @@ fn lettered(letter: char) -> Option<char>
     }
 }
 
-/// Behind `\x`: the character of two digits below 80, and what follows.
+/// After `\x`: the character of two digits below 80, and what follows.
 fn read_hexadecimal(source: &str) -> Option<(char, &str)>
     ensures unit { MatchOption result (hexadecimal (chars source.now) ≡ None)
         (λ p. hexadecimal (chars source.now) ≡ Some (p.0 ∷ [], chars p.1.now)) }
@@ -50,7 +50,7 @@ fn read_hexadecimal(source: &str) -> Option<(char, &str)>
     Some((code, rest))
 }
 
-/// Behind `\u{`: the character of one to six digits, and what follows the brace behind them.
+/// After `\u{`: the character of one to six digits, and what follows the brace after them.
 fn read_braced(source: &str) -> Option<(char, &str)>
     ensures unit { MatchOption result (braced 0 0 (chars source.now) ≡ None)
         (λ p. braced 0 0 (chars source.now) ≡ Some (p.0 ∷ [], chars p.1.now)) }
@@ -78,7 +78,7 @@ fn read_braced(source: &str) -> Option<(char, &str)>
     None
 }
 
-/// Behind `\u`.
+/// After `\u`.
 fn read_unicode(source: &str) -> Option<(char, &str)>
     ensures unit { MatchOption result (unicode (chars source.now) ≡ None)
         (λ p. unicode (chars source.now) ≡ Some (p.0 ∷ [], chars p.1.now)) }
@@ -88,7 +88,7 @@ fn read_unicode(source: &str) -> Option<(char, &str)>
     read_braced(rest)
 }
 
-/// Behind a backslash: what the escape gives, and what follows it.
+/// After a backslash: what the escape gives, and what follows it.
 fn read_escape(source: &str) -> Option<(Option<char>, &str)>
     ensures unit { MatchOption result (escape (chars source.now) ≡ None)
         (λ p. escape (chars source.now) ≡ Some (option_to_list p.0, chars p.1.now)) }

@@ -4,7 +4,7 @@ use borrow.Author.Tests.{ltb-true, lt-ltb}
 use mir.Syntax.{w64}
 use mir.Val.{SFits, to_z, of_z}
 use Rattle.std.proofs.lemmas.Int.{to_z-of_z}
-use Rattle.snap_content.specs.Typed.{number_in, below_zero, has_64_bits}
+use Rattle.snap_print.specs.Typed.{number_in, below_zero, has_64_bits}
 use Rattle.snap_content.proofs.Ascii.{IsAscii-list_all, chars-ascii}
 
 -- digits, as a test and as a fact

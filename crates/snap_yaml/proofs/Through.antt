@@ -2,7 +2,7 @@
 use Rattle.snap_yaml.proofs.Prelude.{◌≡◌, ℕ, zero, suc, ◌+◌, ◌-◌, ◌*◌, ◌^◌, ◌≤◌, ℤ, pos, negsuc, List, [], ◌∷◌, Bool, true, false, ◌||◌, ◌&&◌, not, Option, Some, None, if◌then◌else◌, nat_lt, refl, sym, ap, ◌∙◌, arith, drop, ◌==◌, nat_le, codes, digit_value, is_ascii_digit, list_all, bytes_eq, digits_value, digits_value_after, nat_tests, is_digits_in, is_integer_in, integer_of, prefixed_number, is_real_text, integer_or, typed_number, typed_word, typed_yaml, and_from, and_parts}
 use Rattle.snap_content.specs.Numbers as n
 use Rattle.snap_content.specs.Plain as p
-use Rattle.snap_content.specs.Typed as t
+use Rattle.snap_print.specs.Typed as t
 use Rattle.snap_print.proofs.Digits.{digits_decimal}
 use Rattle.snap_yaml.specs.Value as v
 use Rattle.snap_yaml.specs.Through.{plain_typed}
@@ -95,7 +95,7 @@ hexadecimal : (cs : List ℕ) → t.is_hexadecimal_integer cs ≡ is_integer_in 
 hexadecimal [] = refl
 hexadecimal (c ∷ cs) = refl
 
--- the spellings behind a mark
+-- the spellings after a mark
 abbrev or_typed : Option ℤ → t.Typed → t.Typed
 or_typed None rest = rest
 or_typed (Some z) rest = t.value (p.int z)

@@ -1,4 +1,4 @@
--- What stands in a value behind a key or at an index.
+-- What stands in a value after a key or at an index.
 use Rattle.std.specs.Prelude.{ℕ, ℤ, pos, negsuc, Bool, false, ◌==◌, List, Option, None, Some, if◌then◌else◌, slice_get}
 use Rattle.std.specs.Str.{bytes_eq}
 use Rattle.snap_yaml.specs.Value.{Value, integer, string, array, hash, ValuePairs, no_pairs, pair}

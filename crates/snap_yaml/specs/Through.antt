@@ -2,8 +2,8 @@
 use Rattle.std.specs.Prelude.{ℕ, List, ◌&&◌, if◌then◌else◌}
 use Rattle.snap_content.specs.Numbers.{is_integer_text}
 use Rattle.snap_content.specs.Plain as p
-use Rattle.snap_content.specs.Typed.{Typed, value, number_in, has_128_bits}
-use Rattle.snap_content.specs.Typed as t
+use Rattle.snap_print.specs.Typed.{Typed, value, number_in, has_128_bits}
+use Rattle.snap_print.specs.Typed as t
 use Rattle.snap_yaml.specs.Value.{Value, real, integer, string, boolean, null}
 
 -- a number that is kept as its text is that whole number, where 128 bits hold it

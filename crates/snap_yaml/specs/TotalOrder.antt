@@ -39,7 +39,7 @@ then_equal Less = refl
 then_equal Equal = refl
 then_equal Greater = refl
 
--- two orders behind one another, each answered as another one does
+-- two orders after one another, each answered as another one does
 both : (a b c d : Ordering) → a ≡ c → b ≡ d → ordering_then a b ≡ ordering_then c d
 both a b c d first next = ap (λ x. ordering_then x b) first ∙ ap (ordering_then c) next
 

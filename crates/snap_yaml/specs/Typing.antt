@@ -4,7 +4,7 @@ use Rattle.std.specs.Char.{digit_value, is_ascii_digit}
 use Rattle.std.specs.List.{list_all, list_any}
 use Rattle.std.specs.Str.{bytes_eq}
 use Rattle.snap_content.specs.Numbers.{is_nothing, is_float_text}
-use Rattle.snap_content.specs.Typed.{number_in, has_64_bits, is_null_word, is_named_number}
+use Rattle.snap_print.specs.Typed.{number_in, has_64_bits, is_null_word, is_named_number}
 use Rattle.snap_yaml.specs.Value.{Value, real, integer, string, boolean, null, bad_value}
 
 -- digits of the base, at least one
@@ -20,12 +20,12 @@ is_integer_in base (c ∷ cs) = (if c == 43 || c == 45 then is_digits_in base cs
 abbrev pub integer_of : ℕ → List ℕ → Option ℤ
 integer_of base cs = if is_integer_in base cs then Some (number_in base cs) else None
 
--- the number behind `x`, in base sixteen, or `o`, in base eight
+-- the number after `x`, in base sixteen, or `o`, in base eight
 abbrev pub behind_zero : List ℕ → Option ℤ
 behind_zero [] = None
 behind_zero (c ∷ cs) = if c == 120 then integer_of 16 cs else (if c == 111 then integer_of 8 cs else None)
 
--- the number behind `0x`, `0o` or a plus; it may have a sign of its own
+-- the number after `0x`, `0o` or a plus; it may have a sign of its own
 abbrev pub prefixed_number : List ℕ → Option ℤ
 prefixed_number [] = None
 prefixed_number (c ∷ cs) = if c == 43 then integer_of 10 cs else (if c == 48 then behind_zero cs else None)
@@ -70,7 +70,7 @@ typed_float w = if is_real_text w then real w else bad_value
 abbrev pub typed_null : List ℕ → Value
 typed_null w = if is_null_word w then null else bad_value
 
--- a plain scalar behind a tag with the handle `!!`
+-- a plain scalar after a tag with the handle `!!`
 abbrev pub typed_as : List ℕ → List ℕ → Value
 typed_as suffix w =
     if bytes_eq suffix (codes "bool") then typed_bool w else (

@@ -4,7 +4,7 @@ ghost use Rattle.std.specs.Cmp.{IsTotalOrder};
 ghost use Rattle.std.specs.declared.cmp.Ordering.TheVariants.{Equal};
 ghost use Rattle.snap_yaml.specs.Orders.{value_cmp};
 ghost use Rattle.snap_yaml.specs.Value.{Value};
-ghost use Rattle.snap_content.specs.Typed.{typed};
+ghost use Rattle.snap_print.specs.Typed.{typed};
 ghost use Rattle.snap_yaml.specs.Typing.{typed_yaml};
 ghost use Rattle.snap_yaml.specs.Through.{plain_typed};
 

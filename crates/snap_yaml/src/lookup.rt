@@ -1,4 +1,4 @@
-//! What stands in a value behind a key or at an index.
+//! What stands in a value after a key or at an index.
 ghost use Rattle.std.specs.Prelude.{◌≡◌, option_map};
 ghost use Rattle.std.specs.Str.{chars};
 ghost use Rattle.snap_yaml.specs.View.{value_of, hash_list, hash_values};

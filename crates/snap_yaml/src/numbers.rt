@@ -1,7 +1,7 @@
 //! Texts of whole numbers of 64 bits, and of other numbers.
 ghost use Rattle.std.specs.Prelude.{◌≡◌, ◌≤◌};
 ghost use Rattle.std.specs.Str.{chars};
-ghost use Rattle.snap_content.specs.Typed.{is_inf_word, is_named_number};
+ghost use Rattle.snap_print.specs.Typed.{is_inf_word, is_named_number};
 ghost use Rattle.snap_yaml.specs.Typing.{integer_of, behind_zero, prefixed_number, is_real_text};
 
 use snap_content::characters::{is_same, split_first};
@@ -19,7 +19,7 @@ pub(crate) fn integer(text: &str, base: u32) -> Option<i64>
     }
 }
 
-/// The number behind `x`, in base sixteen, or `o`, in base eight.
+/// The number after `x`, in base sixteen, or `o`, in base eight.
 fn integer_behind_zero(text: &str) -> Option<i64>
     ensures { result ≡ behind_zero (chars text.now) }
 {
@@ -30,7 +30,7 @@ fn integer_behind_zero(text: &str) -> Option<i64>
     }
 }
 
-/// The number behind `0x`, `0o` or a plus.
+/// The number after `0x`, `0o` or a plus.
 pub(crate) fn prefixed_integer(text: &str) -> Option<i64>
     ensures { result ≡ prefixed_number (chars text.now) }
 {

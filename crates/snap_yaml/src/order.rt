@@ -7,7 +7,7 @@ use crate::lists::{Array, Hash};
 use crate::yaml::Yaml;
 use std::cmp::Ordering;
 
-/// The first of these orders that is not `Equal`. What stands behind it is not computed.
+/// The first of these orders that is not `Equal`. What stands after it is not computed.
 macro_rules! in_turn {
     ($first:expr, $last:expr) => {
         match $first {

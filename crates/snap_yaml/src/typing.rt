@@ -1,7 +1,7 @@
 //! What a scalar is typed as.
 ghost use Rattle.std.specs.Prelude.{◌≡◌, IfOk};
 ghost use Rattle.std.specs.Str.{chars};
-ghost use Rattle.snap_content.specs.Typed.{is_null_word};
+ghost use Rattle.snap_print.specs.Typed.{is_null_word};
 ghost use Rattle.snap_yaml.specs.View.{value_of};
 ghost use Rattle.snap_yaml.specs.Kinds.{value_of_kind};
 ghost use Rattle.snap_yaml.specs.Typing.{begins_value, typed_number, typed_word, typed_yaml, typed_bool, typed_int, typed_float, typed_null, typed_as, tagged};
@@ -129,7 +129,7 @@ fn null_kind(text: &str) -> Kind
     }
 }
 
-/// What a plain scalar is behind a tag with the handle `!!`.
+/// What a plain scalar is after a tag with the handle `!!`.
 fn suffix_kind(suffix: &str, text: &str) -> Kind
     ensures { value_of_kind result (chars text.now) ≡ typed_as (chars suffix.now) (chars text.now) }
 {
@@ -148,7 +148,7 @@ fn suffix_kind(suffix: &str, text: &str) -> Kind
     Kind::String
 }
 
-/// What a plain scalar is behind a tag.
+/// What a plain scalar is after a tag.
 fn tagged_kind(handle: &str, suffix: &str, text: &str) -> Kind
     ensures { value_of_kind result (chars text.now)
         ≡ tagged (chars handle.now) (chars suffix.now) (chars text.now) }
@@ -185,8 +185,8 @@ impl Yaml {
         plain_kind(v).with_text(alloc, v)
     }
 
-    /// The value of a plain scalar behind a tag. With the handle `!!` the suffixes `bool`, `int`, `float` and `null` ask
-    /// for a value of that type, and a text that is none is a bad value. Behind any other tag the scalar is a text.
+    /// The value of a plain scalar after a tag. With the handle `!!` the suffixes `bool`, `int`, `float` and `null` ask
+    /// for a value of that type, and a text that is none is a bad value. After any other tag the scalar is a text.
     pub fn tagged(alloc: Global, handle: &str, suffix: &str, v: &str) -> Result<Yaml, OutOfMemory>
         ensures { IfOk result (λ made. value_of made
             ≡ tagged (chars handle.now) (chars suffix.now) (chars v.now)) }

@@ -1,4 +1,4 @@
-//! Several values behind one another, and what stands before a value that is refused.
+//! Several values after one another, and what stands before a value that is refused.
 use snap_content::{Content, Items, OutOfMemory, Pairs};
 use snap_json::{JsonError, Serializer};
 use std::alloc::Global;

@@ -6,7 +6,7 @@ use std::alloc::{AllocError, Global};
 use std::process::Abort;
 use std::test::Fail;
 
-/// Counts its events, and finds no memory for those behind a limit.
+/// Counts its events, and finds no memory for those after a limit.
 #[derive(Drop)]
 struct Counting {
     count: usize,

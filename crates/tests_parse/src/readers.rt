@@ -19,7 +19,7 @@ fn text(found: Option<&Yaml>) -> Option<&str> {
     }
 }
 
-/// What stands behind the text, where something was found.
+/// What stands after the text, where something was found.
 fn behind<'a>(found: Option<&'a Yaml>, key: &str) -> Option<&'a Yaml> {
     match found {
         Some(held) => held.get(key),

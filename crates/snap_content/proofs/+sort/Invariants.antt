@@ -40,7 +40,7 @@ decreases-sorting::sort_fields l = 8 * count_fields (field_trees l.fields.items)
 abbrev pub decreases-sorting::sort_field : goal.decreases-sorting::sort_field
 decreases-sorting::sort_field l = 8 * count (tree l.field.now.1) + 2
 
--- the elements that are left are as they were; and what comes of them, behind what is done, comes of all
+-- the elements that are left are as they were; and what comes of them, after what is done, comes of all
 abbrev pub invariant-sorting::sort_items-loop-index : goal.invariant-sorting::sort_items-loop-index
 invariant-sorting::sort_items-loop-index l = record {
   left : drop l.index l.items.items ≡ drop l.index l.fn.items.items;

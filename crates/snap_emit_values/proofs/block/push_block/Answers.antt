@@ -2,7 +2,7 @@ use Rattle.snap_emit_values.proofs.Prelude.{◌≡◌, ℕ, List, ◌++◌, refl
 use Rattle.snap_emit_values.proofs.Begun.{begun_first, begun_then, begun_as, on_err}
 use Rattle.snap_emit_values.proofs.block.push_block.Goals as goal
 
--- the lines of a block and what is behind them, from what the code was told of the text
+-- the lines of a block and what is after them, from what the code was told of the text
 abbrev lines : ℕ → List ℕ → ℕ → List ℕ
 lines k trimmed more = shifted k trimmed ++ line_ends more
 

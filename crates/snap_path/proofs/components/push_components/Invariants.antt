@@ -1,7 +1,7 @@
 use Rattle.snap_path.proofs.Prelude.{◌≡◌, ◌++◌, length, Utf8, shadow, chars, components, then_slashed, stand_behind}
 use Rattle.snap_path.proofs.components.push_components.Given as goal
 
--- what stands so far, and what is left behind it
+-- what stands so far, and what is left after it
 abbrev pub invariant-loop-part : goal.invariant-loop-part
 invariant-loop-part l = record {
   utf8 : shadow (Utf8 l.rest);

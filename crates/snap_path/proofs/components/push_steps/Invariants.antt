@@ -1,7 +1,7 @@
 use Rattle.snap_path.proofs.Prelude.{◌≡◌, ◌++◌, false, length, Utf8, shadow, chars, components, steps_up, then_slashed, stand_behind}
 use Rattle.snap_path.proofs.components.push_steps.Given as goal
 
--- the steps so far, and those for what is left behind them
+-- the steps so far, and those for what is left after them
 abbrev pub invariant-loop-next : goal.invariant-loop-next
 invariant-loop-next l = record {
   utf8 : shadow (Utf8 l.rest);

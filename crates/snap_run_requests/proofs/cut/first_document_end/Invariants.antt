@@ -2,7 +2,7 @@ use Rattle.snap_run_requests.proofs.Prelude.{◌≡◌, ◌≤◌, length, drop}
 use Rattle.snap_run_requests.proofs.Cutting.{IsWithin}
 use Rattle.snap_run_requests.proofs.cut.first_document_end.Given as goal
 
--- no document ends so far, and the rest stands behind it
+-- no document ends so far, and the rest stands after it
 abbrev pub invariant-loop-at : goal.invariant-loop-at
 invariant-loop-at l = record {
   within : IsWithin l.bytes l.end;

@@ -9,7 +9,7 @@ redact_at-returns-then-not-reaches-clause-ok g t c =
     (ap (λ p. path_match (parts_of c.args.selector.now) (map step_of p)) (sym c.as_slice.ensures.value) ∙ sym c.is_match.ensures ∙ c.if-is_match.false)
     (ap (λ p. reaches (parts_of c.args.selector.now) (map step_of p)) (sym c.as_slice-2.ensures.value) ∙ sym c.reaches.ensures ∙ c.if-not-reaches.true)
 
--- where a step isn't open behind the path, the tree there stays
+-- where a step isn't open after the path, the tree there stays
 pub redact_item-returns-then-not-opens-clause-ok : goal.redact_item-returns-then-not-opens-clause-ok
 redact_item-returns-then-not-opens-clause-ok g t c =
     let e : c.len.result ≡ length c.args.path.now.items = search rules in

@@ -48,7 +48,7 @@ decreases-redact_fields g l = 8 * count_fields (field_trees l.fields.now) + 5
 abbrev pub decreases-redact_field : goal.decreases-redact_field
 decreases-redact_field g l = 8 * count (tree l.field.now.1) + 4
 
--- the path is as it was, what is left is as it was, and what comes of it, behind what is done, comes of all
+-- the path is as it was, what is left is as it was, and what comes of it, after what is done, comes of all
 abbrev pub invariant-redact_items-loop-index : goal.invariant-redact_items-loop-index
 invariant-redact_items-loop-index g l = record {
   path : l.path.items ≡ l.fn.path.items;

@@ -2,7 +2,7 @@ use Rattle.snap_store.proofs.Prelude.{◌≡◌, ◌++◌, length, map, Utf8, sh
 use Rattle.snap_store.proofs.Pieces.{behind_break}
 use Rattle.snap_store.proofs.split.body_text.Given as goal
 
--- the lines so far, and those that are left, each behind a line's end
+-- the lines so far, and those that are left, each after a line's end
 abbrev pub invariant-loop-piece : goal.invariant-loop-piece
 invariant-loop-piece l = record {
   utf8 : shadow (Utf8 l.rest);
