@@ -22,5 +22,5 @@ pub mod yaml;
 pub use reading::{read_header, read_text};
 pub use refusal::Refusal;
 pub use snap_emit_values::scalars::push_spelled_text;
-pub use snap_print::{need_quotes, spelled_text};
+pub use snap_print::need_quotes;
 pub use yaml::{Header, body_to_string, parse_header, parse_str, to_string};

@@ -9,7 +9,6 @@ pub mod Trees
 pub mod Walked
 mod Sizes
 mod Within
-pub mod Beginnings
 pub mod Shifting
 mod Bytes
 mod LineEnds

@@ -18,6 +18,7 @@ pub use Rattle.snap_content.proofs.Ascii.{IsAscii-list_all, list_all-IsAscii}
 pub use Rattle.snap_content.specs.Lines.{ended}
 pub use Rattle.snap_content.specs.Plain.{Plain, plain}
 pub use Rattle.snap_content.specs.Quotes.{is_special, needs_quotes, ends_badly}
+pub use Rattle.snap_print.specs.Begun.{IsBegun}
 pub use Rattle.snap_print.specs.Spell.{spell_text, escaped, escaped_code, quoted}
 pub use Rattle.snap_content.specs.View.{tree, item_list, item_trees, pair_list, pair_trees, field_list, field_trees, Items, Pairs, Fields}
 pub use Rattle.snap_content.specs.declared.content.Content.{Content}
@@ -25,8 +26,7 @@ pub use Rattle.snap_print.specs.Blocks.{Blocks, blocks_if, before_more, is_insid
 pub use Rattle.snap_print.specs.Lines.{text_of, document_of}
 pub use Rattle.snap_yaml.specs.View.{array_list, hash_list, Array, Hash, value_of, array_values, hash_values}
 pub use Rattle.snap_yaml.specs.declared.yaml.Yaml.{Yaml, the_lemmas}
-pub use Rattle.snap_emit_values.specs.Bare.{IsBareBefore}
-pub use Rattle.snap_emit_values.specs.Columns.{IsBegun, blanks, break_at, mark_text, line_ends, shifted, block_text, child_text, text_at, items_at, pairs_at, gap}
+pub use Rattle.snap_emit_values.specs.Columns.{blanks, break_at, mark_text, line_ends, shifted, block_text, child_text, text_at, items_at, pairs_at, gap}
 pub use Rattle.snap_emit_values.specs.Document.{dumped, body, document}
 pub use Rattle.snap_emit_values.specs.Emitted.{child_of, text_of_child, item_of, on_lines, list_text, pair_of, dict_text, key_of}
 pub use Rattle.snap_emit_values.specs.FromContent.{content_shape, pair_shape, field_shape, byte_shape, IsContentWithin, IsPairWithin, IsShapeWithin}

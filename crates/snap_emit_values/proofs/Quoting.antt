@@ -1,5 +1,5 @@
 -- Texts between double quotes, character by character.
-use Rattle.snap_emit_values.proofs.Prelude.{◌≡◌, ℕ, ◌+◌, ◌*◌, ◌<◌, ◌≤◌, ◌^◌, List, [], ◌∷◌, ◌++◌, Bool, true, false, if◌then◌else◌, length, sym, ap, ◌∙◌, append_assoc, arith, length-append, lit≤, ◌==◌, ◌||◌, nat_lt, flat_map-append, append-nil, flat_map, IsBareBefore, escaped, escaped_code, quoted, spell_text, needs_quotes, chars, IsUtf8, encodes-chars, length-le-encodes, IsBegun}
+use Rattle.snap_emit_values.proofs.Prelude.{◌≡◌, ℕ, ◌+◌, ◌*◌, ◌<◌, ◌≤◌, ◌^◌, List, [], ◌∷◌, ◌++◌, Bool, true, false, if◌then◌else◌, length, sym, ap, ◌∙◌, append_assoc, arith, length-append, lit≤, ◌==◌, ◌||◌, nat_lt, flat_map, escaped, escaped_code, quoted, spell_text, needs_quotes, chars, IsUtf8, encodes-chars, length-le-encodes, IsBegun}
 use Rattle.snap_emit_values.proofs.Begun.{begun_first, begun_then, begun_as}
 
 -- a quoted text that failed within one of its pieces
@@ -11,33 +11,6 @@ quoted_at old opened mid new done all piece more first added split h =
     ∙ ap (λ x. done ++ x) (append_assoc piece more (34 ∷ [])))))
     (begun_then old opened new (34 ∷ []) (done ++ (piece ++ (more ++ 34 ∷ []))) first
     (begun_then opened mid new done (piece ++ (more ++ 34 ∷ [])) added (begun_first mid new piece (more ++ 34 ∷ []) h)))
-
--- a text of a bare run and a rest
-pub run_split : (text run rest : List ℕ) → text ≡ run ++ rest → flat_map escaped run ≡ run → flat_map escaped text ≡ run ++ flat_map escaped rest
-run_split text run rest whole bare =
-    ap (flat_map escaped) whole ∙ flat_map-append escaped run rest ∙ ap (λ x. x ++ flat_map escaped rest) bare
-
--- a text that begins with a character, a bare run after it
-pub step_split : (text behind run rest : List ℕ) (c : ℕ) → text ≡ c ∷ behind → behind ≡ run ++ rest → flat_map escaped run ≡ run
-    → flat_map escaped text ≡ escaped c ++ (run ++ flat_map escaped rest)
-step_split text behind run rest c front whole bare =
-    ap (flat_map escaped) front ∙ ap (λ x. escaped c ++ x) (run_split behind run rest whole bare)
-
--- the whole, as the pieces written up to that character, and what follows
-pub step_after : (all done text behind run rest : List ℕ) (c : ℕ) → flat_map escaped all ≡ done ++ flat_map escaped text → text ≡ c ∷ behind
-    → behind ≡ run ++ rest → flat_map escaped run ≡ run → flat_map escaped all ≡ (done ++ escaped c) ++ (run ++ flat_map escaped rest)
-step_after all done text behind run rest c split front whole bare =
-    split ∙ ap (λ x. done ++ x) (step_split text behind run rest c front whole bare) ∙ sym (append_assoc done (escaped c) (run ++ flat_map escaped rest))
-
--- one more character that stands as it is
-pub bare_more : (text rest next : List ℕ) (c : ℕ) → IsBareBefore text rest → rest ≡ c ∷ next → escaped c ≡ c ∷ [] → IsBareBefore text next
-bare_more text rest next c h front same =
-    record {
-      front = h.front ++ c ∷ [];
-      whole = h.whole ∙ ap (λ x. h.front ++ x) front ∙ sym (append_assoc h.front (c ∷ []) next);
-      bare = flat_map-append escaped h.front (c ∷ []) ∙ ap (λ x. x ++ flat_map escaped (c ∷ [])) h.bare
-          ∙ ap (λ x. h.front ++ x) (append-nil (escaped c) ∙ same);
-    }
 
 either : (b : Bool) (x y : List ℕ) → length x ≤ 6 → length y ≤ 6 → length (if b then x else y) ≤ 6
 either true x y h k = h

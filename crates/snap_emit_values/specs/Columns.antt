@@ -1,6 +1,6 @@
 -- The text of a shape at a column: its first line where one stands, each further line after as many blanks, an empty one after none.
 -- The end of the last line is left out.
-use Rattle.std.specs.Prelude.{◌≡◌, ℕ, ◌+◌, zero, suc, List, [], ◌∷◌, ◌++◌, ◌==◌, Bool, if◌then◌else◌, codes, Option, None, Some}
+use Rattle.std.specs.Prelude.{ℕ, ◌+◌, zero, suc, List, [], ◌∷◌, ◌++◌, ◌==◌, Bool, if◌then◌else◌, codes, Option, None, Some}
 use Rattle.std.specs.Fmt.{signed_decimal}
 use Rattle.snap_print.specs.Spell.{spell_text}
 use Rattle.snap_print.specs.Blocks.{Blocks, before_more, is_inside, core, kept_ends, block_sign, empty_lines}
@@ -85,10 +85,3 @@ following k (line ∷ rest) = line_behind k line ++ following k rest
 abbrev pub lines_at : ℕ → List (List ℕ) → List ℕ
 lines_at k [] = []
 lines_at k (first ∷ rest) = first ++ following k rest
-
--- what being out of memory leaves of a text that was to grow by `full`: what it was, and a beginning of that
-pub record IsBegun (old new full : List ℕ) : Type 0 where
-  pub added : List ℕ
-  pub rest : List ℕ
-  pub whole : full ≡ added ++ rest
-  pub is : new ≡ old ++ added

@@ -3,8 +3,6 @@ pub mod Places
 pub mod Columns
 pub mod Emitted
 pub mod Document
-pub mod Bare
 pub mod Emitter
 pub mod FromContent
 pub mod Nodes
-pub mod Words

@@ -2,7 +2,8 @@
 ghost use Rattle.std.specs.Prelude.{◌≡◌, ◌++◌, ◌≤◌, OnOk, OnErr, IsTrue, length, take};
 ghost use Rattle.std.specs.Char.{is_ascii};
 ghost use Rattle.std.specs.List.{list_all};
-ghost use Rattle.snap_emit_values.specs.Columns.{IsBegun, blanks, break_at};
+ghost use Rattle.snap_print.specs.Begun.{IsBegun};
+ghost use Rattle.snap_emit_values.specs.Columns.{blanks, break_at};
 
 use snap_content::{OutOfMemory, Text};
 use std::alloc::Global;

@@ -2,17 +2,18 @@
 ghost use Rattle.std.specs.Prelude.{◌≡◌, ◌==◌, ◌++◌, OnOk, OnErr, not};
 ghost use Rattle.std.specs.List.{list_any};
 ghost use Rattle.std.specs.Str.{chars};
+ghost use Rattle.snap_print.specs.Begun.{IsBegun};
 ghost use Rattle.snap_print.specs.Blocks.{is_block, fits_block, begins_block, keeps_end, is_inside, is_unheld, block_sign, empty_lines, core, kept_ends};
-ghost use Rattle.snap_emit_values.specs.Columns.{IsBegun, block_text, break_at, line_ends, shifted};
+ghost use Rattle.snap_emit_values.specs.Columns.{block_text, break_at, line_ends, shifted};
 ghost use Rattle.snap_emit_values.specs.Places.{place};
 
 use crate::blanks::break_line;
 use crate::blocks::Blocks;
-use crate::quotes::has_bad_end;
 use crate::scalars::{push_run, push_word};
 use memchr::{memchr, memchr2};
 use snap_content::characters::{split_first, split_last};
 use snap_content::{OutOfMemory, Text};
+use snap_print::quotes::has_bad_end;
 use snap_str::lines::split_line;
 use std::alloc::Global;
 

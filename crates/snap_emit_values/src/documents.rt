@@ -1,6 +1,6 @@
 //! Whole documents, added to a text that is lent.
 ghost use Rattle.std.specs.Prelude.{◌≡◌, ◌++◌, OnOk, OnErr, IfOk};
-ghost use Rattle.snap_emit_values.specs.Columns.{IsBegun};
+ghost use Rattle.snap_print.specs.Begun.{IsBegun};
 ghost use Rattle.snap_emit_values.specs.Document.{body, document, dumped};
 ghost use Rattle.snap_emit_values.specs.FromContent.{IsShapeWithin};
 ghost use Rattle.snap_emit_values.specs.Nodes.{node_shape};

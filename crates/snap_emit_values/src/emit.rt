@@ -3,7 +3,8 @@ ghost use Rattle.std.specs.Prelude.{◌≡◌, ◌+◌, ◌^◌, ◌≤◌, ◌+
 ghost use Rattle.std.specs.Char.{is_ascii};
 ghost use Rattle.std.specs.List.{All, list_all};
 ghost use Rattle.std.specs.Str.{chars};
-ghost use Rattle.snap_emit_values.specs.Columns.{IsBegun, break_at, gap, text_at};
+ghost use Rattle.snap_print.specs.Begun.{IsBegun};
+ghost use Rattle.snap_emit_values.specs.Columns.{break_at, gap, text_at};
 ghost use Rattle.snap_emit_values.specs.Emitted.{child_of, text_of_child, item_of, list_text, pair_of, dict_text, key_of};
 ghost use Rattle.snap_emit_values.specs.Places.{place};
 ghost use Rattle.snap_emit_values.specs.FromContent.{IsPairWithin, IsShapeWithin};

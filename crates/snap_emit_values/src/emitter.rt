@@ -1,6 +1,6 @@
 //! The emitter: it writes values into a text that it borrows.
 ghost use Rattle.std.specs.Prelude.{◌≡◌, ◌++◌, OnOk, OnErr, false};
-ghost use Rattle.snap_emit_values.specs.Columns.{IsBegun};
+ghost use Rattle.snap_print.specs.Begun.{IsBegun};
 ghost use Rattle.snap_emit_values.specs.Document.{dumped};
 ghost use Rattle.snap_emit_values.specs.Emitter.{written, lent_name, is_literal};
 ghost use Rattle.snap_emit_values.specs.Places.{dump_place};

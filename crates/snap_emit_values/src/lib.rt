@@ -1,8 +1,8 @@
 //! The emitter: a value is printed in one walk into one text that is lent, with literal blocks where they are asked for.
 //! Its `specs/` say what is printed of a value, as a shape: a scalar as it is spelled, a text, a list, or a dict.
 //!
-//! In the order in which data flows: `node` (what is seen of a value or a tree), `quotes` (which texts need double quotes), `written`
-//! (how long a scalar is), `scalars`, `blanks`, `blocks` (where a tree stands), `block` (a literal block) and `emit` (the walk),
+//! In the order in which data flows: `node` (what is seen of a value or a tree), `written` (how long a
+//! scalar is), `scalars`, `blanks`, `blocks` (where a tree stands), `block` (a literal block) and `emit` (the walk),
 //! `ending`, `emitter`, `documents` (whole documents), `printing` (trees), `laws`.
 #![tactic(auto)]
 
@@ -16,7 +16,6 @@ pub mod ending;
 pub mod laws;
 pub mod node;
 pub mod printing;
-pub mod quotes;
 pub mod scalars;
 pub mod written;
 

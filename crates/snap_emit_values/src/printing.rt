@@ -2,9 +2,9 @@
 ghost use Rattle.std.specs.Prelude.{◌≡◌, ◌++◌, OnOk, OnErr, IfOk};
 ghost use Rattle.snap_content.specs.Plain.{plain};
 ghost use Rattle.snap_content.specs.View.{tree};
+ghost use Rattle.snap_print.specs.Begun.{IsBegun};
 ghost use Rattle.snap_print.specs.Blocks.{blocks_if};
 ghost use Rattle.snap_print.specs.Lines.{document_of, text_of};
-ghost use Rattle.snap_emit_values.specs.Columns.{IsBegun};
 ghost use Rattle.snap_emit_values.specs.FromContent.{IsContentWithin};
 
 use crate::blocks::Blocks;

@@ -1,82 +1,23 @@
 //! Scalars, written straight into a text.
-ghost use Rattle.std.specs.Prelude.{◌≡◌, ◌++◌, ◌∷◌, [], OnOk, OnErr, ◌<◌, false, IsTrue, pos};
+ghost use Rattle.std.specs.Prelude.{◌≡◌, ◌++◌, ◌∷◌, [], OnOk, OnErr, IsTrue, pos};
 ghost use Rattle.std.specs.Char.{is_ascii};
-ghost use Rattle.std.specs.List.{flat_map, list_all};
-ghost use Rattle.std.specs.Fmt.{signed_decimal, digit_glyph};
+ghost use Rattle.std.specs.List.{list_all};
+ghost use Rattle.std.specs.Fmt.{signed_decimal};
 ghost use Rattle.std.specs.Str.{chars};
+ghost use Rattle.snap_print.specs.Begun.{IsBegun};
 ghost use Rattle.snap_print.specs.Readable.{IsNumber};
-ghost use Rattle.snap_print.specs.Spell.{escaped, escaped_code, quoted, spell_text};
-ghost use Rattle.snap_emit_values.specs.Bare.{IsBareBefore};
-ghost use Rattle.snap_emit_values.specs.Columns.{IsBegun};
+ghost use Rattle.snap_print.specs.Spell.{quoted, spell_text};
 ghost use Rattle.snap_emit_values.specs.FromContent.{IsWordWithin};
 ghost use Rattle.snap_emit_values.specs.Nodes.{node_shape};
 ghost use Rattle.snap_emit_values.specs.Shape.{spelled};
 
 use crate::node::Node;
-use crate::quotes::is_quoted;
 use itoa::Buffer;
-use snap_content::characters::{before_rest, split_first};
+use snap_content::characters::split_first;
 use snap_content::{OutOfMemory, Text};
+use snap_print::escaping::{bare_run, push_escaped};
+use snap_print::need_quotes;
 use std::alloc::Global;
-
-/// A hexadecimal digit.
-fn hexadecimal_digit(value: u32) -> char
-    requires { value < 16 }
-    ensures { result ≡ digit_glyph false value }
-{
-    char::from_digit(value, 16).unwrap()
-}
-
-/// Adds the code of a character below 128.
-fn push_code(out: &mut Text, alloc: Global, c: char) -> Result<(), OutOfMemory>
-    requires { c < 128 }
-    ensures ok { OnOk result (out.new ≡ out.old ++ escaped_code c) }
-    ensures err { OnErr result (IsBegun out.old out.new (escaped_code c)) }
-{
-    let code = c as u32;
-    out.push_ascii(alloc, "\\u00")?;
-    out.push(alloc, hexadecimal_digit(code / 16))?;
-    out.push(alloc, hexadecimal_digit(code % 16))
-}
-
-/// Adds a character as it stands between double quotes.
-fn push_escaped(out: &mut Text, alloc: Global, c: char) -> Result<(), OutOfMemory>
-    ensures ok { OnOk result (out.new ≡ out.old ++ escaped c) }
-    ensures err { OnErr result (IsBegun out.old out.new (escaped c)) }
-{
-    match c {
-        '"' => out.push_ascii(alloc, "\\\""),
-        '\\' => out.push_ascii(alloc, "\\\\"),
-        '\u{8}' => out.push_ascii(alloc, "\\b"),
-        '\t' => out.push_ascii(alloc, "\\t"),
-        '\n' => out.push_ascii(alloc, "\\n"),
-        '\u{c}' => out.push_ascii(alloc, "\\f"),
-        '\r' => out.push_ascii(alloc, "\\r"),
-        '\0'..='\u{1f}' | '\u{7f}' => push_code(out, alloc, c),
-        _ => out.push(alloc, c),
-    }
-}
-
-/// Whether a character stands otherwise between double quotes than by itself.
-fn is_escaped(c: char) -> bool
-    ensures { result ≡ false → escaped c ≡ c ∷ [] }
-{
-    matches!(c, '"' | '\\' | '\0'..='\u{1f}' | '\u{7f}')
-}
-
-/// The text from its first character on that stands otherwise between double quotes.
-fn after_bare(text: &str) -> &str
-    ensures { IsBareBefore (chars text.now) (chars result.now) }
-{
-    let mut rest = text;
-    while let Some((c, next)) = split_first(rest) {
-        if is_escaped(c) {
-            return rest;
-        }
-        rest = next;
-    }
-    rest
-}
 
 /// Adds characters as they are.
 pub fn push_run(out: &mut Text, alloc: Global, run: &str) -> Result<(), OutOfMemory>
@@ -84,15 +25,6 @@ pub fn push_run(out: &mut Text, alloc: Global, run: &str) -> Result<(), OutOfMem
     ensures err { OnErr result (IsBegun out.old out.new (chars run.now)) }
 {
     out.push_str(alloc, run)
-}
-
-/// The characters at the front that stand as they are between double quotes, and what follows them.
-fn bare_run(text: &str) -> (&str, &str)
-    ensures whole { chars text.now ≡ chars result.0.now ++ chars result.1.now }
-    ensures bare { flat_map escaped (chars result.0.now) ≡ chars result.0.now }
-{
-    let rest = after_bare(text);
-    (before_rest(text, rest), rest)
 }
 
 /// Adds the text in double quotes, run by run.
@@ -117,7 +49,7 @@ pub fn push_spelled_str(out: &mut Text, alloc: Global, value: &str) -> Result<()
     ensures ok { OnOk result (out.new ≡ out.old ++ spell_text (chars value.now)) }
     ensures err { OnErr result (IsBegun out.old out.new (spell_text (chars value.now))) }
 {
-    if is_quoted(value) {
+    if need_quotes(value) {
         push_quoted(out, alloc, value)
     } else {
         push_run(out, alloc, value)

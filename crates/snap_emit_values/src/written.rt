@@ -7,10 +7,10 @@ ghost use Rattle.snap_emit_values.specs.Nodes.{node_shape};
 ghost use Rattle.snap_emit_values.specs.Shape.{is_simple, spelled, shape_of};
 
 use crate::node::Node;
-use crate::quotes::is_quoted;
 use crate::scalars::char_text;
 use itoa::Buffer;
 use snap_content::characters::split_first;
+use snap_print::need_quotes;
 use snap_yaml::Yaml;
 
 /// How many characters stand between double quotes for a character.
@@ -52,7 +52,7 @@ fn string_len(value: &str) -> u128
     ensures { result ≡ length (spell_text (chars value.now)) }
 {
     let bare = characters(value);
-    if is_quoted(value) {
+    if need_quotes(value) {
         quoted_len(value)
     } else {
         bare
@@ -127,7 +127,7 @@ fn is_short(text: &str) -> bool
 fn is_bare_and_short(text: &str) -> bool
     ensures { result ≡ true → length (spell_text (chars text.now)) ≤ 1024 }
 {
-    if is_quoted(text) {
+    if need_quotes(text) {
         return false;
     }
     text.len() <= 1024

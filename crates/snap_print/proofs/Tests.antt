@@ -1,5 +1,5 @@
 -- Facts on tests.
-use Rattle.snap_print.proofs.Prelude.{◌≡◌, ℕ, Bool, true, false, ◌==◌, ◌&&◌, refl, ap, ◌∙◌, arith, nat_tests, false_from_ne_true, and_from, both_second, both_first}
+use Rattle.snap_print.proofs.Prelude.{◌≡◌, ℕ, Bool, true, false, ◌==◌, ◌&&◌, refl, ap, ◌∙◌, arith, nat_tests, false_from_ne_true}
 
 pub absurd_tests : (b : Bool) → b ≡ true → b ≡ false → ⊥
 absurd_tests true holds fails = absurd (cc)

@@ -1,5 +1,8 @@
 pub mod Typed
+pub mod Words
 pub mod Spell
+pub mod Bare
+pub mod Begun
 pub mod Readable
 pub mod Blocks
 pub mod Lines

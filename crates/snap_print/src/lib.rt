@@ -3,15 +3,14 @@
 //! `proofs/Typing` what every printed line and every word is known by.
 //!
 //! In the order in which data flows: `integers`, `floats` and `numbers` (what a reader takes for a number), `quotes` (when a text
-//! needs them), `spell` (a text), `laws`.
+//! needs them), `escaping` (how its characters stand between them), `laws`.
 #![tactic(auto)]
 
+pub mod escaping;
 pub mod floats;
 pub mod integers;
 pub mod laws;
 pub mod numbers;
 pub mod quotes;
-pub mod spell;
 
 pub use quotes::need_quotes;
-pub use spell::spelled_text;

@@ -1,4 +1,4 @@
-use Rattle.snap_emit_values.proofs.scalars.bare_run.Goals as goal
+use Rattle.snap_print.proofs.escaping.bare_run.Goals as goal
 
 pub before_rest-requires : goal.before_rest-requires
 before_rest-requires c = (c.after_bare-rest.ensures.front, c.after_bare-rest.ensures.whole)

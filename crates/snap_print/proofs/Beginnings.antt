@@ -1,10 +1,10 @@
 -- A text that begins neither as a reserved word nor as a number is neither.
-use Rattle.snap_emit_values.proofs.Prelude.{◌≡◌, ℕ, List, [], ◌∷◌, Bool, true, false, ◌==◌, ◌||◌, ◌&&◌, refl, sym, ap, ◌∙◌, arith, nat_tests, if◌then◌else◌, drop, codes, Some, None, is_ascii_digit, list_any, list_all, bytes_eq, or_from, and_parts}
+use Rattle.snap_print.proofs.Prelude.{◌≡◌, ℕ, List, [], ◌∷◌, Bool, true, false, ◌==◌, ◌||◌, ◌&&◌, refl, sym, ap, ◌∙◌, arith, nat_tests, if◌then◌else◌, drop, codes, Some, None, is_ascii_digit, list_any, list_all, bytes_eq, or_from, and_parts}
 use Rattle.std.proofs.lemmas.Slice.Eq.{bytes_eq-Decides}
 use Rattle.snap_content.specs.Front.{begins}
 use Rattle.snap_content.specs.Numbers as n
 use Rattle.snap_content.specs.Quotes as q
-use Rattle.snap_emit_values.specs.Words.{is_letter, spells, fronts, fronts_word, begins_word}
+use Rattle.snap_print.specs.Words.{is_letter, spells, fronts, fronts_word, begins_word}
 
 neither : (a b : Bool) → (a || b) ≡ false → (a ≡ false) × (b ≡ false)
 neither true b h = absurd (cc)

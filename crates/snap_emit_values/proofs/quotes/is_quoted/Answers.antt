@@ -1,8 +1,0 @@
-use Rattle.snap_emit_values.proofs.Prelude.{sym, ◌∙◌}
-use Rattle.snap_emit_values.proofs.Beginnings.{two_looks}
-use Rattle.snap_emit_values.proofs.quotes.is_quoted.Goals as goal
-
-pub returns : goal.returns
-returns c =
-    c.is_quoted_within.ensures
-    ∙ two_looks _ _ _ c.in-Some.ensures (sym c.begins_as_word.ensures ∙ c.if-begins_as_word.false) (sym c.is_leading_char.ensures ∙ c.if-is_leading_char.false)
