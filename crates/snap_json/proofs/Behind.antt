@@ -1,5 +1,5 @@
 -- What is written in two steps, and what an error leaves in either.
-use Rattle.snap_json.proofs.Prelude.{◌≡◌, ℕ, List, [], ◌++◌, refl, sym, ap, ◌∙◌, append_assoc, Result, Ok, Err, IsErrAnd, append-nil, Written, whole, stopped, characters, behind, IsAdded, IsStopped, Wrote, JsonError, JsonKey, OutOfMemory}
+use Rattle.snap_json.proofs.Prelude.{◌≡◌, ℕ, List, [], ◌++◌, refl, sym, ap, ◌∙◌, append_assoc, Result, Ok, Err, IsErrAnd, append-nil, Written, whole, stopped, characters, behind, IsAdded, IsStopped, IsBegun, Wrote, JsonError, JsonKey, OutOfMemory}
 
 pub never_whole : (s u : List ℕ) → stopped s ≡ whole u → ⊥
 never_whole s u h = cc
@@ -103,6 +103,11 @@ behind-end (stopped s) = refl
 -- out of memory before anything was added
 pub out_of_memory : (old : List ℕ) (w : Written) → IsStopped OutOfMemory old old w
 out_of_memory old w = record { added = []; rest = characters w; is_full = refl; is_new = sym (append-nil old); at_key = λ key. absurd (never_key key) }
+
+-- a text that out of memory left with a beginning of what was to be added
+pub stopped_begun : (old new s : List ℕ) → IsBegun old new s → IsStopped OutOfMemory old new (whole s)
+stopped_begun old new s h =
+    record { added = h.added; rest = h.rest; is_full = h.whole; is_new = h.is; at_key = λ key. absurd (never_key key) }
 
 -- the same with another column
 pub stopped_at : {e : JsonError} {old new : List ℕ} (made : ℕ → Written) (inner k : ℕ) → inner ≡ k → IsStopped e old new (made inner)

@@ -37,7 +37,7 @@ on_accepted f t (Err e) old new h = tt
 pub on_begun : (f : Format) (t : Tree) (r : Result (Unit {0}) JsonError) (old new : List ℕ) → Wrote r old new (written f 0 (json_plain t))
     → OnErr r (IsBegun old new (before_first_refusal f t))
 on_begun f t (Ok x) old new h = tt
-on_begun f t (Err e) old new h = record { added = h.added; rest = h.rest; is_full = h.is_full; is_new = h.is_new }
+on_begun f t (Err e) old new h = record { added = h.added; rest = h.rest; whole = h.is_full; is = h.is_new }
 
 pub on_refused : (f : Format) (t : Tree) (r : Result (Unit {0}) JsonError) (old new : List ℕ) → Wrote r old new (written f 0 (json_plain t))
     → IsErrOf r JsonKey → json_refuses t ≡ true

@@ -1,5 +1,5 @@
 -- No character below a blank stands in a text on one line.
-use Rattle.snap_json.proofs.Prelude.{◌≡◌, ℕ, zero, suc, ◌+◌, ◌<◌, ◌^◌, ◌/◌, ◌%◌, ℤ, pos, negsuc, List, [], ◌∷◌, ◌++◌, Bool, true, false, ◌||◌, ◌==◌, nat_lt, if◌then◌else◌, refl, sym, ap, ◌∙◌, arith, decimal, signed_decimal, digit_glyph, list_any, flat_map, codes, or_left, or_right, Plain, null, bool, int, text, list, dict, Plains, no_items, item, Entries, no_entries, entry, opening, closing, comma, colon, json_escaped, json_string, text_at, items_at, entries_at, key_text, member_text, Format, Condensed, SingleLine, Pretty}
+use Rattle.snap_json.proofs.Prelude.{◌≡◌, ℕ, suc, ◌+◌, ◌<◌, ◌^◌, ◌/◌, ◌%◌, ℤ, pos, negsuc, List, [], ◌∷◌, ◌++◌, Bool, true, false, ◌==◌, nat_lt, if◌then◌else◌, refl, arith, decimal, signed_decimal, digit_glyph, list_any, flat_map, codes, or_left, or_right, Plain, null, bool, int, text, list, dict, Plains, no_items, item, Entries, no_entries, entry, opening, closing, comma, colon, json_escaped, json_string, text_at, items_at, entries_at, key_text, member_text, Format, Condensed, SingleLine, Pretty}
 use Rattle.std.proofs.lemmas.Bool.Decides.{nat_tests}
 use Rattle.std.proofs.lemmas.Fmt.{decimal_by_steps_wide}
 use Rattle.snap_print.specs.Readable.{IsNumber, IsWithin, AreWithin, AreEntriesWithin}

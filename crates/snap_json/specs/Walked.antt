@@ -1,20 +1,12 @@
 -- What is written of the lists that a tree holds.
-use Rattle.std.specs.Prelude.{ℕ, ◌+◌, List, [], ◌∷◌, ◌++◌, ◌≡◌, pos}
-use Rattle.std.specs.List.{flat_map}
+use Rattle.std.specs.Prelude.{ℕ, ◌+◌, List, [], ◌∷◌, pos}
 use Rattle.snap_content.specs.Plain.{int, text}
 use Rattle.snap_content.specs.View.{tree}
 use Rattle.snap_content.specs.declared.content.Content.{Content}
-use Rattle.snap_json.specs.Strings.{json_escaped}
 use Rattle.snap_json.specs.Layout.{opening, closing, comma}
 use Rattle.snap_json.specs.JsonPlain.{json_plain, json_key, key_plain}
 use Rattle.snap_json.specs.Written.{Written, whole, behind, written, member_written}
 use Rattle.snap_json.specs.declared.format.Format.{Format}
-
--- the rest of a text after characters that stand between double quotes as they are
-pub record IsBareBefore (text rest : List ℕ) : Type 0 where
-  pub run : List ℕ
-  pub is_all : text ≡ run ++ rest
-  pub is_bare : flat_map json_escaped run ≡ run
 
 -- one after the other
 abbrev pub all_written : {X : Type 0} → (X → Written) → List X → Written

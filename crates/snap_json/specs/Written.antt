@@ -69,13 +69,6 @@ abbrev mutual
 abbrev pub before_first_refusal : Format → Tree → List ℕ
 before_first_refusal layout tree = characters (written layout 0 (json_plain tree))
 
--- what being out of memory leaves of a text that was to grow by `full`: what it was, and a beginning of that
-pub record IsBegun (old new full : List ℕ) : Type 0 where
-  pub added : List ℕ
-  pub rest : List ℕ
-  pub is_full : full ≡ added ++ rest
-  pub is_new : new ≡ old ++ added
-
 -- all was added
 pub record IsAdded (old new : List ℕ) (all : Written) : Type 0 where
   pub added : List ℕ

@@ -1,8 +1,9 @@
 //! Condensed JSON, one value after the other in one text.
 ghost use Rattle.std.specs.Prelude.{◌≡◌, ◌++◌, [], OnOk, OnErr, IsErrOf, true, false};
 ghost use Rattle.snap_content.specs.View.{tree};
+ghost use Rattle.snap_print.specs.Begun.{IsBegun};
 ghost use Rattle.snap_json.specs.JsonText.{json_text, json_refuses};
-ghost use Rattle.snap_json.specs.Written.{IsBegun, before_first_refusal};
+ghost use Rattle.snap_json.specs.Written.{before_first_refusal};
 ghost use Rattle.snap_json.specs.declared.error.JsonError.TheVariants.{JsonKey};
 ghost use Rattle.snap_json.specs.declared.format.Format.TheVariants.{Condensed};
 
