@@ -1,7 +1,6 @@
 -- What the bytes of a text tell of its characters.
-use Rattle.snap_text_literals.proofs.Prelude.{◌≡◌, ℕ, zero, suc, ◌<◌, ◌≤◌, List, [], ◌∷◌, Bool, true, false, not, Option, Some, None, length, get_or, refl, sym, ap, ◌∙◌, arith, nat_tests, list_any, chars, IsUtf8, or_from, is_return}
+use Rattle.snap_text_literals.proofs.Prelude.{◌≡◌, ℕ, ◌≤◌, List, Bool, true, false, not, Option, sym, ap, ◌∙◌, arith, nat_tests, list_any, chars, IsUtf8, is_return}
 use Rattle.std.proofs.Common.{is_some}
-use Rattle.std.proofs.lemmas.Bool.{or_left, or_right, false_from_ne_true}
 use Rattle.memchr.specs.Find.{IsFirstByte, is_byte}
 use Rattle.snap_str.proofs.AsciiBytes.{any_of_bytes, found}
 
