@@ -11,7 +11,8 @@ unfoldable pub use Rattle.std.specs.Str.{chars}
 pub use Rattle.snap_content.specs.View.{tree, item_list, item_trees, pair_list, pair_trees, Pairs}
 pub use Rattle.snap_content.specs.declared.content.Content.{Content, Map}
 pub use Rattle.snap_str.specs.Lines.{ended_lines, onto}
-pub use Rattle.snap_front.specs.Split.{is_fence, Cut, with_line, at_fence, front_lines, texts_of, front_read}
+pub use Rattle.snap_text_literals.specs.Normal.{is_fence}
+pub use Rattle.snap_front.specs.Split.{Cut, with_line, at_fence, front_lines, texts_of, front_read}
 pub use Rattle.snap_front.specs.TreePaths.{is_key, value_in, item_at, step_in, get_tree, with_entry, with_item, put_step, set_tree, without_entry, without_item, cut_step, remove_tree}
 pub use Rattle.snap_front.specs.Paths.{steps_of, step_of, steps_in, path_in, IsPath, IsOther, IsNoPath, IsRefusedPath}
 pub use Rattle.snap_front.specs.declared.step.Step.{Step}

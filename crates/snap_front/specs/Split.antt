@@ -1,13 +1,8 @@
 -- How a document falls into its header and its body.
-use Rattle.std.specs.Prelude.{ℕ, Bool, List, [], ◌∷◌, Option, None, Some, option_map, if◌then◌else◌, codes}
+use Rattle.std.specs.Prelude.{ℕ, List, [], ◌∷◌, Option, None, Some, option_map, if◌then◌else◌}
 use Rattle.std.specs.List.{concat}
-use Rattle.std.specs.Str.{bytes_eq}
 use Rattle.snap_str.specs.Lines.{ended_lines}
-use Rattle.snap_text_literals.specs.Normal.{trimmed}
-
--- a line that is `---` but for white space at its end
-abbrev pub is_fence : List ℕ → Bool
-is_fence line = bytes_eq (trimmed line) (codes "---")
+use Rattle.snap_text_literals.specs.Normal.{is_fence}
 
 -- two lists of lines
 pub record Cut : Type 0 where

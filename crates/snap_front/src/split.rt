@@ -1,18 +1,11 @@
 //! Documents, split into their header and their body.
 ghost use Rattle.std.specs.Prelude.{◌≡◌, option_map};
 ghost use Rattle.std.specs.Str.{chars};
-ghost use Rattle.snap_front.specs.Split.{is_fence, front_read};
+ghost use Rattle.snap_front.specs.Split.{front_read};
 
-use snap_content::characters::{before_rest, is_same};
+use snap_content::characters::before_rest;
 use snap_str::lines::next_ended_line;
-use snap_text_literals::normal::trimmed_text;
-
-/// Whether the line is `---` but for white space at its end.
-fn is_fence(line: &str) -> bool
-    ensures { result ≡ is_fence (chars line.now) }
-{
-    is_same(trimmed_text(line), "---")
-}
+use snap_text_literals::normal::is_fence;
 
 /// The header of a document and its body; none where it has no header. The first line of a header is `---` but for white space at its
 /// end, and it ends before the next such line. The body is all that follows that line, character by character.

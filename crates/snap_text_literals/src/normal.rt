@@ -1,10 +1,11 @@
 //! The normal form of a text.
 ghost use Rattle.std.specs.Prelude.{◌≡◌, IfOk};
 ghost use Rattle.std.specs.Str.{chars};
-ghost use Rattle.snap_text_literals.specs.Normal.{normal, trimmed, unreturned};
+ghost use Rattle.snap_text_literals.specs.Normal.{is_fence, normal, trimmed, unreturned};
 
 use crate::holds::is_free_of_returns;
 use crate::lines::{split_line, trim_returns};
+use snap_content::characters::is_same;
 use snap_content::{OutOfMemory, Text};
 use std::alloc::Global;
 
@@ -13,6 +14,13 @@ pub fn trimmed_text(text: &str) -> &str
     ensures { chars result.now ≡ trimmed (chars text.now) }
 {
     text.trim_end()
+}
+
+/// Whether the line is `---` but for white space at its end.
+pub fn is_fence(line: &str) -> bool
+    ensures { result ≡ is_fence (chars line.now) }
+{
+    is_same(trimmed_text(line), "---")
 }
 
 /// The text without white space at its end and without the returns in front of a line's end. Few texts hold a return.
