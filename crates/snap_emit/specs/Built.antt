@@ -2,11 +2,11 @@
 use Rattle.std.specs.Prelude.{◌≡◌, ◌≢◌, List, [], ◌∷◌, ◌++◌, Bool, true, false, ◌||◌, ◌&&◌, Option, None, Some, is_some, option_map, map, if◌then◌else◌, Result, Ok, Err}
 use Rattle.snap_content.specs.Plain.{content_of}
 use Rattle.snap_content.specs.Tree as t
-use Rattle.snap_content.specs.View.{tree, pair_tree, item_list, pair_list}
+use Rattle.snap_content.specs.View.{tree, pair_tree, item_list, pair_list, Items, Pairs}
 use Rattle.snap_parse_events.specs.declared.event.Event.{Event}
 use Rattle.snap_parse_events.specs.declared.event.Event.TheVariants as e
 use Rattle.snap_yaml.specs.Readers.{is_bad}
-use Rattle.snap_yaml.specs.Value.{Value, values_of, pairs_of, array, hash}
+use Rattle.snap_yaml.specs.Value.{Value, values_of, pairs_of, real, integer, string, boolean, array, hash, null, bad_value}
 use Rattle.snap_parse.specs.Aliases.{has_alias}
 use Rattle.snap_parse.specs.Documents.{scalar_value}
 use Rattle.snap_parse.specs.Steps.{Held, in_list, in_dict, LoadState, start, steps}
@@ -18,6 +18,7 @@ use Rattle.snap_emit.specs.declared.frame.Frame.{Frame}
 use Rattle.snap_emit.specs.declared.frame.Frame.TheVariants as f
 use Rattle.snap_emit.specs.declared.loaded.Loaded.{Loaded}
 use Rattle.snap_emit.specs.declared.made.Made.{Made}
+use Rattle.snap_emit.specs.declared.made.Made.TheVariants as m
 use Rattle.snap_emit.specs.declared.refusal.Refusal.{Refusal}
 use Rattle.snap_emit.specs.declared.refusal.Refusal.TheVariants.{NoYaml, NotOneDocument, Alias, NoTree, Number}
 
@@ -33,10 +34,6 @@ tree_read v = option_map content_of (plain_read v)
 
 abbrev pub reading : Value → Reading
 reading v = record { tree = tree_read v; number = is_number_first v; bad = is_bad v }
-
--- of a tree that is no number kept as its text
-abbrev pub plain_reading : t.Tree → Reading
-plain_reading x = record { tree = Some x; number = false; bad = false }
 
 -- a value that is neither a list nor a mapping
 abbrev pub is_word_value : Value → Bool
@@ -161,12 +158,25 @@ step_read (e.MappingStart id) s = open_read (dict_open (Some []) false None) s
 step_read e.MappingEnd s = close_read s
 
 -- what is seen of a builder and of its parts
+abbrev pub items_seen : Option Items → Option (List t.Tree)
+items_seen items = option_map (λ x. map tree (item_list x)) items
+
+abbrev pub pairs_seen : Option Pairs → Option (List (t.Tree × t.Tree))
+pairs_seen pairs = option_map (λ x. map pair_tree (pair_list x)) pairs
+
 abbrev pub seen : Made → Reading
-seen m = record { tree = option_map tree m.content; number = m.has_number; bad = m.is_bad }
+seen m.Bad = reading bad_value
+seen m.Null = reading null
+seen (m.Truth b) = reading (boolean b)
+seen (m.Integer z) = reading (integer z)
+seen (m.Text s) = reading (string s)
+seen (m.Number w) = reading (real w)
+seen (m.List items number) = closed_read (list_open (items_seen items) number)
+seen (m.Dict pairs number) = closed_read (dict_open (pairs_seen pairs) number None)
 
 abbrev pub open_seen : Frame → Open
-open_seen (f.List items number) = list_open (option_map (λ x. map tree (item_list x)) items) number
-open_seen (f.Dict pairs number due) = dict_open (option_map (λ x. map pair_tree (pair_list x)) pairs) number (option_map seen due)
+open_seen (f.List items number) = list_open (items_seen items) number
+open_seen (f.Dict pairs number due) = dict_open (pairs_seen pairs) number (option_map seen due)
 
 abbrev pub documents_seen : Ended → Documents
 documents_seen d.Nothing = nothing

@@ -59,7 +59,7 @@ fn node_or_bad(node: Option<Made>) -> Made
     ensures { seen result ≡ reading_or_bad (option_map seen node) }
 {
     match node {
-        None => Made::bad(),
+        None => Made::Bad,
         Some(made) => made,
     }
 }
@@ -170,14 +170,10 @@ fn one_document(ended: Ended, has_alias: bool) -> Result<Loaded, Refusal>
 fn loaded_of(made: Made, has_alias: bool) -> Loaded
     ensures { IsNodeOf (seen made) has_alias result }
 {
-    let Made {
-        content,
-        has_number,
-        is_bad: _,
-    } = made;
+    let has_number_text = made.has_number();
     Loaded {
-        content,
-        has_number_text: has_number,
+        content: made.into_content(),
+        has_number_text,
         has_alias,
     }
 }

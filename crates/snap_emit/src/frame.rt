@@ -1,10 +1,9 @@
 //! A list or a mapping that is open, with what it holds as trees.
-ghost use Rattle.std.specs.Prelude.{◌≡◌, OnOk, option_map, map, if◌then◌else◌, None, Some};
-ghost use Rattle.snap_content.specs.View.{tree, pair_tree, item_list, pair_list};
-ghost use Rattle.snap_emit.specs.Built.{behind, both, closed_read, map_read, open_seen, put_open, seen, seq_read};
+ghost use Rattle.std.specs.Prelude.{◌≡◌, OnOk, option_map, if◌then◌else◌, None, Some};
+ghost use Rattle.snap_emit.specs.Built.{behind, both, closed_read, items_seen, open_seen, pairs_seen, put_open, seen};
 
 use crate::made::Made;
-use snap_content::{Content, Items, OutOfMemory, Pairs};
+use snap_content::{Items, OutOfMemory, Pairs};
 
 /// A list or a mapping that is open.
 #[derive(Drop)]
@@ -16,55 +15,34 @@ pub(crate) enum Frame {
 }
 
 /// Puts a tree after others. Where it is none, there are none.
-fn put_item(items: &mut Option<Items>, item: Option<Content>) -> Result<(), OutOfMemory>
-    ensures { OnOk result (option_map (λ x. map tree (item_list x)) items.new
-        ≡ behind (option_map (λ x. map tree (item_list x)) items.old) (option_map tree item)) }
+fn put_item(items: &mut Option<Items>, item: Made) -> Result<(), OutOfMemory>
+    ensures { OnOk result (items_seen items.new
+        ≡ behind (items_seen items.old) (seen item).tree) }
 {
-    match item {
-        None => {
+    match items {
+        Some(items) if item.is_tree() => items.push(item.into_tree()),
+        _ => {
+            drop(item);
             drop(items.take());
             Ok(())
         }
-        Some(item) => match items {
-            None => {
-                drop(item);
-                Ok(())
-            }
-            Some(items) => items.push(item),
-        },
     }
 }
 
-/// The same of a pair.
-fn put_pair(pairs: &mut Option<Pairs>, pair: Option<(Content, Content)>) -> Result<(), OutOfMemory>
-    ensures { OnOk result (option_map (λ x. map pair_tree (pair_list x)) pairs.new
-        ≡ behind (option_map (λ x. map pair_tree (pair_list x)) pairs.old) (option_map pair_tree pair)) }
+/// The same of a pair, which is made where it is put.
+fn put_pair(pairs: &mut Option<Pairs>, key: Made, value: Made) -> Result<(), OutOfMemory>
+    ensures { OnOk result (pairs_seen pairs.new
+        ≡ behind (pairs_seen pairs.old) (both (seen key).tree (seen value).tree)) }
 {
-    match pair {
-        None => {
-            drop(pairs.take());
-            Ok(())
+    match pairs {
+        Some(pairs) if key.is_tree() && value.is_tree() => {
+            pairs.push((key.into_tree(), value.into_tree()))
         }
-        Some(pair) => match pairs {
-            None => {
-                drop(pair);
-                Ok(())
-            }
-            Some(pairs) => pairs.push(pair),
-        },
-    }
-}
-
-/// A pair, where both are there.
-fn pair_of(key: Option<Content>, value: Option<Content>) -> Option<(Content, Content)>
-    ensures { option_map pair_tree result ≡ both (option_map tree key) (option_map tree value) }
-{
-    match (key, value) {
-        (Some(key), Some(value)) => Some((key, value)),
-        (key, value) => {
+        _ => {
             drop(key);
             drop(value);
-            None
+            drop(pairs.take());
+            Ok(())
         }
     }
 }
@@ -78,8 +56,8 @@ fn put_in_list(
     ensures { OnOk result (open_seen (Frame.List items.new has_number.new)
         ≡ put_open (seen made) (open_seen (Frame.List items.old has_number.old))) }
 {
-    *has_number = *has_number || (items.is_some() && made.has_number);
-    put_item(items, made.content)
+    *has_number = *has_number || (items.is_some() && made.has_number());
+    put_item(items, made)
 }
 
 /// Puts a value after its key. Nothing counts after what is no tree.
@@ -92,16 +70,16 @@ fn put_behind(
     ensures { OnOk result (open_seen (Frame.Dict pairs.new has_number.new None)
         ≡ put_open (seen value) (open_seen (Frame.Dict pairs.old has_number.old (Some key)))) }
 {
-    let found = key.has_number || (key.content.is_some() && value.has_number);
+    let found = key.has_number() || (key.is_tree() && value.has_number());
     *has_number = *has_number || (pairs.is_some() && found);
-    put_pair(pairs, pair_of(key.content, value.content))
+    put_pair(pairs, key, value)
 }
 
 /// Lets a key wait for its value. A bad one is dropped.
 fn key_of(made: Made) -> Option<Made>
     ensures { option_map seen result ≡ (if (seen made).bad then None else Some (seen made)) }
 {
-    if made.is_bad {
+    if made.is_bad() {
         drop(made);
         None
     } else {
@@ -144,38 +122,11 @@ impl Frame {
         ensures { seen result ≡ closed_read (open_seen self) }
     {
         match self {
-            Frame::List(items, has_number) => Made {
-                content: seq_of(items),
-                has_number,
-                is_bad: false,
-            },
+            Frame::List(items, has_number) => Made::List(items, has_number),
             Frame::Dict(pairs, has_number, due) => {
                 drop(due);
-                Made {
-                    content: map_of(pairs),
-                    has_number,
-                    is_bad: false,
-                }
+                Made::Dict(pairs, has_number)
             }
         }
-    }
-}
-
-fn seq_of(items: Option<Items>) -> Option<Content>
-    ensures { option_map tree result ≡ seq_read (option_map (λ x. map tree (item_list x)) items) }
-{
-    match items {
-        None => None,
-        Some(items) => Some(Content::Seq(items)),
-    }
-}
-
-fn map_of(pairs: Option<Pairs>) -> Option<Content>
-    ensures { option_map tree result
-        ≡ map_read (option_map (λ x. map pair_tree (pair_list x)) pairs) }
-{
-    match pairs {
-        None => None,
-        Some(pairs) => Some(Content::Map(pairs)),
     }
 }
