@@ -9,4 +9,5 @@ mod FirstNumbers
 mod ShortNumbers
 mod ReadTexts
 mod NumberPieces
+mod KeptNumbers
 pub mod OneText

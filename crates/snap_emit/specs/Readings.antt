@@ -1,5 +1,6 @@
 -- What the documents of a text are read as.
 use Rattle.std.specs.Prelude.{◌≡◌, ◌≢◌, ℕ, List, [], ◌∷◌, Bool, true, false, None, Some, option_map, Result, Ok, Err}
+use Rattle.std.specs.List.{list_any}
 use Rattle.snap_content.specs.Plain.{Plain, content_of}
 use Rattle.snap_content.specs.View.{tree}
 use Rattle.snap_content.specs.declared.content.Content.{Content}
@@ -8,8 +9,10 @@ use Rattle.snap_scan_tokens.specs.declared.info.ScanError.TheVariants.{OutOfMemo
 use Rattle.snap_scan.specs.Sound.{IsFounded}
 use Rattle.snap_parse_events.specs.Nodes.{Node, stream_events}
 use Rattle.snap_parse_events.specs.Streams.{IsStream}
+use Rattle.snap_parse_events.specs.declared.event.Event.{Event}
+use Rattle.snap_parse_events.specs.declared.event.Event.TheVariants as e
 use Rattle.snap_parse.specs.Aliases.{has_alias}
-use Rattle.snap_parse.specs.Documents.{document_value}
+use Rattle.snap_parse.specs.Documents.{document_value, scalar_value}
 use Rattle.snap_emit.specs.PlainRead.{plain_read, has_number_text, is_number_first}
 use Rattle.snap_emit.specs.declared.loaded.Loaded.{Loaded}
 use Rattle.snap_emit.specs.declared.refusal.Refusal.{Refusal}
@@ -19,6 +22,14 @@ use Rattle.snap_emit.specs.declared.reading.Header.{Header}
 -- an alias stands in the document
 abbrev pub is_aliased : Node → Bool
 is_aliased node = has_alias (stream_events (node ∷ []))
+
+-- a number that is kept as its text, since it is no whole number of 128 bits, stands among the events: as a scalar that is read so
+abbrev pub is_kept_number : Event → Bool
+is_kept_number (e.Scalar text style id tag) = has_number_text (scalar_value text style tag)
+is_kept_number _ = false
+
+abbrev pub is_kept_among : List Event → Bool
+is_kept_among events = list_any is_kept_number events
 
 -- what was made of a document: its tree, if it is one, whether a number comes first that is no whole number of 128 bits, and
 -- whether an alias stands in it

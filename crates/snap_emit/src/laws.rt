@@ -1,11 +1,15 @@
 //! Laws of printed texts.
-ghost use Rattle.std.specs.Prelude.{◌≡◌, true, ℕ, List};
+ghost use Rattle.std.specs.Prelude.{◌≡◌, [], ◌∷◌, true, ℕ, List};
 ghost use Rattle.snap_content.specs.Plain.{Plain};
 ghost use Rattle.snap_print.specs.Readable.{IsWithin, is_word};
 ghost use Rattle.snap_print.specs.Spell.{spelling};
 ghost use Rattle.snap_print.specs.Typed.{typed, value};
 ghost use Rattle.snap_print.specs.Blocks.{Blocks};
 ghost use Rattle.snap_print.specs.Lines.{text_of};
+ghost use Rattle.snap_parse_events.specs.Nodes.{Node, stream_events};
+ghost use Rattle.snap_parse.specs.Documents.{document_value};
+ghost use Rattle.snap_emit.specs.PlainRead.{has_number_text};
+ghost use Rattle.snap_emit.specs.Readings.{is_kept_among};
 ghost use Rattle.snap_emit.specs.Spelled.{IsHeaderOf, SpellsHeader};
 ghost use Rattle.snap_emit.specs.Examples.{AreMarkedNumbers, AreWords, AreWholeNumbers, AreReal, AreTexts, AreSpelled};
 
@@ -21,6 +25,12 @@ pub const fn one_text_is_one_tree()
 /// The numbers of a tree that a free layout spells have 128 bits.
 pub const fn spelled_numbers_are_within()
     ensures { (text : List ℕ) (t : Plain) → SpellsHeader text t → IsWithin t }
+{}
+
+/// Where a number is kept as its text in the value of a document, it stands among the document's events.
+pub const fn kept_numbers_stand_among_events()
+    ensures { (node : Node) → has_number_text (document_value node) ≡ true
+        → is_kept_among (stream_events (node ∷ [])) ≡ true }
 {}
 
 /// A scalar that is written without double quotes is what a reader takes its spelling for.
