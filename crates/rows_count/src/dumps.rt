@@ -1,7 +1,7 @@
 //! The values of lines, and how long their dumps are.
 use rows::value_of_line;
 use snap_content::{OutOfMemory, Text};
-use snap_emit_values::{EmitError, YamlEmitter};
+use snap_emit::{EmitError, YamlEmitter};
 use snap_yaml::Yaml;
 use std::alloc::Global;
 

@@ -2,9 +2,10 @@
 use crate::error::AskError;
 use rows::{tree_of_line, value_of_line};
 use snap_content::{Content, OutOfMemory, Text};
+use snap_emit::{EmitError, YamlEmitter, written_len};
+use snap_emit_values::Blocks;
 use snap_emit_values::documents::{document_text, push_document};
 use snap_emit_values::printing::{print_body, printed_document};
-use snap_emit_values::{Blocks, EmitError, YamlEmitter, written_len};
 use snap_yaml::{Array, Yaml};
 use std::alloc::Global;
 

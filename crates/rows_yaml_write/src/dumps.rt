@@ -2,7 +2,7 @@
 use crate::calls::called;
 use rows::{add_escaped, first_column, value_of_line};
 use snap_content::Text;
-use snap_emit_values::{EmitError, YamlEmitter};
+use snap_emit::{EmitError, YamlEmitter};
 use snap_yaml::Yaml;
 use std::alloc::Global;
 

@@ -1,5 +1,5 @@
 //! YAML texts of trees: printing, and reading of any text.
-//! It hands on what the crates below print and read, with paths in its refusals,
+//! It hands on what the crates below print and read, with paths in its refusals, and the emitter of values,
 //! and says in laws what holds of every printed text.
 //!
 //! In the order in which data flows: `whole` (texts of whole numbers), `made` (what a node is as a tree), `frame` (what is open),
@@ -22,5 +22,6 @@ pub mod yaml;
 pub use reading::{read_header, read_text};
 pub use refusal::Refusal;
 pub use snap_emit_values::scalars::push_spelled_text;
+pub use snap_emit_values::{EmitError, EmitResult, YamlEmitter, written_len};
 pub use snap_print::need_quotes;
 pub use yaml::{Header, body_to_string, parse_header, parse_str, to_string};
