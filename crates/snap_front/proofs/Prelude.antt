@@ -1,7 +1,6 @@
 -- The words that the proofs of this crate speak in: those of the library, of the crates below, and of its own definitions.
 pub use Rattle.std.proofs.Common.{rules, ◌≡◌, ℕ, zero, suc, ◌+◌, ◌<◌, Bool, true, false, cond, List, [], ◌∷◌, ◌++◌, Option, None, Some, option_map, option_and_then, refl, sym, ap, ◌∙◌, subst, arith, drop, length, drop-cons, add-one, append_assoc, append-nil, slice_get, get_or, set, ◌≤◌, ◌⊎◌, inl, inr, IfOk, IfErr, OnErr, Result, Ok, Err, Bor}
 pub use Rattle.std.specs.Prelude.{option_copied, position, ◌==◌}
-pub use Rattle.snap_content.proofs.Ends.{same_texts}
 pub use Rattle.std.proofs.lemmas.Bool.{eqb-true, eqb-false}
 pub use Rattle.std.proofs.lemmas.List.{drop_all}
 pub use Rattle.std.proofs.lemmas.List.Folds.{concat-append}

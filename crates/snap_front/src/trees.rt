@@ -1,6 +1,6 @@
 //! What stands in a tree at the end of a path.
 ghost use Rattle.std.specs.Prelude.{◌≡◌, option_map};
-ghost use Rattle.std.specs.Str.{chars, bytes_eq};
+ghost use Rattle.std.specs.Str.{chars};
 ghost use Rattle.snap_content.specs.View.{tree, item_list, item_trees, pair_trees};
 ghost use Rattle.snap_front.specs.Paths.{steps_of};
 ghost use Rattle.snap_front.specs.TreePaths.{is_key, value_in, item_at, step_in, get_tree};
@@ -8,13 +8,7 @@ ghost use Rattle.snap_front.specs.TreePaths.{is_key, value_in, item_at, step_in,
 use crate::path::Path;
 use crate::step::Step;
 use snap_content::{Content, Items};
-
-/// Whether both are one text.
-fn is_same_text(left: &str, right: &str) -> bool
-    ensures { result ≡ bytes_eq (chars left.now) (chars right.now) }
-{
-    left == right
-}
+use snap_select::is_same_text;
 
 /// Whether the key of an entry is this text.
 pub(crate) fn is_key(key: &Content, name: &str) -> bool

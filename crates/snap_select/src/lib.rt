@@ -41,3 +41,4 @@ pub use redactor::Redactor;
 pub use replacement::Replacement;
 pub use segment::Segment;
 pub use selector::Selector;
+pub use step_ref::is_same_text;

@@ -28,7 +28,7 @@ fn bound_at(bound: i64, length: u64) -> u64
 }
 
 /// Whether both are one text.
-fn is_same_text(left: &str, right: &str) -> bool
+pub fn is_same_text(left: &str, right: &str) -> bool
     ensures { result ≡ bytes_eq (chars left.now) (chars right.now) }
 {
     left == right
