@@ -10,6 +10,7 @@ pub mod Runs
 pub mod Errors
 pub mod Context
 pub mod Properties
+pub mod PutBack
 pub mod Ends
 pub mod Taking
 pub mod Twin

@@ -8,6 +8,7 @@ use crate::tokens::unexpected;
 use snap_scan_tokens::{ScanInfo, Token, TokenType};
 
 impl<'a> Machine<'a> {
+    ghost use Rattle.snap_parse_events.specs.PutBack.{AnchoredBy, MarkedBy, Suffices, TaggedBy};
     ghost use Rattle.snap_parse_events.specs.Machine.{KeepsSoundIn, GivesIn, PaysIn, KeepsNames, StaysOnError};
     ghost use Rattle.snap_parse_events.specs.Twin.{Follows, entry_step, filled_step, indentless_step, key_step, value_step};
 
@@ -18,6 +19,7 @@ impl<'a> Machine<'a> {
         ensures same { StaysOnError result self.old self.new }
         ensures sound { KeepsSoundIn State.BlockSequenceEntry result self.old self.new }
         ensures twin { Follows (entry_step self.old.outer.items) result self.old self.new }
+        ensures mark { MarkedBy (Suffices State.BlockSequenceEntry) result self.old.tokens }
     {
         match self.tokens.take()? {
             Token(mark, TokenType::BlockEnd) => {
@@ -39,6 +41,7 @@ impl<'a> Machine<'a> {
         ensures same { StaysOnError result self.old self.new }
         ensures sound { KeepsSoundIn State.IndentlessSequenceEntry result self.old self.new }
         ensures twin { Follows (indentless_step self.old.outer.items) result self.old self.new }
+        ensures mark { MarkedBy (Suffices State.IndentlessSequenceEntry) result self.old.tokens }
     {
         match self.tokens.take()? {
             Token(_, TokenType::BlockEntry) => {
@@ -64,6 +67,7 @@ impl<'a> Machine<'a> {
         ensures same { StaysOnError result self.old self.new }
         ensures sound { KeepsSoundIn State.BlockMappingKey result self.old self.new }
         ensures twin { Follows (key_step self.old.outer.items) result self.old self.new }
+        ensures mark { MarkedBy (Suffices State.BlockMappingKey) result self.old.tokens }
     {
         match self.tokens.take()? {
             Token(mark, TokenType::BlockEnd) => {
@@ -89,6 +93,7 @@ impl<'a> Machine<'a> {
         ensures same { StaysOnError result self.old self.new }
         ensures sound { KeepsSoundIn State.BlockMappingValue result self.old self.new }
         ensures twin { Follows (value_step self.old.outer.items) result self.old self.new }
+        ensures mark { MarkedBy (Suffices State.BlockMappingValue) result self.old.tokens }
     {
         match self.tokens.take()? {
             Token(_, TokenType::Value) => self.block_mapping_content(),
@@ -109,6 +114,9 @@ impl<'a> Machine<'a> {
         ensures sound { KeepsSoundIn State.BlockMappingContent result self.old self.new }
         ensures twin { Follows (filled_step Ends.BlockPair Context.Indentless State.BlockMappingKey self.old.outer.items)
             result self.old self.new }
+        ensures mark { MarkedBy (Suffices State.BlockMappingContent) result self.old.tokens }
+        ensures tagged { TaggedBy result self.old.tokens }
+        ensures anchored { AnchoredBy self.old.anchors.next result self.old.tokens }
     {
         self.parse_filled(Ends::BlockPair, Context::Indentless, State::BlockMappingKey)
     }

@@ -1,5 +1,5 @@
 //! The stream and its documents.
-ghost use Rattle.std.specs.Prelude.{◌≡◌, ◌+◌, ◌*◌, ◌≤◌, ℕ, List, [], IfOk, OnOk, Some, true};
+ghost use Rattle.std.specs.Prelude.{◌≡◌, ◌+◌, ◌*◌, ◌≤◌, ℕ, List, [], IfOk, OnOk, Some, true, false};
 ghost use Rattle.snap_parse_events.specs.Meaning.{ahead, open_in, after};
 ghost use Rattle.snap_parse_events.specs.Feed.{tokens_left, starts};
 
@@ -10,6 +10,8 @@ use crate::tokens::unexpected;
 use snap_scan_tokens::{ScanInfo, Token, TokenType};
 
 impl<'a> Machine<'a> {
+    ghost use Rattle.snap_parse_events.specs.PutBack.{AnchoredBy, MarkedBy, Suffices, SufficesAt, TaggedBy};
+    ghost use Rattle.snap_parse_events.specs.Ends.{is_directive};
     ghost use Rattle.snap_parse_events.specs.Machine.{spot_of, meaning_now, events_now, IsSoundAhead, StaysSound, KeepsSoundIn, GivesIn, PaysIn, KeepsNames, StaysOnError};
     ghost use Rattle.snap_parse_events.specs.Twin.{Follows, document_end_step, document_step, first_document_step, start_step, state_step, stream_step};
 
@@ -21,6 +23,7 @@ impl<'a> Machine<'a> {
         ensures sound { (source : List ℕ) → IsSoundAhead source self.old.tokens self.old.outer.items
             → StaysSound source result self.new.tokens (spot_of self.new) }
         ensures twin { Follows (stream_step self.old.outer.items) result self.old self.new }
+        ensures mark { MarkedBy (SufficesAt Stage.Ahead) result self.old.tokens }
     {
         match self.tokens.take()? {
             Token(mark, TokenType::StreamStart(_)) => {
@@ -40,6 +43,7 @@ impl<'a> Machine<'a> {
         ensures sound { KeepsSoundIn State.ImplicitDocumentStart result self.old self.new }
         ensures twin { Follows (first_document_step self.old.outer.items)
             result self.old self.new }
+        ensures mark { MarkedBy (Suffices State.ImplicitDocumentStart) result self.old.tokens }
     {
         match self.tokens.take()? {
             Token(mark, TokenType::StreamEnd) => {
@@ -69,6 +73,7 @@ impl<'a> Machine<'a> {
         ensures same { StaysOnError result self.old self.new }
         ensures sound { KeepsSoundIn State.DocumentStart result self.old self.new }
         ensures twin { Follows (document_step self.old.outer.items) result self.old self.new }
+        ensures mark { MarkedBy (Suffices State.DocumentStart) result self.old.tokens }
     {
         self.tokens.skip_document_ends()?;
         match self.tokens.take()? {
@@ -91,6 +96,7 @@ impl<'a> Machine<'a> {
         ensures same { StaysOnError result self.old self.new }
         ensures sound { KeepsSoundIn State.DocumentStart result self.old self.new }
         ensures twin { Follows (start_step self.old.outer.items) result self.old self.new }
+        ensures mark { MarkedBy (λ t. is_directive t ≡ false) result self.old.tokens }
     {
         self.tokens.skip_directives()?;
         match self.tokens.take()? {
@@ -110,6 +116,9 @@ impl<'a> Machine<'a> {
         ensures sound { KeepsSoundIn State.DocumentContent result self.old self.new }
         ensures twin { Follows (state_step State.DocumentContent self.old.outer.items)
             result self.old self.new }
+        ensures mark { MarkedBy (Suffices State.DocumentContent) result self.old.tokens }
+        ensures tagged { TaggedBy result self.old.tokens }
+        ensures anchored { AnchoredBy self.old.anchors.next result self.old.tokens }
     {
         self.parse_filled(Ends::Document, Context::Block, State::DocumentEnd)
     }
@@ -122,6 +131,7 @@ impl<'a> Machine<'a> {
         ensures same { StaysOnError result self.old self.new }
         ensures sound { KeepsSoundIn State.DocumentEnd result self.old self.new }
         ensures twin { Follows (document_end_step self.old.outer.items) result self.old self.new }
+        ensures mark { MarkedBy (Suffices State.DocumentEnd) result self.old.tokens }
     {
         match self.tokens.take()? {
             Token(mark, TokenType::DocumentEnd) => {

@@ -1,5 +1,5 @@
 //! Sequences and mappings in flow.
-ghost use Rattle.std.specs.Prelude.{◌+◌, ◌≤◌, false, OnOk};
+ghost use Rattle.std.specs.Prelude.{◌≡◌, ◌+◌, ◌≤◌, false, OnOk, IfOk, Some, None, if◌then◌else◌};
 ghost use Rattle.snap_parse_events.specs.Feed.{tokens_left};
 
 use crate::event::Event;
@@ -9,6 +9,12 @@ use crate::tokens::unexpected;
 use snap_scan_tokens::{Marker, ScanInfo, Token, TokenType};
 
 impl<'a> Machine<'a> {
+    ghost use Rattle.snap_parse_events.specs.PutBack.{is_prefix, AnchoredBy, MarkedBy, Suffices, TaggedBy};
+    ghost use Rattle.snap_parse_events.specs.Ends.{ends_at};
+    ghost use Rattle.snap_scan_tokens.specs.Mark.{Mark};
+    ghost use Rattle.snap_scan_tokens.specs.Place.{mark_of};
+    ghost use Rattle.snap_scan_tokens.specs.declared.token.Token.{Token as TokenSeen};
+    ghost use Rattle.snap_scan_tokens.specs.declared.token.TokenType.{TokenType as Kind};
     ghost use Rattle.snap_parse_events.specs.Machine.{events_now, events_before, KeepsSoundIn, GivesIn, GivesNode, PaysIn, KeepsNames, StaysOnError};
     ghost use Rattle.snap_parse_events.specs.Twin.{Follows, filled_step, flow_entry_step, flow_first_key_step, flow_first_step, flow_key_step, flow_value_step};
 
@@ -20,6 +26,9 @@ impl<'a> Machine<'a> {
         ensures same { StaysOnError result self.old self.new }
         ensures sound { KeepsSoundIn State.FlowSequenceFirstEntry result self.old self.new }
         ensures twin { Follows (flow_first_step self.old.outer.items) result self.old self.new }
+        ensures mark { MarkedBy (Suffices State.FlowSequenceFirstEntry) result self.old.tokens }
+        ensures tagged { TaggedBy result self.old.tokens }
+        ensures anchored { AnchoredBy self.old.anchors.next result self.old.tokens }
     {
         match self.tokens.take()? {
             Token(mark, TokenType::FlowSequenceEnd) => {
@@ -30,10 +39,7 @@ impl<'a> Machine<'a> {
                 self.stage = Stage::Open(State::FlowSequenceEntryMappingKey);
                 Ok((Event::MappingStart(0), mark))
             }
-            token => {
-                self.tokens.put_back(token);
-                self.parse_node(Context::Flow, State::FlowSequenceEntry)
-            }
+            token => self.parse_node_from(token, Context::Flow, State::FlowSequenceEntry),
         }
     }
 
@@ -44,6 +50,7 @@ impl<'a> Machine<'a> {
         ensures same { StaysOnError result self.old self.new }
         ensures sound { KeepsSoundIn State.FlowSequenceEntry result self.old self.new }
         ensures twin { Follows (flow_entry_step self.old.outer.items) result self.old self.new }
+        ensures mark { MarkedBy (Suffices State.FlowSequenceEntry) result self.old.tokens }
     {
         match self.tokens.take()? {
             Token(mark, TokenType::FlowSequenceEnd) => {
@@ -62,6 +69,9 @@ impl<'a> Machine<'a> {
         ensures names { KeepsNames result self.old self.new }
         ensures same { StaysOnError result self.old self.new }
         ensures sound { KeepsSoundIn State.FlowSequenceEntryMappingKey result self.old self.new }
+        ensures mark { MarkedBy (Suffices State.FlowSequenceEntryMappingKey) result self.old.tokens }
+        ensures tagged { TaggedBy result self.old.tokens }
+        ensures anchored { AnchoredBy self.old.anchors.next result self.old.tokens }
     {
         match self.tokens.take()? {
             Token(mark, TokenType::Value) => {
@@ -73,10 +83,11 @@ impl<'a> Machine<'a> {
             Token(mark, TokenType::FlowSequenceEnd) => {
                 self.give_empty(mark, State::FlowSequenceEntryMappingValue)
             }
-            token => {
-                self.tokens.put_back(token);
-                self.parse_node(Context::Flow, State::FlowSequenceEntryMappingValue)
-            }
+            token => self.parse_node_from(
+                token,
+                Context::Flow,
+                State::FlowSequenceEntryMappingValue,
+            ),
         }
     }
 
@@ -86,6 +97,7 @@ impl<'a> Machine<'a> {
         ensures names { KeepsNames result self.old self.new }
         ensures same { StaysOnError result self.old self.new }
         ensures sound { KeepsSoundIn State.FlowSequenceEntryMappingValue result self.old self.new }
+        ensures mark { MarkedBy (Suffices State.FlowSequenceEntryMappingValue) result self.old.tokens }
     {
         match self.tokens.take()? {
             Token(_, TokenType::Value) => {
@@ -109,6 +121,8 @@ impl<'a> Machine<'a> {
         ensures names { KeepsNames result self.old self.new }
         ensures same { StaysOnError result self.old self.new }
         ensures sound { KeepsSoundIn State.FlowSequenceEntryMappingEnd result self.old self.new }
+        ensures mark { IfOk result (λ given.
+            given.1 ≡ mark_of self.old.tokens.scanner.state.place) }
     {
         self.stage = Stage::Open(State::FlowSequenceEntry);
         Ok((Event::MappingEnd, self.tokens.mark()))
@@ -123,6 +137,12 @@ impl<'a> Machine<'a> {
         ensures sound { KeepsSoundIn State.FlowMappingFirstKey result self.old self.new }
         ensures twin { Follows (flow_first_key_step self.old.outer.items)
             result self.old self.new }
+        ensures mark { comma ≡ None → MarkedBy (Suffices State.FlowMappingFirstKey) result self.old.tokens }
+        ensures comma { (token : TokenSeen) (mark : Mark) → self.old.tokens.held ≡ Some token
+            → token.1 ≡ Kind.FlowMappingEnd → comma ≡ Some mark
+            → IfOk result (λ given. given.1 ≡ mark) }
+        ensures tagged { TaggedBy result self.old.tokens }
+        ensures anchored { AnchoredBy self.old.anchors.next result self.old.tokens }
     {
         match self.tokens.take()? {
             Token(mark, TokenType::FlowMappingEnd) => {
@@ -136,10 +156,7 @@ impl<'a> Machine<'a> {
                 self.tokens.put_back(Token(mark, TokenType::Value));
                 self.give_empty(mark, State::FlowMappingValue)
             }
-            token => {
-                self.tokens.put_back(token);
-                self.parse_node(Context::Flow, State::FlowMappingEmptyValue)
-            }
+            token => self.parse_node_from(token, Context::Flow, State::FlowMappingEmptyValue),
         }
     }
 
@@ -150,6 +167,7 @@ impl<'a> Machine<'a> {
         ensures same { StaysOnError result self.old self.new }
         ensures sound { KeepsSoundIn State.FlowMappingKey result self.old self.new }
         ensures twin { Follows (flow_key_step self.old.outer.items) result self.old self.new }
+        ensures mark { MarkedBy (Suffices State.FlowMappingKey) result self.old.tokens }
     {
         match self.tokens.take()? {
             Token(mark, TokenType::FlowMappingEnd) => {
@@ -169,6 +187,7 @@ impl<'a> Machine<'a> {
         ensures same { StaysOnError result self.old self.new }
         ensures sound { KeepsSoundIn State.FlowMappingValue result self.old self.new }
         ensures twin { Follows (flow_value_step self.old.outer.items) result self.old self.new }
+        ensures mark { MarkedBy (Suffices State.FlowMappingValue) result self.old.tokens }
     {
         match self.tokens.take()? {
             Token(mark, TokenType::Value) => self.parse_flow_value(mark),
@@ -191,6 +210,9 @@ impl<'a> Machine<'a> {
         ensures twin { Follows
             (filled_step Ends.FlowValue Context.Flow State.FlowMappingKey self.old.outer.items)
             result self.old self.new }
+        ensures mark { (token : TokenSeen) → self.old.tokens.held ≡ Some token
+            → is_prefix token.1 ≡ false → IfOk result (λ given.
+            given.1 ≡ (if ends_at Ends.FlowValue token.1 then mark else token.0)) }
     {
         let token = self.tokens.take()?;
         if !Ends::FlowValue.has(&token.1) {
@@ -206,6 +228,7 @@ impl<'a> Machine<'a> {
         ensures names { KeepsNames result self.old self.new }
         ensures same { StaysOnError result self.old self.new }
         ensures sound { KeepsSoundIn State.FlowMappingEmptyValue result self.old self.new }
+        ensures mark { MarkedBy (Suffices State.FlowMappingEmptyValue) result self.old.tokens }
     {
         let token = self.tokens.take()?;
         let mark = token.0;

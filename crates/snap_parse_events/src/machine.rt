@@ -1,5 +1,5 @@
 //! What all states of a parser share.
-ghost use Rattle.std.specs.Prelude.{◌≡◌, ◌≢◌, ◌+◌, ◌≤◌, ℕ, List, [], ◌∷◌, IfOk, OnOk, OnErr, IfErr, IsOkAnd, Some, All};
+ghost use Rattle.std.specs.Prelude.{◌≡◌, ◌≢◌, ◌+◌, ◌≤◌, ℕ, List, [], ◌∷◌, IfOk, OnOk, OnErr, IfErr, IsOkAnd, Some, All, true};
 ghost use Rattle.std.specs.Str.{chars};
 ghost use Rattle.snap_scan_tokens.specs.Place.{before_nul, mark_of};
 ghost use Rattle.snap_parse_events.specs.Meaning.{open_in, after, is_inside};
@@ -30,6 +30,7 @@ pub struct Machine<'a> {
 }
 
 impl<'a> Machine<'a> {
+    ghost use Rattle.snap_parse_events.specs.PutBack.{begins_node, begins_node_at, is_pair_end, is_pair_end_at, AnchoredBy, MarkedBy, Suffices, SufficesAt, TaggedBy};
     ghost use Rattle.snap_parse_events.specs.Machine.{spot_of, meaning_now, events_now, HasSigns, IsSound, IsSoundIn, StaysSound, KeepsSoundIn, GivesIn, GivesNode, PaysIn, KeepsNames, StaysOnError};
     ghost use Rattle.snap_parse_events.specs.Twin.{left_spot, empty_scalar, Follows, parse_step, state_step};
 
@@ -103,6 +104,12 @@ impl<'a> Machine<'a> {
         ensures same { StaysOnError result self.old self.new }
         ensures sound { KeepsSoundIn state result self.old self.new }
         ensures twin { Follows (state_step state self.old.outer.items) result self.old self.new }
+        ensures mark { MarkedBy (Suffices state) result self.old.tokens }
+        ensures pair_end { is_pair_end state ≡ true → IfOk result (λ given.
+            given.1 ≡ mark_of self.old.tokens.scanner.state.place) }
+        ensures tagged { begins_node state ≡ true → TaggedBy result self.old.tokens }
+        ensures anchored { begins_node state ≡ true
+            → AnchoredBy self.old.anchors.next result self.old.tokens }
     {
         match state {
             State::ImplicitDocumentStart => self.implicit_document_start(),
@@ -142,6 +149,12 @@ impl<'a> Machine<'a> {
         ensures sound { (source : List ℕ) → IsSound source self.old.tokens (spot_of self.old)
             → StaysSound source result self.new.tokens (spot_of self.new) }
         ensures twin { Follows (parse_step (spot_of self.old)) result self.old self.new }
+        ensures mark { MarkedBy (SufficesAt self.old.stage) result self.old.tokens }
+        ensures pair_end { is_pair_end_at self.old.stage ≡ true → IfOk result (λ given.
+            given.1 ≡ mark_of self.old.tokens.scanner.state.place) }
+        ensures tagged { begins_node_at self.old.stage ≡ true → TaggedBy result self.old.tokens }
+        ensures anchored { begins_node_at self.old.stage ≡ true
+            → AnchoredBy self.old.anchors.next result self.old.tokens }
     {
         match self.stage {
             Stage::Ahead => self.stream_start(),

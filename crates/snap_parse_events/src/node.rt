@@ -11,6 +11,8 @@ use snap_content::{Lent, Text};
 use snap_scan_tokens::{Marker, ScanError, ScanInfo, TScalarStyle, Token, TokenType};
 
 impl<'a> Machine<'a> {
+    ghost use Rattle.snap_parse_events.specs.PutBack.{is_prefix, AnchoredBy, MarkedBy, TaggedBy};
+    ghost use Rattle.snap_parse_events.specs.Ends.{ends_at};
     ghost use Rattle.snap_scan_tokens.specs.declared.token.TokenType.{TokenType as Kind};
     ghost use Rattle.snap_parse_events.specs.Context.{takes_indentless};
     ghost use Rattle.snap_parse_events.specs.Properties.{content_event, empty_text, is_anchor, is_property, is_tag, HasAnchor, HasTag};
@@ -28,6 +30,9 @@ impl<'a> Machine<'a> {
         ensures sound { KeepsSoundIn behind result self.old self.new }
         ensures twin { Follows (node_step context behind self.old.outer.items)
             result self.old self.new }
+        ensures mark { MarkedBy (λ t. is_prefix t ≡ false) result self.old.tokens }
+        ensures tagged { TaggedBy result self.old.tokens }
+        ensures anchored { AnchoredBy self.old.anchors.next result self.old.tokens }
     {
         let token = self.tokens.take()?;
         self.parse_node_from(token, context, behind)
@@ -68,7 +73,7 @@ impl<'a> Machine<'a> {
             result (λ given. HasTag (Some (record { handle = handle; suffix = suffix })) given.0) }
         ensures content { is_property token.entry.1 ≡ false → IfOk result (λ given.
             given.0 ≡ content_event context 0 None token.entry.1) }
-        ensures mark { is_property token.entry.1 ≡ false
+        ensures mark { is_prefix token.entry.1 ≡ false
             → IfOk result (λ given. given.1 ≡ token.entry.0) }
     {
         match token {
@@ -99,6 +104,7 @@ impl<'a> Machine<'a> {
             → result ≡ Ok (Event.Alias id, mark) }
         ensures unknown { id_of name.now self.old.anchors ≡ None
             → result ≡ Err (ScanError.Syntax mark ScanInfo.P3) }
+        ensures mark { IfOk result (λ given. given.1 ≡ mark) }
     {
         match self.anchors.id_of(name) {
             None => Err(ScanError::Syntax(mark, ScanInfo::P3)),
@@ -294,6 +300,11 @@ impl<'a> Machine<'a> {
         ensures sound { KeepsSoundIn behind result self.old self.new }
         ensures twin { Follows (filled_step ends context behind self.old.outer.items)
             result self.old self.new }
+        ensures mark { MarkedBy (λ t. is_prefix t ≡ false) result self.old.tokens }
+        ensures tagged { ((handle suffix : List ℕ) → ends_at ends (Kind.Tag handle suffix) ≡ false)
+            → TaggedBy result self.old.tokens }
+        ensures anchored { ((name : List ℕ) → ends_at ends (Kind.Anchor name) ≡ false)
+            → AnchoredBy self.old.anchors.next result self.old.tokens }
     {
         let token = self.tokens.take()?;
         if !ends.has(&token.1) {

@@ -1,5 +1,5 @@
 //! The parser, and its events one by one.
-ghost use Rattle.std.specs.Prelude.{◌≡◌, ◌≢◌, ◌<◌, List, IfOk, OnOk, OnErr, IfErr, IsOkAnd, Err, Some, None, false};
+ghost use Rattle.std.specs.Prelude.{◌≡◌, ◌≢◌, ◌<◌, List, IfOk, OnOk, OnErr, IfErr, IsOkAnd, Err, Some, None, true, false};
 ghost use Rattle.std.specs.Str.{chars};
 ghost use Rattle.snap_scan_tokens.specs.Place.{before_nul, mark_of};
 ghost use Rattle.snap_scan_tokens.specs.declared.info.ScanError.{ScanError};
@@ -12,6 +12,7 @@ ghost use Rattle.snap_parse_events.specs.Meaning.{ended, is_inside, is_stream_en
 ghost use Rattle.snap_parse_events.specs.Names.{forgotten};
 ghost use Rattle.snap_parse_events.specs.Parsing.{start_parsing, source, meaning, events_left, WillGive, IsNext, Fails, KeepsError};
 ghost use Rattle.snap_parse_events.specs.Place.{start_spot};
+ghost use Rattle.snap_parse_events.specs.PutBack.{begins_node_at, is_pair_end_at, AnchoredBy, MarkedBy, SufficesAt, TaggedBy};
 ghost use Rattle.snap_parse_events.specs.Twin.{Yields};
 
 use crate::event::Event;
@@ -76,6 +77,13 @@ impl<'a> Parser<'a> {
             → IfErr result (λ e. e ≡ ScanError.OutOfMemory) }
         ensures cause { IfErr result (λ e. IsFounded (source self.old) e) }
         ensures source { source self.new ≡ source self.old }
+        ensures mark { MarkedBy (SufficesAt self.old.spot.stage) result self.old.tokens }
+        ensures pair_end { is_pair_end_at self.old.spot.stage ≡ true → IfOk result (λ given.
+            given.1 ≡ mark_of self.old.tokens.scanner.state.place) }
+        ensures tagged { begins_node_at self.old.spot.stage ≡ true
+            → TaggedBy result self.old.tokens }
+        ensures anchored { begins_node_at self.old.spot.stage ≡ true
+            → AnchoredBy self.old.names.next result self.old.tokens }
     {
         if let Some(error) = &self.error {
             return Err(*error);

@@ -1,8 +1,9 @@
 //! The tokens of a text, the next of which may be looked at.
-ghost use Rattle.std.specs.Prelude.{◌≡◌, ◌≤◌, ◌+◌, ℕ, List, IfOk, OnOk, true, ◌∷◌, false, None};
+ghost use Rattle.std.specs.Prelude.{◌≡◌, ◌≤◌, ◌+◌, ℕ, List, IfOk, OnOk, true, ◌∷◌, false, None, Some, Ok};
 ghost use Rattle.std.specs.Str.{chars};
 ghost use Rattle.snap_scan_tokens.specs.Place.{before_nul, mark_of};
 ghost use Rattle.snap_scan.specs.Sound.{is_start};
+ghost use Rattle.snap_scan_tokens.specs.declared.token.Token.{Token as TokenSeen};
 ghost use Rattle.snap_scan_tokens.specs.declared.token.TokenType.{TokenType as Kind};
 ghost use Rattle.snap_scan.specs.Owed.{type_of};
 ghost use Rattle.snap_parse_events.specs.Ends.{is_document_end, is_directive};
@@ -37,6 +38,7 @@ impl<'a> Tokens<'a> {
         ensures start { starts self.old ≡ true → IfOk result (λ t. is_start t.1 ≡ true) }
         ensures takes { (ts : List Kind) → WillTake self.old ts → TakesFirst result self.new ts }
         ensures free { self.new.held ≡ None }
+        ensures held { (token : TokenSeen) → self.old.held ≡ Some token → result ≡ Ok token }
     {
         if let Some(token) = self.held.take() {
             return Ok(token);
@@ -53,6 +55,7 @@ impl<'a> Tokens<'a> {
         ensures left { tokens_left self.new ≤ tokens_left self.old + 1 }
         ensures takes { (ts : List Kind) → self.old.held ≡ None → WillTake self.old ts
             → WillTake self.new (type_of token.entry ∷ ts) }
+        ensures held { self.new.held ≡ Some token.entry }
     {
         self.held = Some(token);
     }
@@ -63,6 +66,8 @@ impl<'a> Tokens<'a> {
         ensures left { OnOk result (tokens_left self.new ≤ tokens_left self.old) }
         ensures takes { (t : Kind) (ts : List Kind) → is_document_end t ≡ false
             → WillTake self.old (t ∷ ts) → StillTakes result self.new (t ∷ ts) }
+        ensures held { (token : TokenSeen) → self.old.held ≡ Some token
+            → is_document_end token.1 ≡ false → OnOk result (self.new.held ≡ Some token) }
     {
         'ends: loop {
             match self.take()? {
@@ -81,6 +86,8 @@ impl<'a> Tokens<'a> {
         ensures left { OnOk result (tokens_left self.new ≤ tokens_left self.old) }
         ensures takes { (t : Kind) (ts : List Kind) → is_directive t ≡ false
             → WillTake self.old (t ∷ ts) → StillTakes result self.new (t ∷ ts) }
+        ensures held { (token : TokenSeen) → self.old.held ≡ Some token
+            → is_directive token.1 ≡ false → OnOk result (self.new.held ≡ Some token) }
     {
         'directives: loop {
             match self.take()? {
