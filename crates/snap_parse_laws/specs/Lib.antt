@@ -10,5 +10,6 @@ pub mod LayoutTokens
 pub mod PrintedLayouts
 pub mod FreeLayouts
 pub mod LayoutExamples
+pub mod KeyPlaces
 pub mod Endings
 pub mod FormEndings

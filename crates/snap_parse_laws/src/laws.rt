@@ -1,13 +1,19 @@
 //! Laws of printed texts, and of texts in free layouts.
-ghost use Rattle.std.specs.Prelude.{◌≡◌, ◌∷◌, ◌++◌, [], false, ℕ, List};
+ghost use Rattle.std.specs.Prelude.{◌≡◌, ◌∷◌, ◌++◌, [], false, true, ℕ, List, Some, length};
 ghost use Rattle.snap_content.specs.Plain.{Plain};
 ghost use Rattle.snap_print.specs.Blocks.{Blocks};
 ghost use Rattle.snap_print.specs.Lines.{document_of};
-ghost use Rattle.snap_scan_tokens.specs.Place.{before_nul};
+ghost use Rattle.snap_scan_tokens.specs.Place.{before_nul, Place};
+ghost use Rattle.snap_scan_tokens.specs.declared.quoted.Quotes.{Quotes};
+ghost use Rattle.snap_scan_tokens.specs.declared.token.Token.{Token};
+ghost use Rattle.snap_scan.specs.Fetching.{plain, quoted, told, value_of_key};
+ghost use Rattle.snap_scan.specs.State.{State};
+ghost use Rattle.snap_scan.specs.declared.keys.SimpleKey.{SimpleKey};
 ghost use Rattle.snap_scan.specs.Owed.{Owes};
 ghost use Rattle.snap_scan.specs.Scan.{start_scan};
 ghost use Rattle.snap_parse_laws.specs.Endings.{ends_in_block};
 ghost use Rattle.snap_parse_laws.specs.FreeLayouts.{IsFree};
+ghost use Rattle.snap_parse_laws.specs.KeyPlaces.{NamesLast, StandsBefore};
 ghost use Rattle.snap_parse_laws.specs.LayoutExamples.{AreLaid};
 ghost use Rattle.snap_parse_laws.specs.LayoutTokens.{layout_tokens};
 ghost use Rattle.snap_parse_laws.specs.Layouts.{Document};
@@ -39,6 +45,22 @@ pub const fn laid_texts_owe_their_tokens()
 pub const fn free_layouts_owe_their_tokens()
     ensures { (d : Document) → IsFree d
         → Owes (start_scan (before_nul (document_text d))).state (document_with (layout_tokens d.tree)) }
+{}
+
+/// Where a simple key may begin, the possible key that a plain or a quoted scalar leaves names that scalar's token, and has its mark.
+pub const fn possible_keys_are_their_tokens()
+    ensures plain { (s u : State) (p : Place) (key : SimpleKey) → s.allowed ≡ true
+        → plain s ≡ told p u → u.keys.key ≡ Some key → NamesLast key u.held }
+    ensures quoted { (quotes : Quotes) (s u : State) (p : Place) (key : SimpleKey)
+        → s.allowed ≡ true → quoted quotes s ≡ told p u → u.keys.key ≡ Some key
+        → NamesLast key u.held }
+{}
+
+/// At the `:` of a possible key, Key is put right before the token that it names, at the key's mark.
+pub const fn keys_stand_before_their_tokens()
+    ensures { (s : State) (key : SimpleKey) (before : List Token) (token : Token)
+        (behind : List Token) → s.held ≡ before ++ token ∷ behind → key.place ≡ length before
+        → StandsBefore key before token (value_of_key key s).held }
 {}
 
 /// Layouts and their texts, worked out by hand.
