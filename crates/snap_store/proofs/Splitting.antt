@@ -9,8 +9,8 @@ use Rattle.snap_store.proofs.Pieces.{pieces-line}
 use Rattle.snap_store.proofs.LineEnds.{ended_by_feed}
 use Rattle.snap_store.proofs.Bodies.{body-headed}
 use Rattle.snap_text.proofs.Trimming.{trimmed-push, trimmed-dashes}
-use Rattle.snap_text.specs.Normal.{trimmed}
-use Rattle.snap_store.specs.FileSplit.{is_fence, header_of, body_of}
+use Rattle.snap_text.specs.Normal.{trimmed, is_fence}
+use Rattle.snap_store.specs.FileSplit.{header_of, body_of}
 
 -- a line holds no LF, and ends in no CR
 unbroken_line : (line : List ℕ) → list_any is_break line ≡ false → IsUnbroken line

@@ -8,11 +8,7 @@ use Rattle.snap_content.specs.Plain.{Plain}
 use Rattle.snap_print.specs.Blocks.{Blocks}
 use Rattle.snap_print.specs.Lines.{document_of, text_of}
 use Rattle.snap_str.specs.Lines.{ended_lines}
-use Rattle.snap_text.specs.Normal.{trimmed}
-
--- a line that is `---` but for white space at its end
-abbrev pub is_fence : List ℕ → Bool
-is_fence piece = bytes_eq (trimmed piece) (codes "---")
+use Rattle.snap_text.specs.Normal.{trimmed, is_fence}
 
 -- a line's end: LF, or CR and LF
 abbrev pub is_end : List ℕ → Bool

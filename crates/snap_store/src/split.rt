@@ -3,17 +3,17 @@ ghost use Rattle.std.specs.Prelude.{◌≡◌, ℕ, List, [], ◌∷◌, ◌++�
 ghost use Rattle.std.specs.List.{concat};
 ghost use Rattle.std.specs.Str.{chars};
 ghost use Rattle.snap_str.specs.Lines.{ended_lines};
-ghost use Rattle.snap_store.specs.FileSplit.{is_fence, line_of, lines_text, up_to_fence, past_fence, is_headed, FallsInto, file_text};
+ghost use Rattle.snap_store.specs.FileSplit.{line_of, lines_text, up_to_fence, past_fence, is_headed, FallsInto, file_text};
 ghost use Rattle.snap_store.specs.Split.{IsSplit};
 ghost use Rattle.snap_content.specs.Plain.{Plain};
 ghost use Rattle.snap_print.specs.Blocks.{Blocks};
 ghost use Rattle.snap_print.specs.Lines.{lines_of, text_of, document_of};
 ghost use Rattle.snap_print.specs.Printed.{AreRows};
 
-use snap_content::characters::{is_same, split_last};
+use snap_content::characters::split_last;
 use snap_content::{OutOfMemory, Text};
 use snap_str::lines::next_ended_line;
-use snap_text::normal::trimmed_text;
+use snap_text::normal::is_fence;
 use std::alloc::Global;
 
 /// A headed file: its header with the lines' ends, and its body.
@@ -21,13 +21,6 @@ use std::alloc::Global;
 pub struct Headed {
     pub header: Text,
     pub body: Text,
-}
-
-/// Whether the line is `---` but for white space at its end.
-fn is_fence(piece: &str) -> bool
-    ensures { result ≡ is_fence (chars piece.now) }
-{
-    is_same(trimmed_text(piece), "---")
 }
 
 /// What stands before the character, where the text ends with it.
