@@ -8,7 +8,8 @@
 //! - `made PAIRS`: the tree that is made of the metadata of a map.
 //! - `copy_metadata METADATA`, `copy_contents CONTENTS` and `copy_snapshot SNAPSHOT`: what a copy tells.
 //! - `agree CONTENTS CONTENTS`: whether they agree.
-use crate::{copies, reading, saving, trees};
+//! - `relative_source BASE SOURCE`: the source as it is seen from the base; without the second column there is no source.
+use crate::{copies, reading, relative, saving, trees};
 use rows::first_column;
 use snap_content::{Error, OutOfMemory, Text};
 use std::alloc::Global;
@@ -44,6 +45,7 @@ fn copied(alloc: Global, call: &str, columns: &str) -> Result<Text, OutOfMemory>
         "copy_contents" => copies::contents_line(alloc, columns),
         "copy_snapshot" => copies::snapshot_line(alloc, columns),
         "agree" => copies::agree_line(alloc, columns),
+        "relative_source" => relative::relative_source_line(alloc, columns),
         _ => Text::from_ascii(alloc, "no call"),
     }
 }

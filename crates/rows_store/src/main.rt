@@ -13,6 +13,7 @@
 mod calls;
 mod copies;
 mod reading;
+mod relative;
 mod saving;
 mod shown;
 mod trees;

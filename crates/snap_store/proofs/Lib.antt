@@ -13,4 +13,6 @@ mod Outcomes
 pub mod Readings
 mod NormalBodies
 mod ReadBack
+mod Relatives
+pub mod Lists
 pub mod Written

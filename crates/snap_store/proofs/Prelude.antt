@@ -1,5 +1,5 @@
 -- The words that the proofs of this crate speak in: those of the library, of the crates below, and of its own definitions.
-pub use Rattle.std.proofs.Common.{refl, sym, inl, inr, ◌≡◌, ℕ, List, true, cond, ap, [], ◌∷◌, ◌++◌, Option, None, Some, ◌∙◌, rules, pos, ◌==◌, Bool, false, map, drop, Bor, true-eqb, ◌&&◌, ◌+◌, ◌<◌, ◌≤◌, not, length, take, get_or, add-one, ◌^◌, Result, Ok, Err, subst, IsErrAnd, append_assoc, append-nil, ◌||◌, ℤ, negsuc, nat_lt, OnOk, OnErr}
+pub use Rattle.std.proofs.Common.{refl, sym, inl, inr, ◌≡◌, ℕ, List, true, cond, ap, [], ◌∷◌, ◌++◌, Option, None, Some, ◌∙◌, rules, pos, ◌==◌, Bool, false, map, drop, Bor, true-eqb, ◌&&◌, ◌+◌, ◌<◌, ◌≤◌, not, length, take, get_or, add-one, ◌^◌, Result, Ok, Err, subst, IsErrAnd, append_assoc, append-nil, ◌||◌, ℤ, negsuc, nat_lt, OnOk, OnErr, arith}
 pub use Rattle.std.proofs.lemmas.Bool.{and_parts, lt-ltb}
 pub use Rattle.std.specs.FinMap.{get, insert}
 pub use Rattle.std.specs.List.{list_any, flat_map, concat}
@@ -32,3 +32,8 @@ pub use Rattle.snap_store.specs.Views.{meta_of, meta_in, contents_in, legacy_in,
 pub use Rattle.snap_store.specs.declared.contents.SnapshotContents.{SnapshotContents}
 pub use Rattle.snap_store.specs.declared.metadata.SnapshotKind.{SnapshotKind}
 pub use Rattle.snap_store.specs.declared.metadata.SnapshotKind.TheVariants.{Text, Binary}
+pub use Rattle.std.proofs.lemmas.Str.{chars-nil}
+pub use Rattle.snap_path.proofs.Parts.{next-here, next-last, component-size, apart-both, apart-common}
+pub use Rattle.snap_path.specs.Paths.{components, slashed, is_absolute, path_of_parts, joined, relative_from, Apart, apart, from_apart, same_start}
+pub use Rattle.snap_store.specs.Relative.{below, left_below, path_within, source_within}
+pub use Rattle.std.proofs.lemmas.Result.{IfOk-weaker}

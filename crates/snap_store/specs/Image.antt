@@ -6,13 +6,17 @@ use Rattle.snap_print.specs.Lines.{document_of, text_of}
 use Rattle.snap_text.specs.Normal.{normal}
 use Rattle.snap_store.specs.Meta.{Meta, header_tree, without_line}
 
+-- the file of a header and a body
+abbrev pub image_of : Plain → List ℕ → List ℕ
+image_of header body = document_of off header ++ (codes "---\n" ++ body)
+
 -- the file of a header and a tree: literal blocks stand in the tree's text alone
 abbrev pub file_of : Plain → Blocks → Plain → List ℕ
-file_of header w tree = document_of off header ++ (codes "---\n" ++ text_of w tree)
+file_of header w tree = image_of header (text_of w tree)
 
 -- the file of a text snapshot with these metadata
 abbrev pub text_under : Meta → List ℕ → List ℕ
-text_under meta raw = document_of off (header_tree meta) ++ (codes "---\n" ++ (normal raw ++ 10 ∷ []))
+text_under meta raw = image_of (header_tree meta) (normal raw ++ 10 ∷ [])
 
 -- the file that a text snapshot is saved as
 abbrev pub saved_text : Meta → List ℕ → List ℕ

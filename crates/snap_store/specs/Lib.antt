@@ -10,4 +10,5 @@ pub mod Image
 pub mod Reading
 pub mod ReadBack
 pub mod Named
+pub mod Relative
 pub mod Causes

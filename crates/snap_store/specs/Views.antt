@@ -45,6 +45,26 @@ legacy_in snapshot = snapshot.was_legacy
 abbrev pub number_text_in : Snapshot → Bool
 number_text_in snapshot = snapshot.number_as_text
 
+-- a snapshot: its names, its metadata, its contents, and what is told of the file that it was read from
+pub record SnapshotView : Type 0 where
+  pub module_name : List ℕ
+  pub snapshot_name : Option (List ℕ)
+  pub meta : Meta
+  pub contents : SnapshotContents
+  pub was_legacy : Bool
+  pub number_as_text : Bool
+
+-- what a snapshot is seen as
+abbrev pub snapshot_of : Snapshot → SnapshotView
+snapshot_of snapshot = record {
+  module_name = module_in snapshot;
+  snapshot_name = name_in snapshot;
+  meta = meta_in snapshot;
+  contents = contents_in snapshot;
+  was_legacy = legacy_in snapshot;
+  number_as_text = number_text_in snapshot;
+}
+
 -- of text contents what is compared and saved: the raw text of a file, and an inline one without the indentation that its lines share
 abbrev pub text_in : SnapshotContents → Option (List ℕ)
 text_in (Text contents) = Some (compared_of contents)

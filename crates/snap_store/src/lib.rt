@@ -4,7 +4,8 @@
 //!
 //! In the order in which data flows: `split` (header and body), `metadata` and
 //! `metadata_tree` (what the header tells, and metadata as a tree), `legacy` (what a file without a header tells), `contents`
-//! (the body), `snapshot` and `reading` (all of it), `header` and `saving` (the way back), `named` (the calls of a store that both make), `laws`.
+//! (the body), `snapshot` and `reading` (all of it), `header` and `saving` (the way back), `named` (the calls of a store that both make),
+//! `relative` (the source as it is seen from a folder), `laws`.
 #![tactic(auto)]
 
 pub mod contents;
@@ -15,6 +16,7 @@ pub mod metadata;
 mod metadata_tree;
 pub mod named;
 mod reading;
+pub mod relative;
 mod saving;
 pub mod snapshot;
 pub mod split;

@@ -171,7 +171,7 @@ impl MetaData {
 }
 
 /// An equal text, where there is one.
-pub(crate) fn clone_text(alloc: Global, value: &Option<Text>) -> Result<Option<Text>, OutOfMemory>
+pub fn clone_text(alloc: Global, value: &Option<Text>) -> Result<Option<Text>, OutOfMemory>
     ensures { IfOk result (λ copy. copy ≡ value.now) }
 {
     match value {
@@ -180,7 +180,8 @@ pub(crate) fn clone_text(alloc: Global, value: &Option<Text>) -> Result<Option<T
     }
 }
 
-fn clone_info(alloc: Global, value: &Option<Content>) -> Result<Option<Content>, OutOfMemory>
+/// An equal tree, where there is one.
+pub fn clone_info(alloc: Global, value: &Option<Content>) -> Result<Option<Content>, OutOfMemory>
     ensures { IfOk result (λ copy. option_map tree copy ≡ option_map tree value.now) }
 {
     match value {
