@@ -2,7 +2,7 @@ mod Prelude
 mod FileLines
 mod Ends
 mod Records
-mod Lists
+mod Refusals
 mod LastRun
 mod Parts
 mod Texts

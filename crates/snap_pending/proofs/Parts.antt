@@ -1,5 +1,5 @@
 -- The parts of a snapshot and of a record, exit by exit.
-use Rattle.snap_pending.proofs.Prelude.{◌≡◌, ℕ, List, Option, None, Some, Result, Ok, Err, refl, ap, sym, subst, codes, option_map, Plain, Entries, text, dict, Error, FailedParsingYaml, UnexpectedDataType, MissingField, FileIo, FloatText, JsonKey, NotText, NoFile, OutOfMemory, last_value, Meta, meta_of, SnapshotContents, Held, held_of, TellsMeta, HoldsText, HeldRefused, HeldEnd, IsOtherHeld, LacksInHeld, MayTell, IsOtherRecord, LacksInRecord, RecordRefused}
+use Rattle.snap_pending.proofs.Prelude.{◌≡◌, ℕ, List, Option, None, Some, Result, Ok, Err, refl, ap, sym, subst, codes, option_map, Plain, Entries, text, dict, Error, FailedParsingYaml, UnexpectedDataType, MissingField, FileIo, FloatText, JsonKey, NotText, NoFile, OutOfMemory, last_value, Meta, meta_of, SnapshotContents, SnapshotView, snapshot_of, TellsMeta, HoldsText, HeldRefused, HeldEnd, IsOtherHeld, LacksInHeld, MayTell, IsOtherRecord, LacksInRecord, RecordRefused}
 use Rattle.snap_store.specs.declared.metadata.MetaData.{MetaData}
 use Rattle.snap_store.specs.declared.snapshot.Snapshot.{Snapshot}
 use Rattle.snap_pending.specs.Told.IsOtherHeld.{no_metadata, no_text}
@@ -115,11 +115,11 @@ held_refused pairs (Some value) JsonKey h other lacks = absurd h
 held_refused pairs (Some value) (NotText named) h other lacks = absurd h
 held_refused pairs (Some value) (NoFile named) h other lacks = absurd h
 
-held_told : (o : Option Plain) (held : Option Snapshot) → MayBeHeldEnd o (Ok held) → MayTell o (option_map held_of held)
+held_told : (o : Option Plain) (held : Option Snapshot) → MayBeHeldEnd o (Ok held) → MayTell o (option_map snapshot_of held)
 held_told None None h = tt
 held_told None (Some snapshot) h = absurd (cc)
 held_told (Some value) None h = absurd h
 held_told (Some value) (Some snapshot) h = h
 
-pub may_tell : (o : Option Plain) (held : Option Snapshot) (shown : Option Held) → shown ≡ option_map held_of held → MayBeHeldEnd o (Ok held) → MayTell o shown
-may_tell o held shown same h = let P : Option Held → Type 0 = λ s. MayTell o s in subst P (sym same) (held_told o held h)
+pub may_tell : (o : Option Plain) (held : Option Snapshot) (shown : Option SnapshotView) → shown ≡ option_map snapshot_of held → MayBeHeldEnd o (Ok held) → MayTell o shown
+may_tell o held shown same h = let P : Option SnapshotView → Type 0 = λ s. MayTell o s in subst P (sym same) (held_told o held h)

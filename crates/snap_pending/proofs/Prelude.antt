@@ -26,7 +26,7 @@ pub use Rattle.snap_store.specs.Meta.{Meta}
 pub use Rattle.snap_store.specs.MetaTree.{text_pair, line_pair, info_pair, kind_pairs, meta_pairs, meta_tree, without_nil_info, TellsFields}
 pub use Rattle.snap_store.specs.Causes.{CallEnd, IsCallError}
 pub use Rattle.snap_store.specs.Reading.{IsTextFile}
-pub use Rattle.snap_store.specs.Views.{meta_of, text_in}
+pub use Rattle.snap_store.specs.Views.{meta_of, text_in, SnapshotView, snapshot_of}
 pub use Rattle.snap_store.specs.declared.contents.SnapshotContents.{SnapshotContents}
 pub use Rattle.snap_store.specs.declared.metadata.SnapshotKind.{SnapshotKind}
 pub use Rattle.snap_str.proofs.LineTexts.{lines-line, some_bytes, no_bytes}
@@ -35,7 +35,7 @@ pub use Rattle.snap_text.specs.Normal.{normal}
 pub use Rattle.snap_pending.specs.Back.{IsBack, AreBack, IsReadable, HasTexts, in_json, meta_back, IsHeldBack, MayBeBack, HasShortLine, HasShortLines, HasText}
 pub use Rattle.snap_pending.specs.Batches.{last_run, is_of_run, batch_of, items_in, records_of}
 pub use Rattle.snap_pending.specs.Loaded.{Tell, Refuse, IsBatch, HasRefusedLine, LoadRefused, LoadEnd}
-pub use Rattle.snap_pending.specs.Pending.{pending_of, Pending, Held, held_of}
+pub use Rattle.snap_pending.specs.Pending.{pending_of, Pending}
 pub use Rattle.snap_pending.specs.Record.{record_of, record_line, held_tree, tree_or_none, is_refused}
 pub use Rattle.snap_pending.specs.Saved.{SavingEnd, SavingRefused, PrintRefused, with_lines}
 pub use Rattle.snap_pending.specs.Told.{TellsRecord, RecordRefused, LineTells, LineRefused, LineEnd, RecordEnd, MayBeJsonOf, IsNoJson, parsing_refusal, TellsMeta, HoldsText, HeldRefused, HeldEnd, IsOtherHeld, LacksInHeld, MayTell, IsOtherRecord, LacksInRecord, TellsHeld, IsNoMap, IsNoText, no_map, no_metadata, no_text, lacks_module, lacks_metadata, lacks_extension, lacks_text, is_no_map, other_new, other_old, lacks_run, lacks_line, lacks_in_new, lacks_in_old}

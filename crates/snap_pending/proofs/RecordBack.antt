@@ -1,5 +1,5 @@
 -- A record is told by what JSON keeps of it.
-use Rattle.snap_pending.proofs.Prelude.{◌≡◌, ℕ, pos, false, List, Option, None, Some, refl, ap, sym, ◌∙◌, subst, IfSome, codes, option_map, Tree, string, TreePairs, no_pairs, pair, json_plain, json_pairs, last_value, last_filled, text_value, line_value, text_pair, meta_tree, text_in, SnapshotContents, normal, IsHeldBack, MayBeBack, IsBack, HasShortLine, HasShortLines, Held, Pending, held_tree, tree_or_none, record_of, HoldsText, TellsMeta, TellsHeld, MayTell, TellsRecord}
+use Rattle.snap_pending.proofs.Prelude.{◌≡◌, ℕ, pos, false, List, Option, None, Some, refl, ap, sym, ◌∙◌, subst, IfSome, codes, option_map, Tree, string, TreePairs, no_pairs, pair, json_plain, json_pairs, last_value, last_filled, text_value, line_value, text_pair, meta_tree, text_in, SnapshotContents, normal, IsHeldBack, MayBeBack, IsBack, HasShortLine, HasShortLines, SnapshotView, Pending, held_tree, tree_or_none, record_of, HoldsText, TellsMeta, TellsHeld, MayTell, TellsRecord}
 use Rattle.snap_content.specs.Plain as p
 use Rattle.snap_fields.proofs.Made.{short-line}
 use Rattle.snap_pending.proofs.MetaBack.{meta-back}
@@ -52,7 +52,7 @@ normal_of : (contents : SnapshotContents) (o : Option (List ℕ)) (shown : List 
 normal_of contents None shown is h = absurd (cc)
 normal_of contents (Some raw) shown is h = record { raw = raw; text_is = is; shown_is = cc }
 
-held_told : (held back : Held) (found : p.Entries) (metadata : p.Plain) (raw : List ℕ) → HasShortLine held
+held_told : (held back : SnapshotView) (found : p.Entries) (metadata : p.Plain) (raw : List ℕ) → HasShortLine held
     → found ≡ json_pairs (held_pairs_of held.module_name held.snapshot_name (meta_tree held.meta) (option_map normal (text_in held.contents)))
     → text_value (last_value (codes "module_name") found) ≡ Some back.module_name
     → back.snapshot_name ≡ text_value (last_value (codes "snapshot_name") found)
@@ -81,7 +81,7 @@ held_told held back found metadata raw fits is module_is name_is metadata_is met
       no_number = no_number;
     }
 
-held_back : (held back : Held) → HasShortLine held → TellsHeld (json_plain (held_tree held)) back → IsHeldBack held back
+held_back : (held back : SnapshotView) → HasShortLine held → TellsHeld (json_plain (held_tree held)) back → IsHeldBack held back
 held_back held back fits t =
     let same : t.entries ≡ json_pairs (held_pairs_of held.module_name held.snapshot_name (meta_tree held.meta) (option_map normal (text_in held.contents)))
     = dict-same t.entries (json_pairs (held_pairs_of held.module_name held.snapshot_name (meta_tree held.meta) (option_map normal (text_in held.contents)))) (sym t.tree_is) in
@@ -89,29 +89,29 @@ held_back held back fits t =
 
 -- the fields of a record
 
-abbrev pub record_entries : List ℕ → ℕ → Option Held → Option Held → p.Entries
+abbrev pub record_entries : List ℕ → ℕ → Option SnapshotView → Option SnapshotView → p.Entries
 record_entries run line made stood =
     p.entry (p.text (codes "run_id")) (p.text run) (p.entry (p.text (codes "line")) (p.int (pos line)) (
     p.entry (p.text (codes "new")) (json_plain (tree_or_none made)) (p.entry (p.text (codes "old")) (json_plain (tree_or_none stood)) p.no_entries)))
 
 -- what stands in a place of a snapshot
-abbrev pub filled_tree : Option Held → Option p.Plain
+abbrev pub filled_tree : Option SnapshotView → Option p.Plain
 filled_tree None = None
 filled_tree (Some held) = Some (json_plain (held_tree held))
 
-pub new-told : (run : List ℕ) (line : ℕ) (made stood : Option Held) → last_filled (codes "new") (record_entries run line made stood) ≡ filled_tree made
+pub new-told : (run : List ℕ) (line : ℕ) (made stood : Option SnapshotView) → last_filled (codes "new") (record_entries run line made stood) ≡ filled_tree made
 new-told run line None None = refl
 new-told run line None (Some s) = refl
 new-told run line (Some m) None = refl
 new-told run line (Some m) (Some s) = refl
 
-pub old-told : (run : List ℕ) (line : ℕ) (made stood : Option Held) → last_filled (codes "old") (record_entries run line made stood) ≡ filled_tree stood
+pub old-told : (run : List ℕ) (line : ℕ) (made stood : Option SnapshotView) → last_filled (codes "old") (record_entries run line made stood) ≡ filled_tree stood
 old-told run line None None = refl
 old-told run line None (Some s) = refl
 old-told run line (Some m) None = refl
 old-told run line (Some m) (Some s) = refl
 
-may_be_back : (held back : Option Held) → IfSome held HasShortLine → MayTell (filled_tree held) back → MayBeBack held back
+may_be_back : (held back : Option SnapshotView) → IfSome held HasShortLine → MayTell (filled_tree held) back → MayBeBack held back
 may_be_back None None fits t = tt
 may_be_back None (Some back) fits t = absurd t
 may_be_back (Some held) None fits t = absurd t

@@ -1,5 +1,5 @@
 -- A saved record is not refused.
-use Rattle.snap_pending.proofs.Prelude.{◌≡◌, ℕ, true, List, Option, None, Some, refl, ap, sym, ◌∙◌, IfSome, codes, option_map, is_some, Error, json_plain, json_pairs, last_value, last_filled, text_value, line_value, kind_in, meta_pairs, meta_tree, text_in, normal, HasShortLine, HasShortLines, HasText, HasTexts, Held, Pending, held_tree, record_of, IsOtherHeld, no_map, no_metadata, no_text, LacksInHeld, lacks_module, lacks_metadata, lacks_extension, lacks_text, IsOtherRecord, is_no_map, other_new, other_old, LacksInRecord, lacks_run, lacks_line, lacks_in_new, lacks_in_old, RecordRefused}
+use Rattle.snap_pending.proofs.Prelude.{◌≡◌, ℕ, true, List, Option, None, Some, refl, ap, sym, ◌∙◌, IfSome, codes, option_map, is_some, Error, json_plain, json_pairs, last_value, last_filled, text_value, line_value, kind_in, meta_pairs, meta_tree, text_in, normal, HasShortLine, HasShortLines, HasText, HasTexts, SnapshotView, Pending, held_tree, record_of, IsOtherHeld, no_map, no_metadata, no_text, LacksInHeld, lacks_module, lacks_metadata, lacks_extension, lacks_text, IsOtherRecord, is_no_map, other_new, other_old, LacksInRecord, lacks_run, lacks_line, lacks_in_new, lacks_in_old, RecordRefused}
 use Rattle.snap_content.specs.Plain as p
 use Rattle.snap_content.specs.declared.error.Error.TheVariants as e
 use Rattle.snap_pending.proofs.MetaBack.{kind-back}
@@ -8,23 +8,23 @@ use Rattle.snap_pending.proofs.RecordBack.{dict-same, held_pairs_of, module-told
 
 -- the fields that a snapshot has
 
-abbrev fields_of : Held → p.Entries
+abbrev fields_of : SnapshotView → p.Entries
 fields_of held = json_pairs (held_pairs_of held.module_name held.snapshot_name (meta_tree held.meta) (option_map normal (text_in held.contents)))
 
-same_fields : (held : Held) (es : p.Entries) → json_plain (held_tree held) ≡ p.dict es → es ≡ fields_of held
+same_fields : (held : SnapshotView) (es : p.Entries) → json_plain (held_tree held) ≡ p.dict es → es ≡ fields_of held
 same_fields held es is = dict-same es (fields_of held) (sym is)
 
-has_module : (held : Held) (es : p.Entries) → es ≡ fields_of held → text_value (last_value (codes "module_name") es) ≡ Some held.module_name
+has_module : (held : SnapshotView) (es : p.Entries) → es ≡ fields_of held → text_value (last_value (codes "module_name") es) ≡ Some held.module_name
 has_module held es is =
     ap (λ v. text_value (last_value (codes "module_name") v)) is
     ∙ module-told held.module_name held.snapshot_name (meta_tree held.meta) (option_map normal (text_in held.contents))
 
-has_metadata : (held : Held) (es : p.Entries) → es ≡ fields_of held → last_value (codes "metadata") es ≡ Some (json_plain (meta_tree held.meta))
+has_metadata : (held : SnapshotView) (es : p.Entries) → es ≡ fields_of held → last_value (codes "metadata") es ≡ Some (json_plain (meta_tree held.meta))
 has_metadata held es is =
     ap (last_value (codes "metadata")) is
     ∙ meta-told held.module_name held.snapshot_name (meta_tree held.meta) (option_map normal (text_in held.contents))
 
-has_shown : (held : Held) (es : p.Entries) → es ≡ fields_of held → last_value (codes "snapshot") es ≡ option_map p.text (option_map normal (text_in held.contents))
+has_shown : (held : SnapshotView) (es : p.Entries) → es ≡ fields_of held → last_value (codes "snapshot") es ≡ option_map p.text (option_map normal (text_in held.contents))
 has_shown held es is =
     ap (last_value (codes "snapshot")) is
     ∙ text-told held.module_name held.snapshot_name (meta_tree held.meta) (option_map normal (text_in held.contents))
@@ -33,7 +33,7 @@ found_text : (o : Option (List ℕ)) → is_some o ≡ true → (s : List ℕ) �
 found_text None h = absurd (cc)
 found_text (Some raw) h = (normal raw, refl)
 
-has_text : (held : Held) (es : p.Entries) → HasText held → es ≡ fields_of held → (s : List ℕ) × (last_value (codes "snapshot") es ≡ Some (p.text s))
+has_text : (held : SnapshotView) (es : p.Entries) → HasText held → es ≡ fields_of held → (s : List ℕ) × (last_value (codes "snapshot") es ≡ Some (p.text s))
 has_text held es texts is = let f = found_text (text_in held.contents) texts in (f.0, has_shown held es is ∙ f.1)
 
 same_value : (a b : p.Plain) (o : Option p.Plain) → o ≡ Some a → o ≡ Some b → a ≡ b
@@ -44,7 +44,7 @@ is_there o a h k = let both : Some a ≡ None = sym h ∙ k in cc
 
 -- a snapshot of a text is whole
 
-no_other : (held : Held) → HasText held → IsOtherHeld (json_plain (held_tree held)) → ⊥
+no_other : (held : SnapshotView) → HasText held → IsOtherHeld (json_plain (held_tree held)) → ⊥
 no_other held texts (no_map none) = none (fields_of held) refl
 no_other held texts (no_metadata es metadata is found none) =
     none (json_pairs (meta_pairs held.meta)) (same_value metadata (json_plain (meta_tree held.meta)) (last_value (codes "metadata") es) found (has_metadata held es (same_fields held es is)))
@@ -53,7 +53,7 @@ no_other held texts (no_text es value is found none) =
     let same = same_value value (p.text t.0) (last_value (codes "snapshot") es) found t.1 in
     is_there (text_value (Some value)) t.0 (ap (λ v. text_value (Some v)) same) none
 
-nothing_lacks : (held : Held) → HasShortLine held → HasText held → LacksInHeld (json_plain (held_tree held)) → ⊥
+nothing_lacks : (held : SnapshotView) → HasShortLine held → HasText held → LacksInHeld (json_plain (held_tree held)) → ⊥
 nothing_lacks held short texts (lacks_module es is none) =
     is_there (text_value (last_value (codes "module_name") es)) held.module_name (has_module held es (same_fields held es is)) none
 nothing_lacks held short texts (lacks_metadata es is none) =
@@ -74,13 +74,13 @@ all_fields pending = record_entries pending.run_id pending.line pending.new_snap
 same_record : (pending : Pending) (es : p.Entries) → json_plain (record_of pending) ≡ p.dict es → es ≡ all_fields pending
 same_record pending es is = dict-same es (all_fields pending) (sym is)
 
-other_there : (held : Option Held) (value : p.Plain) → IfSome held HasText → filled_tree held ≡ Some value → IsOtherHeld value → ⊥
+other_there : (held : Option SnapshotView) (value : p.Plain) → IfSome held HasText → filled_tree held ≡ Some value → IsOtherHeld value → ⊥
 other_there None value texts is other = absurd (cc)
 other_there (Some held) value texts is other =
     let same : json_plain (held_tree held) ≡ value = cc in
     no_other held texts (rw (← same) at other)
 
-lacks_there : (held : Option Held) (value : p.Plain) → IfSome held HasShortLine → IfSome held HasText → filled_tree held ≡ Some value → LacksInHeld value → ⊥
+lacks_there : (held : Option SnapshotView) (value : p.Plain) → IfSome held HasShortLine → IfSome held HasText → filled_tree held ≡ Some value → LacksInHeld value → ⊥
 lacks_there None value short texts is lacks = absurd (cc)
 lacks_there (Some held) value short texts is lacks =
     let same : json_plain (held_tree held) ≡ value = cc in

@@ -1,7 +1,7 @@
 -- The pairs of a record and of its snapshots.
-use Rattle.snap_pending.proofs.Prelude.{◌≡◌, ℕ, List, Option, ap, ◌∙◌, option_map, codes, Tree, string, u32, no_pairs, pair, Meta, text_pair, meta_tree, text_in, SnapshotContents, normal, Held, tree_or_none}
+use Rattle.snap_pending.proofs.Prelude.{◌≡◌, ℕ, List, Option, ap, ◌∙◌, option_map, codes, Tree, string, u32, no_pairs, pair, Meta, text_pair, meta_tree, text_in, SnapshotContents, normal, SnapshotView, tree_or_none}
 
-pub record_pairs : (run run' : List ℕ) (line : Tree) (line' : ℕ) (made made' stood stood' : Option Held) → run ≡ run' → line ≡ u32 line' → made ≡ made' → stood ≡ stood'
+pub record_pairs : (run run' : List ℕ) (line : Tree) (line' : ℕ) (made made' stood stood' : Option SnapshotView) → run ≡ run' → line ≡ u32 line' → made ≡ made' → stood ≡ stood'
     → pair (string (codes "run_id")) (string run) (pair (string (codes "line")) line (
     pair (string (codes "new")) (tree_or_none made) (pair (string (codes "old")) (tree_or_none stood) no_pairs)))
     ≡ pair (string (codes "run_id")) (string run') (pair (string (codes "line")) (u32 line') (

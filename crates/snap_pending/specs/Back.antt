@@ -6,9 +6,9 @@ use Rattle.snap_parse_laws_json.specs.Bounded.{is_bounded}
 use Rattle.snap_json.specs.JsonPlain.{json_plain}
 use Rattle.snap_store.specs.Meta.{Meta}
 use Rattle.snap_store.specs.MetaTree.{without_nil_info}
-use Rattle.snap_store.specs.Views.{text_in}
+use Rattle.snap_store.specs.Views.{text_in, SnapshotView}
 use Rattle.snap_text.specs.Normal.{normal}
-use Rattle.snap_pending.specs.Pending.{Held, Pending}
+use Rattle.snap_pending.specs.Pending.{Pending}
 use Rattle.snap_pending.specs.Record.{record_of, is_refused}
 use Rattle.snap_pending.specs.Told.{HoldsText}
 
@@ -22,7 +22,7 @@ meta_back meta = without_nil_info (in_json meta)
 
 -- a snapshot of a text is read back with its names, these metadata, and the normal text as that of a literal; whether it was
 -- read from a file without a header, or under one that keeps a number as its text, is not kept
-pub record IsHeldBack (held back : Held) : Type 0 where
+pub record IsHeldBack (held back : SnapshotView) : Type 0 where
   pub module_is : back.module_name ≡ held.module_name
   pub name_is : back.snapshot_name ≡ held.snapshot_name
   pub meta_is : back.meta ≡ meta_back held.meta
@@ -32,7 +32,7 @@ pub record IsHeldBack (held back : Held) : Type 0 where
   pub headed : back.was_legacy ≡ false
   pub no_number : back.number_as_text ≡ false
 
-abbrev pub MayBeBack : Option Held → Option Held → Type 0
+abbrev pub MayBeBack : Option SnapshotView → Option SnapshotView → Type 0
 MayBeBack None None = Unit {0}
 MayBeBack (Some held) (Some back) = IsHeldBack held back
 MayBeBack None (Some back) = ⊥
@@ -46,7 +46,7 @@ pub record IsBack (pending back : Pending) : Type 0 where
   pub old_is : MayBeBack pending.old_snapshot back.old_snapshot
 
 -- the line of the metadata has 32 bits
-abbrev pub HasShortLine : Held → Type 0
+abbrev pub HasShortLine : SnapshotView → Type 0
 HasShortLine held = IfSome held.meta.assertion_line (λ line. line < 2 ^ 32)
 
 -- all lines of the record have 32 bits
@@ -56,7 +56,7 @@ pub record HasShortLines (pending : Pending) : Type 0 where
   pub in_old : IfSome pending.old_snapshot HasShortLine
 
 -- neither snapshot is a payload
-abbrev pub HasText : Held → Type 0
+abbrev pub HasText : SnapshotView → Type 0
 HasText held = is_some (text_in held.contents) ≡ true
 
 -- neither snapshot of a record is a payload

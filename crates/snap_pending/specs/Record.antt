@@ -4,17 +4,17 @@ use Rattle.snap_content.specs.Tree.{Tree, none, string, u32, map, no_pairs, pair
 use Rattle.snap_json.specs.JsonText.{json_text, json_refuses}
 use Rattle.snap_json.specs.declared.format.Format.TheVariants.{Condensed}
 use Rattle.snap_store.specs.MetaTree.{text_pair, meta_tree}
-use Rattle.snap_store.specs.Views.{text_in}
+use Rattle.snap_store.specs.Views.{text_in, SnapshotView}
 use Rattle.snap_text.specs.Normal.{normal}
-use Rattle.snap_pending.specs.Pending.{Held, Pending}
+use Rattle.snap_pending.specs.Pending.{Pending}
 
 -- its module, its name where it has one, its metadata, and its normal text; a payload has none
-abbrev pub held_tree : Held → Tree
+abbrev pub held_tree : SnapshotView → Tree
 held_tree held = map (
     pair (string (codes "module_name")) (string held.module_name) (text_pair (codes "snapshot_name") held.snapshot_name (
     pair (string (codes "metadata")) (meta_tree held.meta) (text_pair (codes "snapshot") (option_map normal (text_in held.contents)) no_pairs))))
 
-abbrev pub tree_or_none : Option Held → Tree
+abbrev pub tree_or_none : Option SnapshotView → Tree
 tree_or_none None = none
 tree_or_none (Some held) = held_tree held
 

@@ -15,7 +15,8 @@ use Rattle.snap_store.specs.declared.contents.SnapshotContents.TheVariants.{Text
 use Rattle.snap_text.specs.Contents.{raw_of, kind_of}
 use Rattle.snap_text.specs.declared.contents.TextSnapshotKind.TheVariants.{Inline}
 use Rattle.snap_store.specs.declared.snapshot.Snapshot.{Snapshot}
-use Rattle.snap_pending.specs.Pending.{Held, held_of, Pending, pending_of}
+use Rattle.snap_store.specs.Views.{SnapshotView, snapshot_of}
+use Rattle.snap_pending.specs.Pending.{Pending, pending_of}
 use Rattle.snap_pending.specs.declared.pending.PendingInlineSnapshot.{PendingInlineSnapshot}
 
 -- the text stands there as it is, for the text of a literal
@@ -32,7 +33,7 @@ pub record TellsMeta (tree : Plain) (meta : Meta) : Type 0 where
 
 -- a snapshot is told by its fields; a name of another type is as if it were not there. It was read from no file without a header,
 -- and under no header that keeps a number as its text.
-pub record TellsHeld (tree : Plain) (held : Held) : Type 0 where
+pub record TellsHeld (tree : Plain) (held : SnapshotView) : Type 0 where
   pub entries : Entries
   pub tree_is : tree ≡ dict entries
   pub module_is : text_value (last_value (codes "module_name") entries) ≡ Some held.module_name
@@ -47,7 +48,7 @@ pub record TellsHeld (tree : Plain) (held : Held) : Type 0 where
   pub no_number : held.number_as_text ≡ false
 
 -- where a tree stands it tells the snapshot; else there is none
-abbrev pub MayTell : Option Plain → Option Held → Type 0
+abbrev pub MayTell : Option Plain → Option SnapshotView → Type 0
 MayTell None None = Unit {0}
 MayTell (Some tree) (Some held) = TellsHeld tree held
 MayTell None (Some held) = ⊥
@@ -100,7 +101,7 @@ HeldRefused tree (NoFile named) = ⊥
 
 -- what a tree is read as, where it may be a snapshot
 abbrev pub HeldEnd : Plain → Result Snapshot Error → Type 0
-HeldEnd tree (Ok snapshot) = TellsHeld tree (held_of snapshot)
+HeldEnd tree (Ok snapshot) = TellsHeld tree (snapshot_of snapshot)
 HeldEnd tree (Err error) = HeldRefused tree error
 
 -- a tree that is no map, or one of whose snapshots is of another type

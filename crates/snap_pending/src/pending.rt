@@ -15,7 +15,8 @@ pub struct PendingInlineSnapshot {
 }
 
 impl PendingInlineSnapshot {
-    ghost use Rattle.snap_pending.specs.Pending.{held_of, pending_of};
+    ghost use Rattle.snap_store.specs.Views.{snapshot_of};
+    ghost use Rattle.snap_pending.specs.Pending.{pending_of};
 
     /// The run that found it, the snapshot that was made, the one that stood there, and the line of the assertion.
     pub fn new(
@@ -26,8 +27,8 @@ impl PendingInlineSnapshot {
     ) -> PendingInlineSnapshot
         ensures run { (pending_of result).run_id ≡ run_id }
         ensures line { (pending_of result).line ≡ line }
-        ensures made { (pending_of result).new_snapshot ≡ option_map held_of new }
-        ensures stood { (pending_of result).old_snapshot ≡ option_map held_of old }
+        ensures made { (pending_of result).new_snapshot ≡ option_map snapshot_of new }
+        ensures stood { (pending_of result).old_snapshot ≡ option_map snapshot_of old }
     {
         PendingInlineSnapshot {
             run_id,
@@ -52,7 +53,7 @@ impl PendingInlineSnapshot {
 
     /// The snapshot that was made.
     pub fn new_snapshot(&self) -> Option<&Snapshot>
-        ensures { option_map (λ held. held_of held.now) result
+        ensures { option_map (λ held. snapshot_of held.now) result
             ≡ (pending_of self.now).new_snapshot }
     {
         self.new_snapshot.as_ref()
@@ -60,7 +61,7 @@ impl PendingInlineSnapshot {
 
     /// The snapshot that stood in the source.
     pub fn old_snapshot(&self) -> Option<&Snapshot>
-        ensures { option_map (λ held. held_of held.now) result
+        ensures { option_map (λ held. snapshot_of held.now) result
             ≡ (pending_of self.now).old_snapshot }
     {
         self.old_snapshot.as_ref()

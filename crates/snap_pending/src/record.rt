@@ -9,9 +9,9 @@ ghost use Rattle.snap_json.specs.JsonText.{json_text, json_refuses};
 ghost use Rattle.snap_json.specs.declared.format.Format.TheVariants.{Condensed};
 ghost use Rattle.snap_store.specs.Header.{in_front};
 ghost use Rattle.snap_store.specs.MetaTree.{text_pair};
-ghost use Rattle.snap_store.specs.Views.{text_in};
+ghost use Rattle.snap_store.specs.Views.{text_in, snapshot_of};
 ghost use Rattle.snap_text.specs.Normal.{normal};
-ghost use Rattle.snap_pending.specs.Pending.{held_of, pending_of};
+ghost use Rattle.snap_pending.specs.Pending.{pending_of};
 ghost use Rattle.snap_pending.specs.Record.{held_tree, tree_or_none, record_of, is_refused, record_line};
 ghost use Rattle.snap_pending.specs.Saved.{PrintEnd};
 
@@ -22,15 +22,17 @@ use snap_store::header::push_field;
 use snap_store::{Snapshot, SnapshotContents};
 use std::alloc::Global;
 
-/// The line of a record, with its end. `JsonKey` where a key is one that JSON refuses.
-pub(crate) fn line_text(alloc: Global, pending: &PendingInlineSnapshot) -> Result<Text, Error>
-    ensures printed { IfOk result (λ line. line ≡ record_line (pending_of pending.now)) }
-    ensures end { PrintEnd (is_refused (pending_of pending.now)) result }
-{
-    let content = record_content(alloc, pending)?;
-    let mut text = json_line(alloc, &content)?;
-    text.push_ascii(alloc, "\n")?;
-    Ok(text)
+impl PendingInlineSnapshot {
+    /// The line of the record, with its end. `JsonKey` exactly where a key of the record is one that JSON refuses.
+    pub fn record_line(&self, alloc: Global) -> Result<Text, Error>
+        ensures printed { IfOk result (λ line. line ≡ record_line (pending_of self.now)) }
+        ensures end { PrintEnd (is_refused (pending_of self.now)) result }
+    {
+        let content = record_content(alloc, self)?;
+        let mut text = json_line(alloc, &content)?;
+        text.push_ascii(alloc, "\n")?;
+        Ok(text)
+    }
 }
 
 fn json_line(alloc: Global, content: &Content) -> Result<Text, Error>
@@ -65,7 +67,7 @@ fn push_snapshot(
     ensures { OnOk result ((rest : TreePairs)
         → in_front (pair_list pairs.new) rest ≡ in_front (pair_list pairs.old)
         (pair (string name.now)
-        (tree_or_none (option_map (λ held. held_of held.now) snapshot.entry)) rest)) }
+        (tree_or_none (option_map (λ held. snapshot_of held.now) snapshot.entry)) rest)) }
 {
     match snapshot {
         None => {
@@ -80,7 +82,7 @@ fn push_snapshot(
 }
 
 fn snapshot_content(alloc: Global, snapshot: &Snapshot) -> Result<Content, OutOfMemory>
-    ensures { IfOk result (λ made. tree made ≡ held_tree (held_of snapshot.now)) }
+    ensures { IfOk result (λ made. tree made ≡ held_tree (snapshot_of snapshot.now)) }
 {
     let mut pairs = Pairs::new(alloc);
     push_text(alloc, &mut pairs, "module_name", snapshot.module_name())?;

@@ -3,7 +3,8 @@ ghost use Rattle.std.specs.Prelude.{◌≡◌, ◌++◌, ◌∷◌, [], Some, If
 ghost use Rattle.std.specs.FinMap.{remove};
 ghost use Rattle.std.specs.List.{list_any};
 ghost use Rattle.snap_content.specs.declared.error.Error.TheVariants.{JsonKey};
-ghost use Rattle.snap_io.specs.Files.{Files, SameBut, appended};
+ghost use Rattle.snap_io.specs.Files.{SameBut, appended};
+ghost use Rattle.snap_io.specs.Outside.{Becomes, Given};
 ghost use Rattle.snap_io.specs.Causes.{Counted};
 ghost use Rattle.snap_store.specs.Causes.{is_file_fault, CallEnd};
 ghost use Rattle.snap_pending.specs.Pending.{pending_of};
@@ -11,7 +12,6 @@ ghost use Rattle.snap_pending.specs.Record.{is_refused, record_line};
 ghost use Rattle.snap_pending.specs.Saved.{with_lines, SavingEnd, PrintEnd};
 
 use crate::pending::PendingInlineSnapshot;
-use crate::record::line_text;
 use snap_content::{Error, OutOfMemory, Text};
 use snap_io::Store;
 use snap_store::named;
@@ -21,17 +21,34 @@ impl PendingInlineSnapshot {
     /// Adds the line of the record after what the file at the path holds. `JsonKey`, where a key of the record is one that
     /// JSON refuses, changes nothing; after any other error only that file is unknown.
     pub fn save<S: Store>(&self, alloc: Global, store: &mut S, path: &Text) -> Result<(), Error>
-        ensures added { OnOk result ((m : Files) → S.files store.old ≡ Some m
-            → S.files store.new ≡ Some (appended m path.now
-            (encode_utf8_all (record_line (pending_of self.now))))) }
+        ensures added { OnOk result (Becomes (S.files store.old) (S.files store.new)
+            (λ m. appended m path.now (encode_utf8_all (record_line (pending_of self.now))))) }
         ensures end { SavingEnd path.now (is_refused (pending_of self.now)) result }
         ensures same { IsErrOf result JsonKey → S.files store.new ≡ S.files store.old }
-        ensures unknown { OnErr result ((m : Files) → S.files store.old ≡ Some m
-            → SameBut path.now m (S.files store.new)) }
+        ensures unknown { OnErr result (Given (S.files store.old)
+            (λ m. SameBut path.now m (S.files store.new))) }
         ensures cause { Counted is_file_fault (S.faults store.old) (S.faults store.new) result }
     {
-        let line = line_text(alloc, self)?;
-        named::append(alloc, store, path, &line)
+        let line = self.record_line(alloc)?;
+        PendingInlineSnapshot::append_line(alloc, store, path, &line)
+    }
+
+    /// Adds the line of a record, which was printed before, after what the file at the path holds. After an error only that
+    /// file is unknown.
+    pub fn append_line<S: Store>(
+        alloc: Global,
+        store: &mut S,
+        path: &Text,
+        line: &Text,
+    ) -> Result<(), Error>
+        ensures added { OnOk result (Becomes (S.files store.old) (S.files store.new)
+            (λ m. appended m path.now (encode_utf8_all line.now))) }
+        ensures unknown { OnErr result (Given (S.files store.old)
+            (λ m. SameBut path.now m (S.files store.new))) }
+        ensures error { CallEnd path.now result }
+        ensures cause { Counted is_file_fault (S.faults store.old) (S.faults store.new) result }
+    {
+        named::append(alloc, store, path, line)
     }
 
     /// Makes the file at the path the lines of these records, and takes it away where there are none. `JsonKey`, where a key
@@ -42,14 +59,14 @@ impl PendingInlineSnapshot {
         path: &Text,
         batch: &[PendingInlineSnapshot],
     ) -> Result<(), Error>
-        ensures written { OnOk result ((m : Files) → S.files store.old ≡ Some m
-            → S.files store.new ≡ Some (with_lines m path.now
+        ensures written { OnOk result (Becomes (S.files store.old) (S.files store.new)
+            (λ m. with_lines m path.now
             (map (λ pending. record_line (pending_of pending)) batch.now))) }
         ensures end { SavingEnd path.now
             (list_any (λ pending. is_refused (pending_of pending)) batch.now) result }
         ensures same { IsErrOf result JsonKey → S.files store.new ≡ S.files store.old }
-        ensures unknown { OnErr result ((m : Files) → S.files store.old ≡ Some m
-            → SameBut path.now m (S.files store.new)) }
+        ensures unknown { OnErr result (Given (S.files store.old)
+            (λ m. SameBut path.now m (S.files store.new))) }
         ensures cause { Counted is_file_fault (S.faults store.old) (S.faults store.new) result }
     {
         let lines = line_texts(alloc, batch)?;
@@ -66,7 +83,7 @@ fn line_texts(alloc: Global, batch: &[PendingInlineSnapshot]) -> Result<Vec<Text
 {
     let mut lines = Vec::new(alloc);
     for pending in batch {
-        let line = line_text(alloc, pending)?;
+        let line = pending.record_line(alloc)?;
         push_line(&mut lines, line)?;
     }
     Ok(lines)
@@ -86,16 +103,16 @@ fn write_lines<S: Store>(
     path: &Text,
     lines: &[Text],
 ) -> Result<(), Error>
-    ensures written { OnOk result ((m : Files) → S.files store.old ≡ Some m
-        → S.files store.new ≡ Some (with_lines m path.now lines.now)) }
-    ensures unknown { OnErr result ((m : Files) → S.files store.old ≡ Some m
-        → SameBut path.now m (S.files store.new)) }
+    ensures written { OnOk result (Becomes (S.files store.old) (S.files store.new)
+        (λ m. with_lines m path.now lines.now)) }
+    ensures unknown { OnErr result (Given (S.files store.old)
+        (λ m. SameBut path.now m (S.files store.new))) }
     ensures error { CallEnd path.now result }
     ensures cause { Counted is_file_fault (S.faults store.old) (S.faults store.new) result }
 {
     named::remove(alloc, store, path)?;
     for line in lines {
-        named::append(alloc, store, path, line)?;
+        PendingInlineSnapshot::append_line(alloc, store, path, line)?;
     }
     Ok(())
 }

@@ -1,5 +1,6 @@
 use Rattle.snap_pending.proofs.Prelude.{◌∙◌, pending_of, is_refused, record_line}
-use Rattle.snap_pending.proofs.Lists.{mapped_next, none_more, mapped_all, none_at_all, any_here, refused_in}
+use Rattle.snap_store.proofs.Lists.{mapped_next, none_more, mapped_all, none_at_all, any_here}
+use Rattle.snap_pending.proofs.Refusals.{refused_in}
 use Rattle.std.proofs.lemmas.Result.{err_from_is_err_and}
 use Rattle.snap_pending.proofs.saving.line_texts.Goals as goal
 

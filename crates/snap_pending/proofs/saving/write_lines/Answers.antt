@@ -5,15 +5,15 @@ use Rattle.snap_pending.proofs.saving.write_lines.Goals as goal
 
 pub loop-line-preserved : goal.loop-line-preserved
 loop-line-preserved g c = record {
-  written = λ m e. c.in_ok-append.ensures.added _ (c.loop-line.invariant.written m e)
+  written = λ m e. c.in_ok-append_line.ensures.added _ (c.loop-line.invariant.written m e)
       ∙ ap Some (next_line m c.args.path.now c.args.lines.now c.loop-line.line-index c.line-item.result c.loop-line-test.true c.line-item.is);
-  calm = c.in_ok-append.ensures.cause ∙ c.loop-line.invariant.calm;
+  calm = c.in_ok-append_line.ensures.cause ∙ c.loop-line.invariant.calm;
 }
 
-pub returns-in_err-append-clause-unknown : goal.returns-in_err-append-clause-unknown
-returns-in_err-append-clause-unknown g c =
-    at_err c.from_residual-in_err-append.result (λ m told.
-    same_but_lines c.args.path.now m (take c.loop-line.line-index c.args.lines.now) _ (c.in_err-append.ensures.unknown _ (c.loop-line.invariant.written m told)))
+pub returns-in_err-append_line-clause-unknown : goal.returns-in_err-append_line-clause-unknown
+returns-in_err-append_line-clause-unknown g c =
+    at_err c.from_residual-in_err-append_line.result (λ m told.
+    same_but_lines c.args.path.now m (take c.loop-line.line-index c.args.lines.now) _ (c.in_err-append_line.ensures.unknown _ (c.loop-line.invariant.written m told)))
 
 pub returns-clause-written : goal.returns-clause-written
 returns-clause-written g c = λ m e. c.loop-line.invariant.written m e ∙ ap Some (all_lines m c.args.path.now c.args.lines.now _ c.loop-line-test.false)
