@@ -45,7 +45,8 @@ pub(crate) fn new_settings_line(alloc: Global) -> Result<Text, anyhow::Error> {
     told_line(alloc, &settings)
 }
 
-fn told_line(alloc: Global, settings: &Settings) -> Result<Text, anyhow::Error> {
+/// What settings say, a column each.
+pub(crate) fn told_line(alloc: Global, settings: &Settings) -> Result<Text, anyhow::Error> {
     let mut line = Text::empty();
     add_truths(alloc, &mut line, settings)?;
     add_texts(alloc, &mut line, settings)?;

@@ -1,3 +1,4 @@
 mod Prelude
 mod RedactionLists
 pub mod PlainRedactions
+mod CopiedLists

@@ -11,7 +11,7 @@ push_redacted : {X : Type 0} {P : X → Type 0} {Y : Type 0} {Q : Y → Type 0} 
 push_redacted objects [] r c next out e h = (out, subst (λ x. IsRedacted r.parts (Puts objects r.redaction) x out) e h, refl)
 push_redacted objects (x ∷ xs) r c next out p h = (p.0, p.1, push_redacted objects xs r p.0 next out p.2 h)
 
-map-push : {A B : Type 0} (f : A → B) (ps : List A) (p : A) → map f (ps ++ p ∷ []) ≡ map f ps ++ f p ∷ []
+pub map-push : {A B : Type 0} (f : A → B) (ps : List A) (p : A) → map f (ps ++ p ∷ []) ≡ map f ps ++ f p ∷ []
 map-push f [] p = refl
 map-push f (x ∷ xs) p = ap (λ rs. f x ∷ rs) (map-push f xs p)
 

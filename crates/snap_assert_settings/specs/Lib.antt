@@ -1,3 +1,4 @@
 pub mod Redactions
 pub mod Settings
 pub mod Replaced
+pub mod Copies

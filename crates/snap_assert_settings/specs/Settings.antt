@@ -1,6 +1,8 @@
 -- What the settings of an assertion say.
-use Rattle.std.specs.Prelude.{ℕ, Bool, true, false, List, Option, None, codes}
+use Rattle.std.specs.Prelude.{ℕ, Bool, true, false, List, Option, None, Some, codes, option_map}
 use Rattle.snap_content.specs.Tree.{Tree}
+use Rattle.snap_content.specs.View.{tree}
+use Rattle.snap_store.specs.Meta.{shown_text}
 use Rattle.snap_select.specs.Put.{Objects}
 use Rattle.snap_select.specs.SortedTree.{sorted_tree}
 use Rattle.snap_select.specs.declared.redaction.Redaction.{Redaction}
@@ -31,9 +33,18 @@ new_settings = record {
   input_file = None;
 }
 
--- no call changes settings yet but for sorting and the redactions
+-- what settings are seen as; a suffix that is empty is none
 abbrev pub settings_of : {X : Type 0} {P : X → Type 0} {Y : Type 0} {Q : Y → Type 0} {g : _} → Settings X Y P Q g → SettingsView
-settings_of settings = record new_settings { sort_maps = settings.sort_maps; snapshot_path = settings.snapshot_path }
+settings_of settings = record {
+  sort_maps = settings.sort_maps;
+  snapshot_path = settings.snapshot_path;
+  suffix = shown_text (Some settings.snapshot_suffix);
+  prepends_module = settings.prepends_module;
+  omits_expression = settings.omits_expression;
+  description = settings.description;
+  info = option_map tree settings.info;
+  input_file = settings.input_file;
+}
 
 -- what the redactions of settings are seen as
 abbrev pub redactions_in : {X : Type 0} {P : X → Type 0} {Y : Type 0} {Q : Y → Type 0} {g : _} → Settings X Y P Q g → List (RedactionView (Redaction X Y P Q g))

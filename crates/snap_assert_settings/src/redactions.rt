@@ -113,6 +113,13 @@ impl Redactions {
         Ok(made)
     }
 
+    /// The selectors, each with its redaction.
+    pub(crate) fn as_slice(&self) -> &[(Selector<'static>, Redaction)]
+        ensures { map redaction_of result.now ≡ redactions_of self.now }
+    {
+        self.items.as_slice()
+    }
+
     /// Where the redactions are kept.
     pub(crate) fn allocator(&self) -> Global {
         *self.items.allocator()
