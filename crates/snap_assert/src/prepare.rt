@@ -12,7 +12,8 @@ ghost use Rattle.snap_assert_place.specs.SnapshotPath.{flat_module, new_meta};
 ghost use Rattle.snap_assert.specs.Steps.{asked_of};
 ghost use Rattle.snap_assert.specs.Prepared.{IsPrepared};
 
-use snap_assert_place::paths::{module_text, new_metadata, snapshot_path};
+use snap_assert_place::metadata::new_metadata;
+use snap_assert_place::paths::{module_text, snapshot_path};
 use snap_assert_place::place::Place;
 use snap_assert_settings::settings::Settings;
 use snap_content::{Content, OutOfMemory, Text};

@@ -1,9 +1,9 @@
 -- The path of a snapshot, and its metadata.
 use Rattle.std.specs.Prelude.{◌≡◌, ◌==◌, ◌&&◌, ◌||◌, ℕ, Bool, List, [], ◌∷◌, ◌++◌, Option, None, Some, if◌then◌else◌, codes, unwrap_or, is_some, IsSome}
 use Rattle.std.specs.List.{flat_map}
-use Rattle.std.specs.Str.{bytes_eq}
-use Rattle.snap_path.specs.Paths.{joined, parent_of, name_of, relative_from, components, is_absolute, path_of_parts, Apart, apart, slashed}
+use Rattle.snap_path.specs.Paths.{joined, parent_of, name_of, relative_from, components, is_absolute, path_of_parts}
 use Rattle.snap_store.specs.Meta.{Meta}
+use Rattle.snap_store.specs.Relative.{path_within}
 use Rattle.snap_store.specs.declared.metadata.SnapshotKind.TheVariants.{Text}
 use Rattle.snap_path.specs.Names.{past_mark}
 use Rattle.snap_assert_settings.specs.Settings.{SettingsView}
@@ -47,13 +47,14 @@ abbrev pub path_of : SettingsView → PlaceView → List ℕ → List ℕ
 path_of settings place name =
     joined (joined (joined place.workspace (parent_of place.file)) settings.snapshot_path) (file_name settings place name)
 
--- a path as seen from the workspace, where that stands at its front
-abbrev pub below : Apart → Option (List ℕ)
-below a = if bytes_eq (slashed a.base) [] then Some (slashed a.path) else None
-
+-- the input file, joined to the workspace, as it is seen from there; none where it isn't below it
 abbrev pub input_seen : PlaceView → Option (List ℕ) → Option (List ℕ)
 input_seen place None = None
-input_seen place (Some file) = below (apart (components (joined place.workspace file)) (components place.workspace))
+input_seen place (Some file) = path_within (joined place.workspace file) place.workspace
+
+-- the expression, where it isn't left out
+abbrev pub shown_expression : SettingsView → PlaceView → Option (List ℕ)
+shown_expression settings place = if settings.omits_expression then None else Some place.expr
 
 -- the metadata of a new snapshot
 abbrev pub new_meta : SettingsView → PlaceView → Meta
@@ -61,7 +62,7 @@ new_meta settings place = record {
   source = Some (relative_from (joined place.workspace place.file) place.workspace);
   assertion_line = Some place.line;
   description = settings.description;
-  expression = if settings.omits_expression then None else Some place.expr;
+  expression = shown_expression settings place;
   info = settings.info;
   input_file = input_seen place settings.input_file;
   kind = Text;

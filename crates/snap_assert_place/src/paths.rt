@@ -1,21 +1,19 @@
-//! The path of a snapshot, and the metadata of a new one.
+//! The path of a snapshot.
 ghost use Rattle.std.specs.Prelude.{◌≡◌, ◌++◌, [], IfOk, OnOk, codes, unwrap_or};
 ghost use Rattle.snap_path.specs.Paths.{name_of};
 ghost use Rattle.std.specs.Str.{chars};
 ghost use Rattle.std.specs.List.{flat_map};
-ghost use Rattle.snap_store.specs.Views.{meta_of};
 ghost use Rattle.snap_assert_settings.specs.Settings.{settings_of};
 ghost use Rattle.snap_assert_place.specs.Place.{place_of};
-ghost use Rattle.snap_assert_place.specs.SnapshotPath.{flat_character, dotless_character, flat_module, is_doctest, file_of_doctest, place_prefix, file_name, path_of, new_meta};
+ghost use Rattle.snap_assert_place.specs.SnapshotPath.{flat_character, dotless_character, flat_module, is_doctest, file_of_doctest, place_prefix, file_prefix, file_name, path_of};
 
-use crate::below::{path_below, seen_below};
+use crate::below::path_below;
 use crate::front::behind_ascii;
 use crate::place::Place;
 use snap_assert_settings::settings::Settings;
 use snap_content::characters::split_first;
 use snap_content::{OutOfMemory, Text};
 use snap_path::{path_name, path_parent};
-use snap_store::MetaData;
 use std::alloc::Global;
 
 /// Adds a name without its slashes and backslashes.
@@ -71,7 +69,7 @@ fn push_module(out: &mut Text, alloc: Global, name: &str) -> Result<(), OutOfMem
 }
 
 /// Whether the function is that of a doctest.
-fn is_doctest_function(function: &str) -> bool
+pub fn is_doctest_function(function: &str) -> bool
     ensures { result ≡ is_doctest (chars function.now) }
 {
     behind_ascii(function, "rust_out::main::_doctest").is_some()
@@ -116,14 +114,26 @@ fn module_prefix(alloc: Global, place: &Place) -> Result<Text, OutOfMemory>
     Ok(text)
 }
 
-/// What stands before the name in the name of the file.
-fn prefix(alloc: Global, place: &Place) -> Result<Text, OutOfMemory>
+/// What stands before the name in the name of the file, where the module is prepended.
+fn place_prefix(alloc: Global, place: &Place) -> Result<Text, OutOfMemory>
     ensures { IfOk result (λ text. text ≡ place_prefix (place_of place.now)) }
 {
     if is_doctest_function(place.function().as_str()) {
         doctest_prefix(alloc, place)
     } else {
         module_prefix(alloc, place)
+    }
+}
+
+/// What stands before the name in the name of the file.
+fn file_prefix(alloc: Global, settings: &Settings, place: &Place) -> Result<Text, OutOfMemory>
+    ensures { IfOk result (λ text. text
+        ≡ file_prefix (settings_of settings.now) (place_of place.now)) }
+{
+    if settings.prepend_module_to_snapshot() {
+        place_prefix(alloc, place)
+    } else {
+        Ok(Text::empty())
     }
 }
 
@@ -137,7 +147,7 @@ fn snapshot_file_name(
     ensures { IfOk result (λ text. text ≡ file_name (settings_of settings.now)
         (place_of place.now) name.now) }
 {
-    let mut text = prefix(alloc, place)?;
+    let mut text = file_prefix(alloc, settings, place)?;
     push_flat(&mut text, alloc, name.as_str())?;
     text.push_ascii(alloc, ".snap")?;
     Ok(text)
@@ -162,22 +172,4 @@ pub fn snapshot_path(
         settings.snapshot_folder(),
         &file,
     )
-}
-
-/// The metadata of a new snapshot.
-pub fn new_metadata(
-    alloc: Global,
-    settings: &Settings,
-    place: &Place,
-) -> Result<MetaData, OutOfMemory>
-    ensures { IfOk result (λ made. meta_of made
-        ≡ new_meta (settings_of settings.now) (place_of place.now)) }
-{
-    let source = seen_below(alloc, place.workspace(), place.file())?;
-    let expression = place.expr().try_clone(alloc)?;
-    let mut metadata = MetaData::empty();
-    metadata.set_source(Some(source));
-    metadata.set_assertion_line(Some(place.line()));
-    metadata.set_expression(Some(expression));
-    Ok(metadata)
 }
