@@ -1,4 +1,5 @@
 mod Prelude
 pub mod FilePaths
 mod LastPart
+mod LastName
 mod BelowPaths

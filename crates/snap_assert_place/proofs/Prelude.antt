@@ -13,3 +13,7 @@ pub use Rattle.snap_path.proofs.Joining.{name-from-parts, components-names, part
 pub use Rattle.snap_path.specs.Paths.{is_component, components, is_absolute, slashed, path_of_parts, joined, Apart, apart, from_apart, same_start, relative_from, IsName, between_slashes, last_of, name_of, parent_of, front_of}
 pub use Rattle.snap_assert_place.specs.Place.{holds_slash, PlaceView, last_part}
 pub use Rattle.snap_assert_place.specs.SnapshotPath.{file_prefix, flat_name, file_name, path_of, IsFilePath, dotless_character, flat_character, flat_module}
+pub use Rattle.std.proofs.Common.{Option, None}
+pub use Rattle.std.specs.Prelude.{is_some}
+pub use Rattle.snap_path.specs.Names.{past_mark}
+pub use Rattle.snap_assert_place.specs.Names.{past_colons, holds_colons, last_name}

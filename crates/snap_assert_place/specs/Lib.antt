@@ -1,3 +1,4 @@
 pub mod Place
 pub mod SnapshotPath
 pub mod Below
+pub mod Names

@@ -9,6 +9,7 @@ pub mod file_path;
 pub mod front;
 pub mod laws;
 pub mod metadata;
+pub mod names;
 pub mod paths;
 pub mod place;
 

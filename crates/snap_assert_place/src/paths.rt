@@ -49,7 +49,7 @@ fn push_dotless(out: &mut Text, alloc: Global, name: &str) -> Result<(), OutOfMe
 }
 
 /// Adds a module with `__` for each `::`.
-fn push_module(out: &mut Text, alloc: Global, name: &str) -> Result<(), OutOfMemory>
+pub(crate) fn push_module(out: &mut Text, alloc: Global, name: &str) -> Result<(), OutOfMemory>
     ensures { OnOk result (out.new ≡ out.old ++ flat_module (chars name.now)) }
 {
     let mut rest = name;
