@@ -19,3 +19,8 @@ pub(crate) fn add_taken(
         Err(SelectError::OutOfMemory) => Err(OutOfMemory),
     }
 }
+
+/// The front of a text up to the first blank, and what is after that.
+pub(crate) fn word(text: &str) -> (&str, &str) {
+    text.split_once(' ').unwrap_or((text, ""))
+}

@@ -14,6 +14,9 @@
 //! - `function`, `depth` and `object`: a selector, and for the last one a number. What stands there is put by a stored function as `[id]`, by one
 //!   that counts the steps to it, or by an object that holds the number. The answer is as for `settings`.
 //! - `list`: a selector and a text, and what the list of this one redaction makes of 42.
+//! - `session`: several assertions in one session, a column each, as `sessions` says, and what each comes to: the path of its snapshot, or why there is
+//!   none.
+//! - `counted`: a module, a name and how often it was used, and then as for `session`.
 //! - `error`: the name of an error and its texts, and what is written of it.
 //!
 //! A line that begins with `# ` is a heading, and is answered by itself.
@@ -27,6 +30,7 @@ mod judged;
 mod lists;
 mod news;
 mod places;
+mod sessions;
 mod settings;
 mod stored;
 
@@ -36,6 +40,7 @@ use crate::judged::{judged_line, judged_text_line};
 use crate::lists::list_line;
 use crate::news::new_settings_line;
 use crate::places::{path_line, place_line};
+use crate::sessions::{counted_line, session_line};
 use crate::settings::settings_line;
 use crate::stored::{depth_line, function_line, object_line};
 use rows::{answer_rows, first_column};
@@ -56,6 +61,8 @@ fn answer_case(alloc: Global, call: &str, columns: &str) -> Result<Text, anyhow:
         "depth" => depth_line(alloc, columns),
         "object" => object_line(alloc, columns),
         "list" => list_line(alloc, columns),
+        "session" => session_line(alloc, columns),
+        "counted" => counted_line(alloc, columns),
         "error" => error_line(alloc, columns),
         _ => Ok(Text::from_str(alloc, "! no such call")?),
     }

@@ -1,17 +1,12 @@
 //! What is done with settings, one thing after the other: `add SELECTOR TEXT` puts the text there too, `set SELECTOR TEXT` that
 //! alone, `sort SELECTOR` puts the list there in order too, and `clear` does nothing any more.
 use crate::asserted::add_saved;
-use crate::columns::add_taken;
+use crate::columns::{add_taken, word};
 use crate::lists::list_of;
 use snap_assert::Settings;
 use snap_content::{Content, Text};
 use snap_select::Redaction;
 use std::alloc::Global;
-
-/// The front of a text up to the first blank, and what is after that.
-fn word(text: &str) -> (&str, &str) {
-    text.split_once(' ').unwrap_or((text, ""))
-}
 
 /// What became of each thing, and the file that is saved then.
 pub(crate) fn settings_line(alloc: Global, columns: &str) -> Result<Text, anyhow::Error> {

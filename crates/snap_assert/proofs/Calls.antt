@@ -1,9 +1,9 @@
 -- What an assertion tells of a call of the store that failed.
-use Rattle.snap_assert.proofs.Prelude.{◌≡◌, ℕ, ◌<◌, List, length, get_or, inl, inr, sym, ap, ◌∙◌, subst, Error, FailedParsingYaml, UnexpectedDataType, MissingField, FileIo, FloatText, JsonKey, NotText, NoFile, OutOfMemory, parent_of, is_among, FaultIsAmong, FaultIsOwn, IsOwn, Update}
+use Rattle.snap_assert.proofs.Prelude.{◌≡◌, ℕ, ◌<◌, List, length, get_or, inl, inr, ap, ◌∙◌, subst, Error, FailedParsingYaml, UnexpectedDataType, MissingField, FileIo, FloatText, JsonKey, NotText, NoFile, OutOfMemory, parent_of, is_among, FaultIsAmong, FaultIsOwn, Update}
 use Rattle.snap_io.specs.Causes.{CountedIf, Rose}
 use Rattle.snap_store.specs.Causes.{IsCallError, is_file_fault}
 use Rattle.snap_assert.proofs.Keeping.{among_at}
-use Rattle.snap_assert.specs.Outcomes.{ErrorCause}
+use Rattle.snap_assert.specs.Outcomes.{WorkErrorCause}
 use Rattle.snap_assert.specs.Unsaved.{unsaved}
 
 -- a failed call on a path of a list names one of the list
@@ -31,7 +31,7 @@ own_folder mode path folder (NotText named) is h = absurd h
 own_folder mode path folder (NoFile named) is h = absurd h
 
 -- the count rose where a fault is told
-pub call_cause : (before between now : ℕ) (path : List ℕ) (error : Error) → between ≡ before → IsCallError path error → CountedIf (is_file_fault error) between now → ErrorCause before now (unsaved error)
+pub call_cause : (before between now : ℕ) (path : List ℕ) (error : Error) → between ≡ before → IsCallError path error → CountedIf (is_file_fault error) between now → WorkErrorCause before now (unsaved error)
 call_cause before between now path (FileIo named) same h count = subst (λ n. Rose n now) same count
 call_cause before between now path OutOfMemory same h count = count ∙ same
 call_cause before between now path UnexpectedDataType same h count = absurd h

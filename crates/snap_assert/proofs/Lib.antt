@@ -9,5 +9,10 @@ mod ApprovedPaths
 mod Looking
 mod Settling
 mod Answering
-mod Blocks
+mod OpenBlocks
+mod Innermost
+mod Counters
+pub mod Refusals
+mod Printing
+pub mod GivenNames
 mod Calls

@@ -1,6 +1,7 @@
 -- What was seen of a file, and of what is asked.
 use Rattle.snap_assert.proofs.Prelude.{◌≡◌, ℕ, Bool, true, false, List, [], ◌∷◌, Option, Some, Result, Ok, Err, refl, sym, ap, ◌∙◌, subst, inl, inr, IfOk, get, is_trimmed, text_of, Error, FailedParsingYaml, UnexpectedDataType, MissingField, FileIo, FloatText, JsonKey, NotText, NoFile, OutOfMemory, Files, Agree, raw_of, kind_of, compared_as, compared_of, TextSnapshotKind, File, normal, body_of, Meta, IsTextFile, IsReadAs, IsReadFrom, IsRefused, HoldsBody, Tells, meta_in, contents_in, legacy_in, number_text_in, text_in, IsFileText, SnapshotContents, Text, Binary, SnapshotKind, Snapshot, May, Asked, AreWarnings, PassWarns, IsHeadedFile, IsNotUnderstood, IsPrepared, IsJudged, TextsMatch, TextsDiffer, OlderAs, NoPass, RefusedEnd, IsCompared, SpeakOfOne, said_if, said, NamesOnly, AssertError, Judged, Prepared, some_same}
 use Rattle.snap_content.specs.List.{items_of}
+use Rattle.snap_assert.proofs.Printing.{printed_text, printed_in_file}
 use Rattle.snap_store.specs.declared.metadata.SnapshotKind.TheVariants as kind
 use Rattle.snap_assert.specs.declared.error.AssertError.TheVariants as stop
 use Rattle.snap_assert.specs.declared.outcome.Warning.{Warning}
@@ -94,7 +95,7 @@ pub judge_read : (asked : Asked) (m : Files) (prepared : Prepared) (files : Opti
     → IsPrepared asked prepared → files ≡ Some m → IsReadFrom prepared.path files (Ok snapshot) → was ≡ legacy_in snapshot → number ≡ number_text_in snapshot
     → old ≡ contents_in snapshot → new ≡ contents_in prepared.snapshot → IsCompared was number old new judged → IsJudged asked m judged
 judge_read asked m prepared files snapshot was number old new judged p told r was_is number_is old_is new_is c =
-    read_compared asked m r.file snapshot new judged p.trimmed (r.told m told ∙ ap (get m) p.path) r.comes_to (ap (λ x. text_in x) new_is ∙ p.printed) (subst (λ x. IsFileText x) (sym new_is) p.in_file)
+    read_compared asked m r.file snapshot new judged p.trimmed (r.told m told ∙ ap (get m) p.path) r.comes_to (ap (λ x. text_in x) new_is ∙ printed_text asked prepared p) (subst (λ x. IsFileText x) (sym new_is) (printed_in_file asked prepared p))
     (compared_with was number old new judged snapshot was_is number_is old_is c)
 
 not_passed : (asked : Asked) (m : Files) (file : Option (List ℕ)) (judged : Judged) → file ≡ get m asked.path → judged.passed ≡ false
@@ -145,8 +146,8 @@ judge_refused asked m prepared files error result p told r end =
     let Refused_at : List ℕ → Type 0 = λ path. IsRefused path r.file error in
     by_error asked m r.file error result p.trimmed (r.told m told ∙ ap (get m) p.path) (subst Refused_at p.path r.comes_to) end
 
-pub all_judged : (prepared : Prepared) (files : Option Files) (result : Result Judged AssertError) → ((asked : Asked) (m : Files) → IsPrepared asked prepared → files ≡ Some m → IfOk result (λ judged. IsJudged asked m judged))
-    → IfOk result (λ judged. (asked : Asked) (m : Files) → IsPrepared asked prepared → files ≡ Some m → IsJudged asked m judged)
+pub all_judged : (prepared : Prepared) (files : Option Files) (result : Result Judged AssertError) → ((asked : Asked) → IsPrepared asked prepared → (m : Files) → files ≡ Some m → IfOk result (λ judged. IsJudged asked m judged))
+    → IfOk result (λ judged. (asked : Asked) → IsPrepared asked prepared → (m : Files) → files ≡ Some m → IsJudged asked m judged)
 all_judged prepared files (Ok judged) h = h
 all_judged prepared files (Err e) h = tt
 

@@ -4,6 +4,7 @@ use Rattle.std.specs.Result.{IsErrAnd}
 use Rattle.snap_text.proofs.NormalForms.{normal-printed}
 use Rattle.snap_assert.specs.declared.error.AssertError.TheVariants as refusal
 use Rattle.snap_assert.proofs.Keeping.{kept_same, kept_then, kept_but, kept_written, kept_gone, kept_in_place, kept_beside, kept_pending, kept_strays}
+use Rattle.snap_assert.proofs.Printing.{printed_text}
 use Rattle.snap_assert.proofs.Removals.{strays_gone}
 
 printed_under : (meta : Meta) (w : Blocks) (p : Plain) → normal (text_of w p) ++ 10 ∷ [] ≡ text_of w p → text_under meta (text_of w p) ≡ file_of (header_tree meta) w p
@@ -14,7 +15,7 @@ pub updated : (asked : Asked) (m : Files) (prepared : Prepared) (files files' : 
     → ((n : Files) (raw : List ℕ) → files ≡ Some n → text_in (contents_in prepared.snapshot) ≡ Some raw → files' ≡ Some (insert n prepared.path (encode_utf8_all (saved_text (meta_in prepared.snapshot) raw))))
     → files' ≡ Some (written InPlace asked m)
 updated asked m prepared files files' p told saved =
-    saved m (text_of asked.blocks asked.tree) told p.printed
+    saved m (text_of asked.blocks asked.tree) told (printed_text asked prepared p)
     ∙ ap (λ q. Some (insert m q (encode_utf8_all (saved_text (meta_in prepared.snapshot) (text_of asked.blocks asked.tree))))) p.path
     ∙ ap (λ t. Some (insert m asked.path (encode_utf8_all (saved_text t (text_of asked.blocks asked.tree))))) p.metadata
     ∙ ap (λ t. Some (insert m asked.path (encode_utf8_all t))) (printed_under (without_line asked.meta) asked.blocks asked.tree (normal-printed asked.blocks asked.tree p.trimmed p.within))
@@ -24,13 +25,13 @@ pub postponed : (asked : Asked) (m : Files) (prepared : Prepared) (files files' 
     → ((n : Files) (raw : List ℕ) → files ≡ Some n → text_in (contents_in prepared.snapshot) ≡ Some raw → files' ≡ Some (insert n (pending_path prepared.path) (encode_utf8_all (text_under (meta_in prepared.snapshot) raw))))
     → files' ≡ Some (written NewFile asked m)
 postponed asked m prepared files files' p told saved =
-    saved m (text_of asked.blocks asked.tree) told p.printed
+    saved m (text_of asked.blocks asked.tree) told (printed_text asked prepared p)
     ∙ ap (λ q. Some (insert m (pending_path q) (encode_utf8_all (text_under (meta_in prepared.snapshot) (text_of asked.blocks asked.tree))))) p.path
     ∙ ap (λ t. Some (insert m (pending_path asked.path) (encode_utf8_all (text_under t (text_of asked.blocks asked.tree))))) p.metadata
     ∙ ap (λ t. Some (insert m (pending_path asked.path) (encode_utf8_all t))) (printed_under asked.meta asked.blocks asked.tree (normal-printed asked.blocks asked.tree p.trimmed p.within))
 
 pub has_text : (asked : Asked) (prepared : Prepared) → IsPrepared asked prepared → IsSome (text_in (contents_in prepared.snapshot))
-has_text asked prepared p = subst IsSome (sym p.printed) refl
+has_text asked prepared p = subst IsSome (sym (printed_text asked prepared p)) refl
 
 -- the files once the strays are gone
 pub cleared_is : (asked : Asked) (m : Files) (strays : List (List ℕ)) (files files' : Option Files) → files ≡ Some m → AreStrays asked.path m strays

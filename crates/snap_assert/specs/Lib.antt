@@ -1,9 +1,11 @@
 pub mod Session
+pub mod Names
 pub mod Blocks
 pub mod Judging
 pub mod Steps
 pub mod Kept
 pub mod Assertions
+pub mod Courses
 pub mod Outcomes
 pub mod Strays
 pub mod Prepared

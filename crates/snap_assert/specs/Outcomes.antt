@@ -15,9 +15,11 @@ use Rattle.snap_store.specs.Views.{legacy_in, number_text_in}
 use Rattle.snap_store.specs.declared.snapshot.Snapshot.{Snapshot}
 use Rattle.snap_store.specs.declared.metadata.SnapshotKind.{SnapshotKind}
 use Rattle.snap_assert.specs.Judging.{BodyMatches, IsLegacyFile, May}
-use Rattle.snap_assert.specs.Assertions.{Assertion, Left, asked_in, assertion_step}
+use Rattle.snap_assert.specs.Assertions.{Assertion, asked_under}
+use Rattle.snap_assert.specs.Courses.{Course, Refused, course_of, cleared_at}
+use Rattle.snap_assert.specs.Names.{Named, name_step}
 use Rattle.snap_assert.specs.Session.{SessionView}
-use Rattle.snap_assert.specs.Steps.{is_failure}
+use Rattle.snap_assert.specs.Steps.{Asked, step, verdict_of, is_failure}
 use Rattle.snap_assert_settings.specs.declared.config.Config.{Config}
 use Rattle.snap_assert.specs.declared.error.AssertError.{AssertError}
 use Rattle.snap_assert.specs.declared.error.AssertError.TheVariants.{FileIo, OutOfMemory}
@@ -81,31 +83,64 @@ pub record SpeakOfOne (path : List ℕ) (file : Option (List ℕ)) (passed : Boo
   pub end : FileEnd path file read
   pub says : SaysOf read passed warnings
 
--- what the step leaves of these files and of what is remembered
-abbrev pub left_by : Config → Assertion → Bool → Files → SessionView → Left
-left_by config assertion passed files session = assertion_step config.update config.force_update assertion passed files session
-
--- an assertion is answered: by a pass that is allowed or none, and, whatever the files are, with the verdict of the step and
--- with what it remembers; with the files of the step where they are told
-pub record IsAnswered (config : Config) (assertion : Assertion) (outcome : Outcome) (files files' : Option Files) (session session' : SessionView) : Type 0 where
+-- what is asked of the files is answered: by a pass that is allowed or none, with the verdict by the mode, and with the files of the
+-- step where they are told
+pub record IsDone (config : Config) (asked : Asked) (outcome : Outcome) (files files' : Option Files) : Type 0 where
   pub passed : Bool
-  pub verdict : (m : Files) → (left_by config assertion passed m session).answer ≡ Ok outcome.verdict
-  pub remembered : (m : Files) → session' ≡ (left_by config assertion passed m session).session
-  pub path : outcome.path ≡ (asked_in assertion session).path
+  pub verdict : outcome.verdict ≡ verdict_of config.update passed
+  pub path : outcome.path ≡ asked.path
   pub fails : outcome.fails ≡ (is_failure outcome.verdict && not config.force_pass)
-  pub allowed : Given files (λ m. May passed (get m (asked_in assertion session).path) (asked_in assertion session).blocks (asked_in assertion session).tree)
-  pub stands : Becomes files files' (λ m. (left_by config assertion passed m session).files)
-  pub warned : Given files (λ m. AreWarnings (asked_in assertion session).path (get m (asked_in assertion session).path) passed
-      (text_of (asked_in assertion session).blocks (asked_in assertion session).tree) (items_of outcome.warnings))
-  pub one : Given files (λ m. SpeakOfOne (asked_in assertion session).path (get m (asked_in assertion session).path) passed (items_of outcome.warnings))
+  pub allowed : Given files (λ m. May passed (get m asked.path) asked.blocks asked.tree)
+  pub stands : Becomes files files' (λ m. step config.update config.force_update asked passed m)
+  pub warned : Given files (λ m. AreWarnings asked.path (get m asked.path) passed (text_of asked.blocks asked.tree) (items_of outcome.warnings))
+  pub one : Given files (λ m. SpeakOfOne asked.path (get m asked.path) passed (items_of outcome.warnings))
 
--- the only refusals while names are given and no block is open
+-- an assertion is answered: whatever the files are, it goes on under the name of its course, and what is remembered is that of the course
+pub record IsAnswered (config : Config) (assertion : Assertion) (outcome : Outcome) (files files' : Option Files) (session session' : SessionView) : Type 0 where
+  pub course : Course
+  pub course_is : course_of assertion session ≡ Ok course
+  pub remembered : session' ≡ course.session
+  pub done : IsDone config (asked_under assertion course.name) outcome files files'
+
+-- an assertion is refused by what is remembered: whatever the files are, its course is refused so
+pub record IsRefusedAs (assertion : Assertion) (error : AssertError) (files files' : Option Files) (session session' : SessionView) : Type 0 where
+  pub refused : Refused
+  pub course_is : course_of assertion session ≡ Err refused
+  pub error_is : refused.error ≡ error
+  pub remembered : session' ≡ refused.session
+  pub stands : Becomes files files' (cleared_at assertion refused.taken)
+
+-- after a fault or running out of memory what is remembered is as before, as after the name was taken, or as after the whole course
+abbrev pub MayRemember : Assertion → SessionView → SessionView → Type 0
+MayRemember a session session' =
+    (session' ≡ session) ⊎ (((named : Named) × (name_step a.settings a.place a.given session ≡ Ok named) × (session' ≡ named.session))
+    ⊎ ((course : Course) × (course_of a session ≡ Ok course) × (session' ≡ course.session)))
+
+-- why an assertion comes to no answer: a fault of the store, no memory, or what is remembered
+abbrev pub IsStopped : Assertion → AssertError → Option Files → Option Files → SessionView → SessionView → Type 0
+IsStopped a OutOfMemory files files' session session' = MayRemember a session session'
+IsStopped a (FileIo path) files files' session session' = MayRemember a session session'
+IsStopped a error files files' session session' = IsRefusedAs a error files files' session session'
+
+-- memory was out before the tree was printed: nothing is remembered of it
+abbrev pub IsUnprinted : AssertError → SessionView → SessionView → Type 0
+IsUnprinted error session session' = (error ≡ OutOfMemory) × (session' ≡ session)
+
 abbrev pub ErrorCause : ℕ → ℕ → AssertError → Type 0
 ErrorCause before now (FileIo path) = Rose before now
-ErrorCause before now OutOfMemory = now ≡ before
-ErrorCause before now _ = ⊥
+ErrorCause before now _ = now ≡ before
 
 -- `FileIo` comes only where the store's count rose, and any other answer leaves it
 abbrev pub AssertCause : {T : Type 0} → ℕ → ℕ → Result T AssertError → Type 0
 AssertCause before now (Ok value) = now ≡ before
 AssertCause before now (Err error) = ErrorCause before now error
+
+-- work on the files stops for no other reason than these two
+abbrev pub WorkErrorCause : ℕ → ℕ → AssertError → Type 0
+WorkErrorCause before now (FileIo path) = Rose before now
+WorkErrorCause before now OutOfMemory = now ≡ before
+WorkErrorCause before now _ = ⊥
+
+abbrev pub WorkCause : {T : Type 0} → ℕ → ℕ → Result T AssertError → Type 0
+WorkCause before now (Ok value) = now ≡ before
+WorkCause before now (Err error) = WorkErrorCause before now error

@@ -1,5 +1,5 @@
 -- What is ready before anything is looked at, and what was seen.
-use Rattle.std.specs.Prelude.{◌≡◌, ◌↔◌, ℕ, Bool, true, IsTrue, List, [], ◌∷◌, false, Option, Some, Result, Ok, Err}
+use Rattle.std.specs.Prelude.{◌≡◌, ◌↔◌, ◌⊎◌, ℕ, Bool, true, IsTrue, List, [], ◌∷◌, false, Option, Some, Result, Ok, Err}
 use Rattle.std.specs.FinMap.{get}
 use Rattle.snap_content.specs.List.{items_of}
 use Rattle.snap_print.specs.Readable.{IsWithin}
@@ -10,7 +10,9 @@ use Rattle.snap_print.specs.Printed.{is_trimmed}
 use Rattle.snap_text.specs.Normal.{normal}
 use Rattle.snap_store.specs.Agreement.{Agree}
 use Rattle.snap_store.specs.declared.contents.SnapshotContents.{SnapshotContents}
-use Rattle.snap_store.specs.Views.{meta_in, module_in, name_in, contents_in, text_in, IsFileText}
+use Rattle.snap_store.specs.Views.{meta_in, module_in, name_in, contents_in, text_in}
+use Rattle.snap_assert.specs.Assertions.{new_contents}
+use Rattle.snap_assert.specs.Session.{SessionView}
 use Rattle.snap_assert.specs.Steps.{Asked, pending_path, step}
 use Rattle.snap_assert_settings.specs.declared.config.Config.{Config}
 use Rattle.snap_assert_place.specs.SnapshotPath.{IsFilePath}
@@ -33,8 +35,7 @@ pub record IsPrepared (asked : Asked) (prepared : Prepared) : Type 0 where
   pub file_path : IsFilePath asked.path
   pub folder : prepared.folder ≡ parent_of asked.path
   pub pending : prepared.pending ≡ pending_path asked.path
-  pub printed : text_in (contents_in prepared.snapshot) ≡ Some (text_of asked.blocks asked.tree)
-  pub in_file : IsFileText (contents_in prepared.snapshot)
+  pub contents : contents_in prepared.snapshot ≡ new_contents asked
   pub trimmed : is_trimmed asked.blocks ≡ true
   pub within : IsWithin asked.tree
   pub metadata : meta_in prepared.snapshot ≡ asked.meta
@@ -95,3 +96,12 @@ RefusedEnd (refusal.NoFile path) result = NoPass [] result
 RefusedEnd (refusal.FileIo path) result = result ≡ Err (FileIo path)
 RefusedEnd refusal.OutOfMemory result = result ≡ Err OutOfMemory
 RefusedEnd error result = NoPass (Unreadable error ∷ []) result
+
+abbrev pub MayKeep : Result SessionView AssertError → SessionView → SessionView → Type 0
+MayKeep step session session' = (session' ≡ session) ⊎ (step ≡ Ok session')
+
+-- why nothing is left by the mode: a fault or no memory, before the block kept the contents or after; or the block refused them, and then this stands
+abbrev pub KeepStops : Type 0 → Result SessionView AssertError → SessionView → SessionView → AssertError → Type 0
+KeepStops stands step session session' OutOfMemory = MayKeep step session session'
+KeepStops stands step session session' (FileIo path) = MayKeep step session session'
+KeepStops stands step session session' error = (step ≡ Err error) × (session' ≡ session) × stands

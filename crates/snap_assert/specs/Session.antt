@@ -1,40 +1,106 @@
--- What a session remembers, and the name that an assertion takes.
-use Rattle.std.specs.Prelude.{ℕ, Bool, List, [], ◌∷◌, ◌++◌, Option, None, Some}
+-- What a session remembers: lists of entries in the order of their keys, as the standard library's maps show them.
+use Rattle.std.specs.Prelude.{ℕ, Bool, true, false, List, [], ◌∷◌, Option, None, map, reverse}
+use Rattle.std.specs.BTreeMap.{insert_entry, is_at}
+use Rattle.std.specs.Cmp.Lexicographic.{slice_cmp}
+use Rattle.std.specs.Map.{lookup}
+use Rattle.std.specs.Option.{option_cmp}
+use Rattle.std.specs.Ordering.{nat_cmp, ordering_then}
+use Rattle.std.specs.declared.cmp.Ordering.{Ordering}
 use Rattle.snap_store.specs.declared.contents.SnapshotContents.{SnapshotContents}
-use Rattle.snap_assert.specs.declared.error.DuplicateKey.{DuplicateKey}
+use Rattle.snap_assert_place.specs.Names.{NameKey}
+use Rattle.snap_assert_place.specs.SnapshotPath.{flat_module}
 use Rattle.snap_assert.specs.declared.session.Session.{Session}
-use Rattle.snap_assert_settings.specs.Settings.{SettingsView}
+use Rattle.snap_assert.specs.declared.session.Use.{Use}
 
--- a module and an automatic name
-pub record Key : Type 0 where
-  pub module_name : List ℕ
-  pub name : List ℕ
+abbrev pub text_cmp : List ℕ → List ℕ → Ordering
+text_cmp a b = slice_cmp nat_cmp a b
 
--- for each automatic name whether the module stood before it and how often it was used, the open blocks of
--- duplicates with what each keeps, and the literals that were met
+-- the order of modules and names
+abbrev pub key_cmp : NameKey → NameKey → Ordering
+key_cmp a b = ordering_then (text_cmp a.0 b.0) (text_cmp a.1 b.1)
+
+-- under what a block keeps contents: a module and a name, or the function, the file and the line of a literal
+abbrev pub BlockKey : Type 0
+BlockKey = List ℕ × List ℕ × Option ℕ
+
+abbrev pub block_cmp : BlockKey → BlockKey → Ordering
+block_cmp a b = ordering_then (ordering_then (text_cmp a.0 b.0) (text_cmp a.1 b.1)) (option_cmp nat_cmp a.2 b.2)
+
+-- what an open block keeps: for each key the contents that were asserted first
+abbrev pub Block : Type 0
+Block = List (BlockKey × SnapshotContents)
+
+-- how each automatic name was used, and what each open block keeps, the innermost first
 pub record SessionView : Type 0 where
-  pub prefix : List (Key × Bool)
-  pub count : List (Key × ℕ)
-  pub blocks : List (List (DuplicateKey × SnapshotContents))
-  pub literals : List DuplicateKey
+  pub uses : List (NameKey × Use)
+  pub blocks : List Block
 
--- before the first assertion: no name was made, no block is open, no literal was met
+-- before the first assertion: no name was made, and no block is open
 abbrev pub empty_session : SessionView
-empty_session = record { prefix = []; count = []; blocks = []; literals = [] }
+empty_session = record { uses = []; blocks = [] }
 
--- what a session is seen as: nothing is remembered yet, since no call needs it
+-- what a session is seen as; its last block is the innermost
 abbrev pub session_of : Session → SessionView
-session_of session = empty_session
+session_of session = record {
+  uses = session.uses.entries;
+  blocks = reverse (map (λ block. block.entries) session.blocks.items);
+}
 
-abbrev pub suffixed : List ℕ → Option (List ℕ) → List ℕ
-suffixed name None = name
-suffixed name (Some suffix) = name ++ 64 ∷ suffix
+-- with one more block, which keeps nothing
+abbrev pub opened : SessionView → SessionView
+opened session = record session { blocks = [] ∷ session.blocks }
 
--- a name that is given gets the suffix of the settings, and the session stays
-pub record Named : Type 0 where
-  pub name : List ℕ
-  pub session : SessionView
+abbrev pub without_first : List Block → List Block
+without_first [] = []
+without_first (block ∷ outer) = outer
 
--- the name with its suffix, and the session, which stays
-abbrev pub name_step : SettingsView → SessionView → List ℕ → Named
-name_step settings session given = record { name = suffixed given settings.suffix; session = session }
+-- the innermost block taken away, where one is open
+abbrev pub closed : SessionView → SessionView
+closed session = record session { blocks = without_first session.blocks }
+
+abbrev pub is_filled : List Block → Bool
+is_filled [] = false
+is_filled (block ∷ outer) = true
+
+-- whether a block is open
+abbrev pub is_open : SessionView → Bool
+is_open session = is_filled session.blocks
+
+-- how a name was used
+abbrev pub use_of : SessionView → NameKey → Option Use
+use_of session key = lookup (is_at (key_cmp key)) session.uses
+
+abbrev pub with_use : SessionView → NameKey → Use → SessionView
+with_use session key value = record session { uses = insert_entry key_cmp session.uses key value }
+
+-- what the innermost block keeps for the key
+abbrev pub kept_in : BlockKey → List Block → Option SnapshotContents
+kept_in key [] = None
+kept_in key (block ∷ outer) = lookup (is_at (block_cmp key)) block
+
+abbrev pub kept_for : SessionView → BlockKey → Option SnapshotContents
+kept_for session key = kept_in key session.blocks
+
+abbrev pub put_in : BlockKey → SnapshotContents → List Block → List Block
+put_in key contents [] = []
+put_in key contents (block ∷ outer) = insert_entry block_cmp block key contents ∷ outer
+
+-- the innermost block keeps these contents for the key
+abbrev pub with_kept : SessionView → BlockKey → SnapshotContents → SessionView
+with_kept session key contents = record session { blocks = put_in key contents session.blocks }
+
+-- a module, a name, and how often the name was used
+abbrev pub Counter : Type 0
+Counter = List ℕ × List ℕ × ℕ
+
+abbrev pub use_counted : ℕ → Use
+use_counted count = record { prefixed = None; count = count }
+
+-- with this name used so often; whether `test_` stood in front of it is not known
+abbrev pub with_counter : SessionView → Counter → SessionView
+with_counter session c = with_use session (flat_module c.0, c.1) (use_counted c.2)
+
+-- with these names used so often, of equal names the last
+abbrev pub with_counters : List Counter → SessionView → SessionView
+with_counters [] session = session
+with_counters (c ∷ cs) session = with_counters cs (with_counter session c)

@@ -12,7 +12,7 @@ use Rattle.snap_assert_settings.specs.Settings.{SettingsView}
 use Rattle.snap_path.specs.Names.{past_mark}
 use Rattle.snap_assert_place.specs.Place.{PlaceView, holds_slash}
 use Rattle.snap_assert_place.specs.SnapshotPath.{path_of, flat_module, new_meta}
-use Rattle.snap_assert.specs.Session.{suffixed}
+use Rattle.snap_assert_place.specs.Names.{suffixed}
 use Rattle.snap_assert_settings.specs.declared.config.Update.{Update}
 use Rattle.snap_assert_settings.specs.declared.config.Update.TheVariants.{InPlace, NewFile, NoUpdate}
 use Rattle.snap_assert.specs.declared.outcome.Verdict.{Verdict}

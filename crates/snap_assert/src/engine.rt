@@ -1,21 +1,28 @@
 //! One assertion over a store.
-ghost use Rattle.std.specs.Prelude.{◌≡◌, ◌&&◌, List, ℕ, false, not, Some, IsSome, IfOk, option_copied};
+ghost use Rattle.std.specs.Prelude.{◌≡◌, ◌⊎◌, ◌&&◌, false, not, Ok, Err, Some, IsSome, IfOk, IfErr, OnOk, option_copied};
 ghost use Rattle.snap_content.specs.Tree.{Tree};
 ghost use Rattle.snap_content.specs.View.{tree};
-ghost use Rattle.snap_assert.specs.Outcomes.{IsAnswered, AssertCause};
-ghost use Rattle.snap_assert.specs.Assertions.{assertion_of};
+ghost use Rattle.snap_assert.specs.Outcomes.{IsDone, IsAnswered, IsStopped, IsUnprinted, AssertCause};
+ghost use Rattle.snap_assert.specs.Assertions.{assertion_of, key_under, new_contents};
+ghost use Rattle.snap_assert.specs.Blocks.{keep_step};
 ghost use Rattle.snap_assert.specs.Kept.{KeptBy, NamesOwn};
-ghost use Rattle.snap_assert.specs.Session.{session_of, empty_session};
+ghost use Rattle.snap_assert.specs.Names.{Named, name_step};
+ghost use Rattle.snap_assert.specs.Session.{session_of};
 ghost use Rattle.snap_assert_settings.specs.Settings.{settings_of, PrintsAs};
 ghost use Rattle.snap_assert_place.specs.Place.{place_of};
+ghost use Rattle.snap_assert_place.specs.SnapshotPath.{path_of};
 ghost use Rattle.snap_io.specs.Files.{Files};
+ghost use Rattle.snap_io.specs.Outside.{Given, Becomes};
 ghost use Rattle.snap_print.specs.Blocks.{blocks_if};
 ghost use Rattle.snap_store.specs.Views.{contents_in, text_in};
-ghost use Rattle.snap_assert.specs.Prepared.{IsPrepared, IsSettled};
-ghost use Rattle.snap_assert.specs.Steps.{Asked, asked_path, verdict_of, is_failure};
+ghost use Rattle.snap_assert.specs.Prepared.{IsPrepared, IsSettled, KeepStops};
+ghost use Rattle.snap_assert.specs.Steps.{Asked, asked_as, cleared, step, verdict_of, is_failure};
+ghost use Rattle.snap_assert.specs.declared.error.AssertError.{AssertError};
 
 use crate::error::AssertError;
-use crate::look::{Judged, look};
+use crate::kept::keep;
+use crate::look::{Judged, look_and_clear};
+use crate::names::take_name;
 use crate::outcome::{Outcome, Verdict};
 use crate::prepare::{Prepared, prepare};
 use crate::session::Session;
@@ -52,39 +59,83 @@ fn fails(verdict: Verdict, force_pass: bool) -> bool
     }
 }
 
-/// Reads, lists and compares, and then leaves the store as the mode says.
-fn assert_prepared<S: Store>(
+/// Asks the innermost block of duplicates, and then leaves the store as the mode says.
+fn keep_and_settle<S: Store>(
     alloc: Global,
+    session: &mut Session,
     store: &mut S,
     config: &Config,
+    place: &Place,
+    name: &Text,
     prepared: &Prepared,
-) -> Result<Judged, AssertError>
+    passed: bool,
+) -> Result<(), AssertError>
     requires { IsSome (text_in (contents_in prepared.now.snapshot)) }
-    ensures settled { IfOk result (λ judged. (asked : Asked) (m : Files)
-        → IsPrepared asked prepared.now → S.files store.old ≡ Some m
-        → IsSettled config.now asked m judged (S.files store.new)) }
+    ensures ok { OnOk result ((asked : Asked) (m : Files) → IsPrepared asked prepared.now
+        → S.files store.old ≡ Some (cleared asked.path m)
+        → S.files store.new
+        ≡ Some (step config.now.update config.now.force_update asked passed m)) }
+    ensures remembered { OnOk result (keep_step (key_under (place_of place.now) name.now)
+        (contents_in prepared.now.snapshot) (session_of session.old)
+        ≡ Ok (session_of session.new)) }
+    ensures stopped { IfErr result (λ e. KeepStops (S.files store.new ≡ S.files store.old)
+        (keep_step (key_under (place_of place.now) name.now) (contents_in prepared.now.snapshot)
+        (session_of session.old)) (session_of session.old) (session_of session.new) e) }
     ensures kept { (asked : Asked) → IsPrepared asked prepared.now
         → KeptBy config.now.update asked.path (S.files store.old) (S.files store.new) }
     ensures named { (asked : Asked) → IsPrepared asked prepared.now
         → NamesOwn config.now.update asked.path result }
     ensures cause { AssertCause (S.faults store.old) (S.faults store.new) result }
 {
-    let seen = look(alloc, store, prepared)?;
-    settle(
-        alloc,
-        store,
-        config,
-        prepared,
-        seen.judged.passed,
-        &seen.strays,
-    )?;
-    Ok(seen.judged)
+    keep(alloc, session, place, name, prepared.snapshot.contents())?;
+    settle(alloc, store, config, prepared, passed)
 }
 
-/// Asserts the tree that is printed under this name where nothing is remembered, with all that is written printed
-/// before the store is touched.
-fn assert_printed<S: Store>(
+/// Reads, lists and compares, removes the strays, asks the innermost block of duplicates, and then leaves the store as the mode says.
+fn assert_prepared<S: Store>(
     alloc: Global,
+    session: &mut Session,
+    store: &mut S,
+    config: &Config,
+    place: &Place,
+    name: &Text,
+    prepared: &Prepared,
+) -> Result<Judged, AssertError>
+    requires { IsSome (text_in (contents_in prepared.now.snapshot)) }
+    ensures settled { IfOk result (λ judged. (asked : Asked) → IsPrepared asked prepared.now
+        → Given (S.files store.old) (λ m. IsSettled config.now asked m judged (S.files store.new))) }
+    ensures remembered { OnOk result ((asked : Asked) → IsPrepared asked prepared.now
+        → keep_step (key_under (place_of place.now) name.now) (new_contents asked)
+        (session_of session.old)
+        ≡ Ok (session_of session.new)) }
+    ensures stopped { IfErr result (λ e. (asked : Asked) → IsPrepared asked prepared.now
+        → KeepStops (Becomes (S.files store.old) (S.files store.new) (cleared asked.path))
+        (keep_step (key_under (place_of place.now) name.now) (new_contents asked)
+        (session_of session.old)) (session_of session.old) (session_of session.new) e) }
+    ensures kept { (asked : Asked) → IsPrepared asked prepared.now
+        → KeptBy config.now.update asked.path (S.files store.old) (S.files store.new) }
+    ensures named { (asked : Asked) → IsPrepared asked prepared.now
+        → NamesOwn config.now.update asked.path result }
+    ensures cause { AssertCause (S.faults store.old) (S.faults store.new) result }
+{
+    let judged = look_and_clear(alloc, store, prepared)?;
+    keep_and_settle(
+        alloc,
+        session,
+        store,
+        config,
+        place,
+        name,
+        prepared,
+        judged.passed,
+    )?;
+    Ok(judged)
+}
+
+/// Asserts the tree that is printed under the name that is taken, with all that is written printed before the store is touched.
+fn assert_named<S: Store>(
+    alloc: Global,
+    session: &mut Session,
     store: &mut S,
     config: &Config,
     settings: &Settings,
@@ -92,19 +143,29 @@ fn assert_printed<S: Store>(
     name: &Text,
     printed: &Content,
 ) -> Result<Outcome, AssertError>
-    ensures answered { IfOk result (λ outcome.
-        IsAnswered config.now (assertion_of (blocks_if config.now.literal)
-        (settings_of settings.now) (place_of place.now) name.now (tree printed.now)) outcome
-        (S.files store.old) (S.files store.new) empty_session empty_session) }
+    ensures done { IfOk result (λ outcome. IsDone config.now
+        (asked_as (blocks_if config.now.literal) (settings_of settings.now) (place_of place.now)
+        name.now (tree printed.now)) outcome (S.files store.old) (S.files store.new)) }
+    ensures remembered { OnOk result (keep_step (key_under (place_of place.now) name.now)
+        (new_contents (asked_as (blocks_if config.now.literal) (settings_of settings.now)
+        (place_of place.now) name.now (tree printed.now))) (session_of session.old)
+        ≡ Ok (session_of session.new)) }
+    ensures stopped { IfErr result (λ e. KeepStops
+        (Becomes (S.files store.old) (S.files store.new)
+        (cleared (path_of (settings_of settings.now) (place_of place.now) name.now)))
+        (keep_step (key_under (place_of place.now) name.now)
+        (new_contents (asked_as (blocks_if config.now.literal) (settings_of settings.now)
+        (place_of place.now) name.now (tree printed.now))) (session_of session.old))
+        (session_of session.old) (session_of session.new) e) }
     ensures kept { KeptBy config.now.update
-        (asked_path (settings_of settings.now) (place_of place.now) name.now)
+        (path_of (settings_of settings.now) (place_of place.now) name.now)
         (S.files store.old) (S.files store.new) }
     ensures named { NamesOwn config.now.update
-        (asked_path (settings_of settings.now) (place_of place.now) name.now) result }
+        (path_of (settings_of settings.now) (place_of place.now) name.now) result }
     ensures cause { AssertCause (S.faults store.old) (S.faults store.new) result }
 {
     let prepared = prepare(alloc, settings, place, name, printed, config.literal)?;
-    let judged = assert_prepared(alloc, store, config, &prepared);
+    let judged = assert_prepared(alloc, session, store, config, place, name, &prepared);
     let path = prepared.into_path();
     let judged = judged?;
     let verdict = verdict(config.update, judged.passed);
@@ -116,44 +177,57 @@ fn assert_printed<S: Store>(
     })
 }
 
-/// The same of the tree that is given: it is sorted and redacted first.
-fn assert_named<S: Store>(
+/// Takes the name, and asserts the tree that is printed under it.
+fn assert_printed<S: Store>(
     alloc: Global,
+    session: &mut Session,
     store: &mut S,
     config: &Config,
     settings: &Settings,
     place: &Place,
-    name: &Text,
-    content: Content,
+    given: Option<&Text>,
+    printed: &Content,
 ) -> Result<Outcome, AssertError>
-    ensures answered { IfOk result (λ outcome. (printed : Tree)
-        × PrintsAs (λ v. (⟦<dyn Redactor as Redactor>⟧ v).allows) settings.now (tree content) printed
-        × IsAnswered config.now (assertion_of (blocks_if config.now.literal)
-        (settings_of settings.now) (place_of place.now) name.now printed) outcome
-        (S.files store.old) (S.files store.new) empty_session empty_session) }
-    ensures kept { KeptBy config.now.update
-        (asked_path (settings_of settings.now) (place_of place.now) name.now)
+    ensures answered { IfOk result (λ outcome. IsAnswered config.now
+        (assertion_of (blocks_if config.now.literal) (settings_of settings.now)
+        (place_of place.now) (option_copied given.entry) (tree printed.now)) outcome
+        (S.files store.old) (S.files store.new) (session_of session.old)
+        (session_of session.new)) }
+    ensures stopped { IfErr result (λ e. IsStopped
+        (assertion_of (blocks_if config.now.literal) (settings_of settings.now)
+        (place_of place.now) (option_copied given.entry) (tree printed.now)) e
+        (S.files store.old) (S.files store.new) (session_of session.old)
+        (session_of session.new)) }
+    ensures kept { (named : Named) → name_step (settings_of settings.now) (place_of place.now)
+        (option_copied given.entry) (session_of session.old) ≡ Ok named
+        → KeptBy config.now.update
+        (path_of (settings_of settings.now) (place_of place.now) named.name)
         (S.files store.old) (S.files store.new) }
-    ensures named { NamesOwn config.now.update
-        (asked_path (settings_of settings.now) (place_of place.now) name.now) result }
+    ensures named { (named : Named) → name_step (settings_of settings.now) (place_of place.now)
+        (option_copied given.entry) (session_of session.old) ≡ Ok named
+        → NamesOwn config.now.update
+        (path_of (settings_of settings.now) (place_of place.now) named.name) result }
+    ensures untouched { (error : AssertError) → name_step (settings_of settings.now)
+        (place_of place.now) (option_copied given.entry) (session_of session.old) ≡ Err error
+        → store.new ≡ store.old }
     ensures cause { AssertCause (S.faults store.old) (S.faults store.new) result }
 {
-    match settings.printed_tree(alloc, content) {
-        Ok(printed) => {
-            let outcome = assert_printed(alloc, store, config, settings, place, name, &printed);
-            drop(printed);
-            outcome
-        }
-        Err(_) => Err(AssertError::OutOfMemory),
-    }
+    let name = take_name(alloc, session, settings, place, given)?;
+    let outcome = assert_named(
+        alloc, session, store, config, settings, place, &name, printed,
+    );
+    drop(name);
+    outcome
 }
 
-/// Asserts that the tree, redacted, is that of the snapshot of this name, by what its file holds.
+/// Asserts that the tree, redacted, is that of the snapshot of its name, by what the file of that holds.
 ///
-/// Texts of several lines are printed as literal blocks where the configuration asks for it. Until full matches and automatic names
-/// are built that flag is off, and a name is given.
-/// Whatever is answered, the approved file is written in place alone, and the pending one in the mode `new` alone;
-/// what was pending may be gone.
+/// A given name gets the suffix of the settings. Without one the name is that of the function, from its second use on with a number; in a
+/// doctest that is refused. Where a block of duplicates is open, contents that differ from those that the innermost block keeps for the module and the name are
+/// refused. Texts of several lines are printed as literal blocks where the configuration asks for it. Until full matches are built that
+/// flag is off.
+/// Whatever is returned, the approved file is written in place alone, and the pending one in the mode `new` alone;
+/// what was pending may be gone. Where no name is taken, neither the session nor the store is changed.
 pub fn assert_content<S: Store>(
     alloc: Global,
     session: &mut Session,
@@ -165,29 +239,40 @@ pub fn assert_content<S: Store>(
     content: Content,
 ) -> Result<Outcome, AssertError>
     requires loose { config.now.require_full_match ≡ false }
-    requires named { IsSome name }
-    ensures answered { IfOk result (λ outcome. (given : List ℕ)
-        → option_copied name.entry ≡ Some given → (printed : Tree)
+    ensures answered { IfOk result (λ outcome. (printed : Tree)
         × PrintsAs (λ v. (⟦<dyn Redactor as Redactor>⟧ v).allows) settings.now (tree content) printed
         × IsAnswered config.now (assertion_of (blocks_if config.now.literal)
-        (settings_of settings.now) (place_of place.now) given printed) outcome
+        (settings_of settings.now) (place_of place.now) (option_copied name.entry) printed) outcome
         (S.files store.old) (S.files store.new) (session_of session.old) (session_of session.new)) }
-    // Whatever is answered: no file is written but the one of the mode, so the approved one only in place.
-    ensures kept { (given : List ℕ) → option_copied name.entry ≡ Some given
+    ensures stopped { IfErr result (λ e. IsUnprinted e (session_of session.old)
+        (session_of session.new) ⊎ ((printed : Tree)
+        × PrintsAs (λ v. (⟦<dyn Redactor as Redactor>⟧ v).allows) settings.now (tree content) printed
+        × IsStopped (assertion_of (blocks_if config.now.literal) (settings_of settings.now)
+        (place_of place.now) (option_copied name.entry) printed) e
+        (S.files store.old) (S.files store.new) (session_of session.old) (session_of session.new))) }
+    // Whatever is returned: no file is written but the one of the mode, so the approved one only in place.
+    ensures kept { (named : Named) → name_step (settings_of settings.now) (place_of place.now)
+        (option_copied name.entry) (session_of session.old) ≡ Ok named
         → KeptBy config.now.update
-        (asked_path (settings_of settings.now) (place_of place.now) given)
+        (path_of (settings_of settings.now) (place_of place.now) named.name)
         (S.files store.old) (S.files store.new) }
-    ensures named { (given : List ℕ) → option_copied name.entry ≡ Some given
+    ensures named { (named : Named) → name_step (settings_of settings.now) (place_of place.now)
+        (option_copied name.entry) (session_of session.old) ≡ Ok named
         → NamesOwn config.now.update
-        (asked_path (settings_of settings.now) (place_of place.now) given) result }
-    ensures session { session_of session.new ≡ session_of session.old }
+        (path_of (settings_of settings.now) (place_of place.now) named.name) result }
+    ensures untouched { (error : AssertError) → name_step (settings_of settings.now)
+        (place_of place.now) (option_copied name.entry) (session_of session.old) ≡ Err error
+        → store.new ≡ store.old }
     ensures cause { AssertCause (S.faults store.old) (S.faults store.new) result }
 {
-    match name {
-        Some(name) => assert_named(alloc, store, config, settings, place, name, content),
-        None => {
-            drop(content);
-            Err(AssertError::DoctestNeedsName)
+    match settings.printed_tree(alloc, content) {
+        Ok(printed) => {
+            let outcome = assert_printed(
+                alloc, session, store, config, settings, place, name, &printed,
+            );
+            drop(printed);
+            outcome
         }
+        Err(_) => Err(AssertError::OutOfMemory),
     }
 }

@@ -1,15 +1,18 @@
 //! Laws of what an assertion rests on, and worked examples.
-ghost use Rattle.std.specs.Prelude.{◌≡◌, ◌++◌, ◌∷◌, ℕ, Bool, List, [], Some, None, true, false, codes};
-ghost use Rattle.snap_io.specs.Files.{Files};
+ghost use Rattle.std.specs.Prelude.{◌≡◌, ◌∷◌, ℕ, Bool, List, [], Some, None, Ok, Err, true, false, codes};
+ghost use Rattle.std.specs.BTreeMap.{insert_entry, is_at};
+ghost use Rattle.std.specs.Map.{lookup};
 ghost use Rattle.snap_store.specs.Agreement.{Agree};
 ghost use Rattle.snap_store.specs.declared.contents.SnapshotContents.{SnapshotContents};
-ghost use Rattle.snap_assert.specs.Assertions.{Assertion, asked_in, key_in, new_contents, goes_on, is_refused, assertion_step};
-ghost use Rattle.snap_assert.specs.Blocks.{Block, kept_for};
+ghost use Rattle.snap_assert.specs.Blocks.{parts_of, keep_step};
 ghost use Rattle.snap_assert.specs.Kept.{is_written, may_change};
-ghost use Rattle.snap_assert.specs.Session.{SessionView, empty_session, name_step};
-ghost use Rattle.snap_assert_settings.specs.Settings.{SettingsView, new_settings};
+ghost use Rattle.snap_assert.specs.Names.{name_step};
+ghost use Rattle.snap_assert.specs.Session.{SessionView, Block, block_cmp, empty_session, opened};
+ghost use Rattle.snap_assert_place.specs.Place.{PlaceView};
+ghost use Rattle.snap_assert_settings.specs.Settings.{new_settings};
 ghost use Rattle.snap_assert.specs.Steps.{pending_path};
-ghost use Rattle.snap_assert_settings.specs.declared.config.Update.{Update};
+ghost use Rattle.snap_assert.specs.declared.error.AssertError.TheVariants.{DuplicateDiffers, DoctestNeedsName};
+ghost use Rattle.snap_assert.specs.declared.error.DuplicateKey.{DuplicateKey};
 ghost use Rattle.snap_assert_settings.specs.declared.config.Update.TheVariants.{InPlace, NewFile, NoUpdate};
 
 /// In place alone the approved file is written, and in the mode `new` alone the pending file beside it; in no other mode
@@ -21,35 +24,56 @@ pub const fn only_in_place_is_the_approved_file_written()
         × (is_written NoUpdate path (pending_path path) ≡ false) }
 {}
 
-/// Where no block of duplicates is open, an assertion goes on. The innermost block keeps the contents that are asserted first
+/// Where no block of duplicates is open, contents are not asked for. The innermost block keeps the contents that are asserted first
 /// under a key; later ones go on where they agree with these, and are refused where they don't.
 pub const fn a_block_keeps_the_first()
-    ensures none_open { (mode : Update) (force : Bool) (a : Assertion) (passed : Bool) (m : Files)
-        (s : SessionView) → s.blocks ≡ []
-        → assertion_step mode force a passed m s ≡ goes_on mode force (asked_in a s) passed m s }
-    ensures first { (mode : Update) (force : Bool) (a : Assertion) (passed : Bool) (m : Files)
-        (s : SessionView) (block : Block) (outer : List Block) → s.blocks ≡ block ∷ outer
-        → kept_for (key_in a s) block ≡ None
-        → assertion_step mode force a passed m s
-        ≡ goes_on mode force (asked_in a s) passed m
-        (record s { blocks = ((key_in a s, new_contents (asked_in a s)) ∷ block) ∷ outer }) }
-    ensures agrees { (mode : Update) (force : Bool) (a : Assertion) (passed : Bool) (m : Files)
-        (s : SessionView) (block : Block) (outer : List Block) (old : SnapshotContents)
-        → s.blocks ≡ block ∷ outer
-        → kept_for (key_in a s) block ≡ Some old → Agree old (new_contents (asked_in a s))
-        → assertion_step mode force a passed m s ≡ goes_on mode force (asked_in a s) passed m s }
-    ensures differs { (mode : Update) (force : Bool) (a : Assertion) (passed : Bool) (m : Files)
-        (s : SessionView) (block : Block) (outer : List Block) (old : SnapshotContents)
-        → s.blocks ≡ block ∷ outer
-        → kept_for (key_in a s) block ≡ Some old → (Agree old (new_contents (asked_in a s)) → ⊥)
-        → assertion_step mode force a passed m s ≡ is_refused (asked_in a s) (key_in a s) old m s }
+    ensures none_open { (key : DuplicateKey) (new : SnapshotContents) (s : SessionView)
+        → s.blocks ≡ [] → keep_step key new s ≡ Ok s }
+    ensures first { (key : DuplicateKey) (new : SnapshotContents) (s : SessionView) (block : Block)
+        (outer : List Block) → s.blocks ≡ block ∷ outer
+        → lookup (is_at (block_cmp (parts_of key))) block ≡ None
+        → keep_step key new s
+        ≡ Ok (record s { blocks = insert_entry block_cmp block (parts_of key) new ∷ outer }) }
+    ensures agrees { (key : DuplicateKey) (new : SnapshotContents) (s : SessionView)
+        (block : Block) (outer : List Block) (old : SnapshotContents) → s.blocks ≡ block ∷ outer
+        → lookup (is_at (block_cmp (parts_of key))) block ≡ Some old → Agree old new
+        → keep_step key new s ≡ Ok s }
+    ensures differs { (key : DuplicateKey) (new : SnapshotContents) (s : SessionView)
+        (block : Block) (outer : List Block) (old : SnapshotContents) → s.blocks ≡ block ∷ outer
+        → lookup (is_at (block_cmp (parts_of key))) block ≡ Some old → (Agree old new → ⊥)
+        → keep_step key new s ≡ Err (DuplicateDiffers key old new) }
 {}
 
-/// Names at concrete values.
+/// Names at concrete values: a given one, with a suffix or without, and the session stays; and those of a function, twice.
 pub const fn worked_examples()
-    ensures given { (name_step new_settings empty_session (codes "one")).name ≡ codes "one" }
-    ensures suffixed { (name_step (record new_settings { suffix = Some (codes "x") }) empty_session
-        (codes "one")).name ≡ codes "one@x" }
-    ensures stays { (settings : SettingsView) (session : SessionView) (name : List ℕ)
-        → (name_step settings session name).session ≡ session }
+    ensures given { (place : PlaceView) (session : SessionView)
+        → name_step new_settings place (Some (codes "one")) session
+        ≡ Ok (record { name = codes "one"; session = session }) }
+    ensures suffixed { (place : PlaceView) (session : SessionView)
+        → name_step (record new_settings { suffix = Some (codes "x") }) place (Some (codes "one"))
+        session
+        ≡ Ok (record { name = codes "one@x"; session = session }) }
+    ensures automatic { (place : PlaceView) → name_step new_settings
+        (record place { function = codes "m::test_a"; module_name = codes "m" }) None empty_session
+        ≡ Ok (record {
+          name = codes "a";
+          session = record {
+            uses = ((codes "m", codes "a"), record { prefixed = Some true; count = 1 }) ∷ [];
+            blocks = [];
+          };
+        }) }
+    ensures again { (place : PlaceView) → name_step new_settings
+        (record place { function = codes "m::test_a"; module_name = codes "m" }) None
+        (record empty_session
+        { uses = ((codes "m", codes "a"), record { prefixed = Some true; count = 1 }) ∷ [] })
+        ≡ Ok (record {
+          name = codes "a-2";
+          session = record {
+            uses = ((codes "m", codes "a"), record { prefixed = Some true; count = 2 }) ∷ [];
+            blocks = [];
+          };
+        }) }
+    ensures doctest { (place : PlaceView) → name_step new_settings
+        (record place { function = codes "rust_out::main::_doctest_main" }) None empty_session
+        ≡ Err DoctestNeedsName }
 {}

@@ -1,13 +1,17 @@
 //! One assertion over a store: what it leaves and answers is one stated step. The clauses of `assert_content` say so.
 //!
-//! In the order in which data flows: `session` (with what), `prepare`, `strays` and `look` (what is there), `settle` and
-//! `removal` (what is left), `engine` (one assertion), `outcome` and `error` (its answer), `laws`.
+//! In the order in which data flows: `session` (what is remembered), `names` (the name that is taken), `kept` (what an open block keeps),
+//! `duplicates` (a block round a closure), `prepare`, `strays` and `look` (what is there), `settle` and `removal` (what is left), `engine`
+//! (one assertion), `outcome` and `error` (its answer), `laws`.
 #![tactic(auto)]
 
+pub mod duplicates;
 pub mod engine;
 pub mod error;
+mod kept;
 pub mod laws;
 mod look;
+mod names;
 pub mod outcome;
 mod prepare;
 mod removal;
@@ -15,6 +19,7 @@ pub mod session;
 mod settle;
 mod strays;
 
+pub use duplicates::with_allow_duplicates;
 pub use engine::assert_content;
 pub use error::{AssertError, DuplicateKey};
 pub use outcome::{Outcome, Verdict, Warning, Warnings};

@@ -1,10 +1,10 @@
 //! What stands in the store: whether the tree passes, and what is to go.
-ghost use Rattle.std.specs.Prelude.{◌≡◌, [], ◌∷◌, false, Some, IfOk};
-ghost use Rattle.snap_io.specs.Files.{Files};
-ghost use Rattle.snap_assert.specs.Outcomes.{AssertCause, said};
-ghost use Rattle.snap_assert.specs.Steps.{Asked};
+ghost use Rattle.std.specs.Prelude.{◌≡◌, [], ◌∷◌, false, IfOk, OnOk};
+ghost use Rattle.snap_io.specs.Outside.{Given, Becomes};
+ghost use Rattle.snap_assert.specs.Outcomes.{WorkCause, said};
+ghost use Rattle.snap_assert.specs.Steps.{Asked, cleared};
 ghost use Rattle.snap_assert.specs.Prepared.{IsPrepared, IsJudged, IsSeen, NoPass, RefusedEnd, DifferAs, OlderAs, IsCompared};
-ghost use Rattle.snap_assert.specs.Kept.{NamesOnly, NamesOwn};
+ghost use Rattle.snap_assert.specs.Kept.{KeptBy, NamesOnly, NamesOwn};
 ghost use Rattle.snap_assert.specs.Strays.{AllStray};
 ghost use Rattle.snap_assert_settings.specs.declared.config.Update.{Update};
 ghost use Rattle.snap_store.specs.Views.{text_in};
@@ -13,6 +13,7 @@ ghost use Rattle.snap_content.specs.List.{items_of};
 use crate::error::AssertError;
 use crate::outcome::{Warning, Warnings};
 use crate::prepare::Prepared;
+use crate::removal::remove_files;
 use crate::strays::stray_paths;
 use snap_content::{Error, OutOfMemory, Text};
 use snap_io::Store;
@@ -146,11 +147,11 @@ fn compare(
 
 /// Reads the file of the snapshot and compares.
 fn judge<S: Store>(alloc: Global, store: &mut S, prepared: &Prepared) -> Result<Judged, AssertError>
-    ensures judged { IfOk result (λ judged. (asked : Asked) (m : Files)
-        → IsPrepared asked prepared.now → S.files store.old ≡ Some m → IsJudged asked m judged) }
+    ensures judged { IfOk result (λ judged. (asked : Asked) → IsPrepared asked prepared.now
+        → Given (S.files store.old) (λ m. IsJudged asked m judged)) }
     ensures same { S.files store.new ≡ S.files store.old }
     ensures named { NamesOnly prepared.now.path result }
-    ensures cause { AssertCause (S.faults store.old) (S.faults store.new) result }
+    ensures cause { WorkCause (S.faults store.old) (S.faults store.new) result }
 {
     match Snapshot::from_file(alloc, store, &prepared.path) {
         Ok(old) => {
@@ -169,21 +170,38 @@ fn judge<S: Store>(alloc: Global, store: &mut S, prepared: &Prepared) -> Result<
 }
 
 /// Reads the file of the snapshot, compares, and lists its folder. Nothing is changed.
-pub fn look<S: Store>(
-    alloc: Global,
-    store: &mut S,
-    prepared: &Prepared,
-) -> Result<Seen, AssertError>
-    ensures seen { IfOk result (λ seen. (asked : Asked) (m : Files) → IsPrepared asked prepared.now
-        → S.files store.old ≡ Some m → IsSeen asked m seen) }
+fn look<S: Store>(alloc: Global, store: &mut S, prepared: &Prepared) -> Result<Seen, AssertError>
+    ensures seen { IfOk result (λ seen. (asked : Asked) → IsPrepared asked prepared.now
+        → Given (S.files store.old) (λ m. IsSeen asked m seen)) }
     ensures strays { IfOk result (λ seen. (asked : Asked) → IsPrepared asked prepared.now
         → AllStray asked.path seen.strays.items) }
     ensures same { S.files store.new ≡ S.files store.old }
     ensures named { (asked : Asked) (mode : Update) → IsPrepared asked prepared.now
         → NamesOwn mode asked.path result }
-    ensures cause { AssertCause (S.faults store.old) (S.faults store.new) result }
+    ensures cause { WorkCause (S.faults store.old) (S.faults store.new) result }
 {
     let judged = judge(alloc, store, prepared)?;
     let strays = stray_paths(alloc, store, &prepared.folder, &prepared.path)?;
     Ok(Seen { judged, strays })
+}
+
+/// Reads the file of the snapshot and compares, and then removes the strays. No file is written, and none removed but strays.
+pub fn look_and_clear<S: Store>(
+    alloc: Global,
+    store: &mut S,
+    prepared: &Prepared,
+) -> Result<Judged, AssertError>
+    ensures judged { IfOk result (λ judged. (asked : Asked) → IsPrepared asked prepared.now
+        → Given (S.files store.old) (λ m. IsJudged asked m judged)) }
+    ensures cleared { OnOk result ((asked : Asked) → IsPrepared asked prepared.now
+        → Becomes (S.files store.old) (S.files store.new) (cleared asked.path)) }
+    ensures kept { (asked : Asked) (mode : Update) → IsPrepared asked prepared.now
+        → KeptBy mode asked.path (S.files store.old) (S.files store.new) }
+    ensures named { (asked : Asked) (mode : Update) → IsPrepared asked prepared.now
+        → NamesOwn mode asked.path result }
+    ensures cause { WorkCause (S.faults store.old) (S.faults store.new) result }
+{
+    let seen = look(alloc, store, prepared)?;
+    remove_files(alloc, store, &seen.strays)?;
+    Ok(seen.judged)
 }

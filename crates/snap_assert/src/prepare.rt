@@ -4,12 +4,12 @@ ghost use Rattle.snap_content.specs.Plain.{plain};
 ghost use Rattle.snap_print.specs.Readable.{IsWithin};
 ghost use Rattle.snap_content.specs.View.{tree};
 ghost use Rattle.snap_print.specs.Blocks.{blocks_if};
-ghost use Rattle.snap_print.specs.Lines.{text_of};
 ghost use Rattle.snap_assert_settings.specs.Settings.{settings_of};
 ghost use Rattle.snap_assert_place.specs.Place.{place_of};
-ghost use Rattle.snap_store.specs.Views.{meta_in, module_in, name_in, contents_in, text_in, IsFileText};
+ghost use Rattle.snap_store.specs.Views.{meta_in, module_in, name_in, contents_in};
 ghost use Rattle.snap_assert_place.specs.SnapshotPath.{flat_module, new_meta};
-ghost use Rattle.snap_assert.specs.Steps.{asked_of};
+ghost use Rattle.snap_assert.specs.Assertions.{new_contents};
+ghost use Rattle.snap_assert.specs.Steps.{asked_as};
 ghost use Rattle.snap_assert.specs.Prepared.{IsPrepared};
 
 use snap_assert_place::metadata::new_metadata;
@@ -60,9 +60,9 @@ fn new_snapshot(
     content: &Content,
     literal: bool,
 ) -> Result<Snapshot, OutOfMemory>
-    ensures printed { IfOk result (λ snapshot. text_in (contents_in snapshot)
-        ≡ Some (text_of (blocks_if literal) (plain (tree content.now)))) }
-    ensures in_file { IfOk result (λ snapshot. IsFileText (contents_in snapshot)) }
+    ensures contents { IfOk result (λ snapshot. contents_in snapshot
+        ≡ new_contents (asked_as (blocks_if literal) (settings_of settings.now)
+        (place_of place.now) name.now (tree content.now))) }
     ensures within { IfOk result (λ _. IsWithin (plain (tree content.now))) }
     ensures metadata { IfOk result (λ snapshot. meta_in snapshot
         ≡ new_meta (settings_of settings.now) (place_of place.now)) }
@@ -83,7 +83,7 @@ fn new_snapshot(
     ))
 }
 
-/// All that an assertion of the tree that is printed needs: it is printed before anything is looked at, where `literal` is on with
+/// All that an assertion of the tree that is printed needs under the name that it takes: it is printed before anything is looked at, where `literal` is on with
 /// texts of several lines as literal blocks.
 pub fn prepare(
     alloc: Global,
@@ -94,7 +94,7 @@ pub fn prepare(
     literal: bool,
 ) -> Result<Prepared, OutOfMemory>
     ensures { IfOk result (λ prepared. IsPrepared
-        (asked_of (blocks_if literal) (settings_of settings.now) (place_of place.now) name.now
+        (asked_as (blocks_if literal) (settings_of settings.now) (place_of place.now) name.now
         (tree printed.now)) prepared) }
 {
     let path = snapshot_path(alloc, settings, place, name)?;

@@ -2,7 +2,7 @@
 ghost use Rattle.std.specs.Prelude.{OnOk};
 ghost use Rattle.snap_io.specs.Outside.{Given, Becomes};
 ghost use Rattle.snap_assert.specs.Kept.{Keeps, is_none};
-ghost use Rattle.snap_assert.specs.Outcomes.{AssertCause};
+ghost use Rattle.snap_assert.specs.Outcomes.{WorkCause};
 ghost use Rattle.snap_assert.specs.Removed.{remove_each, is_among, NamesOneOf};
 
 use crate::error::AssertError;
@@ -22,7 +22,7 @@ pub fn remove_files<S: Store>(
     ensures kept { Given (S.files store.old)
         (λ m. Keeps is_none (is_among paths.now) m (S.files store.new)) }
     ensures named { NamesOneOf paths.now result }
-    ensures cause { AssertCause (S.faults store.old) (S.faults store.new) result }
+    ensures cause { WorkCause (S.faults store.old) (S.faults store.new) result }
 {
     for path in paths {
         named::remove(alloc, store, path)?;

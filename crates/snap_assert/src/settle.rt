@@ -4,18 +4,15 @@ ghost use Rattle.std.specs.FinMap.{remove};
 ghost use Rattle.snap_io.specs.Files.{Files};
 ghost use Rattle.snap_io.specs.Outside.{Becomes};
 ghost use Rattle.snap_store.specs.Views.{contents_in, text_in};
-ghost use Rattle.snap_assert.specs.Outcomes.{AssertCause};
+ghost use Rattle.snap_assert.specs.Outcomes.{WorkCause};
 ghost use Rattle.snap_assert.specs.Kept.{KeptBy, IsWrittenAlone, IsTakenAlone, NamesOwn, NamesOnly};
-ghost use Rattle.snap_assert.specs.Steps.{Asked, step, written, pending_path};
+ghost use Rattle.snap_assert.specs.Steps.{Asked, cleared, step, written, pending_path};
 ghost use Rattle.snap_assert.specs.Prepared.{IsPrepared};
-ghost use Rattle.snap_assert.specs.Strays.{AreStrays, AllStray};
 ghost use Rattle.snap_assert_settings.specs.declared.config.Update.TheVariants.{InPlace, NewFile};
 
 use crate::error::AssertError;
 use crate::prepare::Prepared;
-use crate::removal::remove_files;
 use snap_assert_settings::config::{Config, Update};
-use snap_content::Text;
 use snap_io::Store;
 use snap_store::named;
 use std::alloc::Global;
@@ -26,7 +23,7 @@ fn approve<S: Store>(alloc: Global, store: &mut S, prepared: &Prepared) -> Resul
         (λ m. remove m prepared.now.pending)) }
     ensures kept { IsTakenAlone prepared.now.pending (S.files store.old) (S.files store.new) }
     ensures named { NamesOnly prepared.now.pending result }
-    ensures cause { AssertCause (S.faults store.old) (S.faults store.new) result }
+    ensures cause { WorkCause (S.faults store.old) (S.faults store.new) result }
 {
     named::remove(alloc, store, &prepared.pending)?;
     Ok(())
@@ -35,11 +32,11 @@ fn approve<S: Store>(alloc: Global, store: &mut S, prepared: &Prepared) -> Resul
 /// Writes the tree as the approved one.
 fn update<S: Store>(alloc: Global, store: &mut S, prepared: &Prepared) -> Result<(), AssertError>
     requires { IsSome (text_in (contents_in prepared.now.snapshot)) }
-    ensures ok { OnOk result ((asked : Asked) (m : Files) → IsPrepared asked prepared.now
-        → S.files store.old ≡ Some m → S.files store.new ≡ Some (written InPlace asked m)) }
+    ensures ok { OnOk result ((asked : Asked) → IsPrepared asked prepared.now
+        → Becomes (S.files store.old) (S.files store.new) (written InPlace asked)) }
     ensures kept { IsWrittenAlone prepared.now.path (S.files store.old) (S.files store.new) }
     ensures named { NamesOnly prepared.now.path result }
-    ensures cause { AssertCause (S.faults store.old) (S.faults store.new) result }
+    ensures cause { WorkCause (S.faults store.old) (S.faults store.new) result }
 {
     prepared.snapshot.save(alloc, store, &prepared.path)?;
     Ok(())
@@ -48,12 +45,12 @@ fn update<S: Store>(alloc: Global, store: &mut S, prepared: &Prepared) -> Result
 /// Writes the tree beside the approved one, as the pending snapshot.
 fn postpone<S: Store>(alloc: Global, store: &mut S, prepared: &Prepared) -> Result<(), AssertError>
     requires { IsSome (text_in (contents_in prepared.now.snapshot)) }
-    ensures ok { OnOk result ((asked : Asked) (m : Files) → IsPrepared asked prepared.now
-        → S.files store.old ≡ Some m → S.files store.new ≡ Some (written NewFile asked m)) }
+    ensures ok { OnOk result ((asked : Asked) → IsPrepared asked prepared.now
+        → Becomes (S.files store.old) (S.files store.new) (written NewFile asked)) }
     ensures kept { IsWrittenAlone (pending_path prepared.now.path) (S.files store.old)
         (S.files store.new) }
     ensures named { NamesOnly (pending_path prepared.now.path) result }
-    ensures cause { AssertCause (S.faults store.old) (S.faults store.new) result }
+    ensures cause { WorkCause (S.faults store.old) (S.faults store.new) result }
 {
     prepared.snapshot.save_new(alloc, store, &prepared.path)?;
     Ok(())
@@ -67,11 +64,11 @@ fn write_by<S: Store>(
     prepared: &Prepared,
 ) -> Result<(), AssertError>
     requires { IsSome (text_in (contents_in prepared.now.snapshot)) }
-    ensures ok { OnOk result ((asked : Asked) (m : Files) → IsPrepared asked prepared.now
-        → S.files store.old ≡ Some m → S.files store.new ≡ Some (written mode asked m)) }
+    ensures ok { OnOk result ((asked : Asked) → IsPrepared asked prepared.now
+        → Becomes (S.files store.old) (S.files store.new) (written mode asked)) }
     ensures kept { KeptBy mode prepared.now.path (S.files store.old) (S.files store.new) }
     ensures named { NamesOwn mode prepared.now.path result }
-    ensures cause { AssertCause (S.faults store.old) (S.faults store.new) result }
+    ensures cause { WorkCause (S.faults store.old) (S.faults store.new) result }
 {
     match mode {
         Update::InPlace => update(alloc, store, prepared),
@@ -80,28 +77,27 @@ fn write_by<S: Store>(
     }
 }
 
-/// Removes the stray files. On a pass the pending snapshot goes; where the tree did not pass, and on a pass that is forced,
-/// it is written as the mode says. Whatever is answered, no other file is written, and none removed but what is pending.
+/// Leaves the store as the mode says, once the strays are gone. On a pass the pending snapshot goes; where the tree did not pass, and
+/// on a pass that is forced, it is written as the mode says. Whatever is returned, no other file is written, and none removed but what
+/// is pending.
 pub fn settle<S: Store>(
     alloc: Global,
     store: &mut S,
     config: &Config,
     prepared: &Prepared,
     passed: bool,
-    strays: &[Text],
 ) -> Result<(), AssertError>
     requires { IsSome (text_in (contents_in prepared.now.snapshot)) }
     ensures ok { OnOk result ((asked : Asked) (m : Files) → IsPrepared asked prepared.now
-        → S.files store.old ≡ Some m → AreStrays asked.path m strays.now
+        → S.files store.old ≡ Some (cleared asked.path m)
         → S.files store.new
         ≡ Some (step config.now.update config.now.force_update asked passed m)) }
-    ensures kept { (asked : Asked) → IsPrepared asked prepared.now → AllStray asked.path strays.now
+    ensures kept { (asked : Asked) → IsPrepared asked prepared.now
         → KeptBy config.now.update asked.path (S.files store.old) (S.files store.new) }
-    ensures named { (asked : Asked) → IsPrepared asked prepared.now → AllStray asked.path strays.now
+    ensures named { (asked : Asked) → IsPrepared asked prepared.now
         → NamesOwn config.now.update asked.path result }
-    ensures cause { AssertCause (S.faults store.old) (S.faults store.new) result }
+    ensures cause { WorkCause (S.faults store.old) (S.faults store.new) result }
 {
-    remove_files(alloc, store, strays)?;
     if !passed {
         return write_by(alloc, store, config.update, prepared);
     }

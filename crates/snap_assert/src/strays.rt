@@ -1,9 +1,9 @@
 //! What pending payloads leave after: files that go with each assertion.
-ghost use Rattle.std.specs.Prelude.{◌≡◌, Some, IfOk, map};
+ghost use Rattle.std.specs.Prelude.{◌≡◌, IfOk, map};
 ghost use Rattle.std.specs.List.{filter};
 ghost use Rattle.std.specs.Str.{chars};
 ghost use Rattle.snap_io.specs.Causes.{Counted};
-ghost use Rattle.snap_io.specs.Files.{Files};
+ghost use Rattle.snap_io.specs.Outside.{Given};
 ghost use Rattle.snap_path.specs.Paths.{joined, parent_of};
 ghost use Rattle.snap_assert.specs.Steps.{is_stray};
 ghost use Rattle.snap_assert_place.specs.SnapshotPath.{IsFilePath};
@@ -60,9 +60,9 @@ pub fn stray_paths<S: Store>(
     folder: &Text,
     path: &Text,
 ) -> Result<Vec<Text>, Error>
-    ensures strays { IfOk result (λ strays. (m : Files) → IsFilePath path.now
-        → folder.now ≡ parent_of path.now → S.files store.old ≡ Some m
-        → AreStrays path.now m strays.items) }
+    ensures strays { IfOk result (λ strays. IsFilePath path.now
+        → folder.now ≡ parent_of path.now
+        → Given (S.files store.old) (λ m. AreStrays path.now m strays.items)) }
     ensures all { IfOk result (λ strays. IsFilePath path.now → folder.now ≡ parent_of path.now
         → AllStray path.now strays.items) }
     ensures same { S.files store.new ≡ S.files store.old }

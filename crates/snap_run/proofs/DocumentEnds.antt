@@ -1,5 +1,5 @@
 -- What one document leaves.
-use Rattle.snap_run.proofs.Prelude.{◌≡◌, ◌&&◌, not, inl, inr, ℕ, List, [], ◌∷◌, ◌++◌, map, Option, Some, refl, sym, ap, ◌∙◌, subst, Result, Ok, Err, encode_utf8_all, append-nil, empty, get, Rose, Files, outside, HoldsFront, asked_path, verdict_of, is_failure, RequestView, Spells, ReadsAs, RunWords, place_by, settings_by, printed_by, asked_by, assertion_by, line_text, line_of, KeptBy, IsOwn, FaultIsOwn, words_of, Ran, AssertionStops, IsInWork, MemoryFails, LineFails, IsDocumentAnswered, CountedIf, is_store_fault, DocumentError, Outcome, Runner, step_keeps}
+use Rattle.snap_run.proofs.Prelude.{◌≡◌, ◌&&◌, not, inl, inr, ℕ, List, [], ◌∷◌, ◌++◌, map, Option, Some, refl, sym, ap, ◌∙◌, subst, Result, Ok, Err, encode_utf8_all, append-nil, empty, get, Rose, Files, outside, HoldsFront, asked_path, verdict_of, is_failure, RequestView, Spells, ReadsAs, RunWords, place_by, settings_by, printed_by, asked_by, line_text, line_of, KeptBy, IsOwn, FaultIsOwn, words_of, Ran, AssertionStops, IsInWork, MemoryFails, LineFails, IsDocumentAnswered, CountedIf, is_store_fault, DocumentError, Outcome, Runner, step_keeps}
 use Rattle.std.specs.Result.{IfErr, IsErrAnd}
 use Rattle.snap_content.specs.Tree.{Tree}
 use Rattle.snap_print.specs.Blocks.{blocks_if}
@@ -12,9 +12,8 @@ use Rattle.snap_assert_settings.specs.declared.settings.Settings.{Settings}
 use Rattle.snap_assert_settings.proofs.PlainRedactions.{plain_prints}
 use Rattle.snap_assert_place.specs.Place.{PlaceView}
 use Rattle.snap_assert.specs.Judging.{May}
-use Rattle.snap_assert.specs.Session.{empty_session}
-use Rattle.snap_assert.specs.Assertions.{Assertion, assertion_of, asked_in}
-use Rattle.snap_assert.specs.Outcomes.{IsAnswered, ErrorCause, left_by}
+use Rattle.snap_assert.specs.Outcomes.{IsDone, WorkErrorCause}
+use Rattle.snap_assert.specs.Steps.{Asked, asked_of, step}
 use Rattle.snap_run_requests.specs.declared.fault.RequestError.{RequestError}
 use Rattle.snap_run_requests.specs.declared.fault.RequestError.TheVariants as request
 use Rattle.snap_run_requests.specs.declared.fault.Reason.{Reason}
@@ -22,7 +21,6 @@ use Rattle.snap_run.specs.Refused.{unread, unanswered}
 use Rattle.snap_run.specs.declared.document_error.DocumentError.TheVariants.{OutOfMemory}
 use Rattle.snap_assert.specs.declared.error.AssertError.{AssertError}
 use Rattle.snap_assert.specs.declared.error.AssertError.TheVariants as refusal
-use Rattle.snap_assert.specs.declared.outcome.Verdict.{Verdict}
 
 -- memory was out before anything was changed
 pub unchanged_before : {T : Type 0} (words : RunWords) (document : List ℕ) (f : Option Files) (result : Result T DocumentError) → IsErrAnd result (λ e. e ≡ OutOfMemory)
@@ -52,30 +50,23 @@ printed_is objects settings ps r out new are same prints =
     ∙ ap (λ s. redacted_by (replacements_of ps) (sorted_where s.sort_maps r.value)) new
     ∙ ap (λ rs. redacted_by rs (sorted_where r.sort r.value)) (sym same)
 
-pub assertion_is : (settings : SettingsView) (place : PlaceView) (words : RunWords) (r : RequestView) (printed : Tree) → settings ≡ settings_by r
-    → place ≡ place_by words.workspace r → printed ≡ printed_by r → assertion_of (blocks_if words.literal) settings place r.name printed ≡ assertion_by words r
-assertion_is settings place words r printed new is same =
-    let made : SettingsView → PlaceView → Tree → Assertion = λ s p t. assertion_of (blocks_if words.literal) s p r.name t in
+pub asked_is : (settings : SettingsView) (place : PlaceView) (words : RunWords) (r : RequestView) (printed : Tree) → settings ≡ settings_by r
+    → place ≡ place_by words.workspace r → printed ≡ printed_by r → asked_of (blocks_if words.literal) settings place r.name printed ≡ asked_by words r
+asked_is settings place words r printed new is same =
+    let made : SettingsView → PlaceView → Tree → Asked = λ s p t. asked_of (blocks_if words.literal) s p r.name t in
     ap (λ s. made s place printed) new ∙ ap (λ p. made (settings_by r) p printed) is ∙ ap (made (settings_by r) (place_by words.workspace r)) same
 
-one_verdict : (answer : Result Verdict AssertError) (a b : Verdict) → answer ≡ Ok a → answer ≡ Ok b → a ≡ b
-one_verdict answer a b is also = cc
-
-pub document_answered : (runner : Runner) (document : List ℕ) (r : RequestView) (assertion : Assertion) (outcome : Outcome) (f g : Option Files)
-    → ReadsAs document r → assertion ≡ assertion_by (words_of runner) r → IsAnswered runner.config assertion outcome f g empty_session empty_session
-    → IsDocumentAnswered (words_of runner) document outcome f g
-document_answered runner document r assertion outcome f g reads is x =
-    let says : verdict_of runner.config.update x.passed ≡ outcome.verdict =
-    one_verdict (left_by runner.config assertion x.passed empty empty_session).answer (verdict_of runner.config.update x.passed) outcome.verdict refl (x.verdict empty) in
-    record {
-      answer = record { request = r; passed = x.passed };
-      reads = reads;
-      verdict = sym says;
-      fails = x.fails ∙ ap (λ v. is_failure v && not runner.config.force_pass) (sym says);
-      path = x.path ∙ ap (λ a. (asked_in a empty_session).path) is;
-      allowed = λ m e. subst (λ a. May x.passed (get m (asked_in a empty_session).path) (asked_in a empty_session).blocks (asked_in a empty_session).tree) is (x.allowed m e);
-      stands = λ m e. x.stands m e ∙ ap (λ a. Some (left_by runner.config a x.passed m empty_session).files) is;
-    }
+pub document_answered : (runner : Runner) (document : List ℕ) (r : RequestView) (asked : Asked) (outcome : Outcome) (f g : Option Files)
+    → ReadsAs document r → asked ≡ asked_by (words_of runner) r → IsDone runner.config asked outcome f g → IsDocumentAnswered (words_of runner) document outcome f g
+document_answered runner document r asked outcome f g reads is d = record {
+  answer = record { request = r; passed = d.passed };
+  reads = reads;
+  verdict = d.verdict;
+  fails = d.fails ∙ ap (λ v. is_failure v && not runner.config.force_pass) d.verdict;
+  path = d.path ∙ ap (λ a. a.path) is;
+  allowed = λ m e. subst (λ a. May d.passed (get m a.path) a.blocks a.tree) is (d.allowed m e);
+  stands = λ m e. d.stands m e ∙ ap (λ a. Some (step runner.config.update runner.config.force_update a d.passed m)) is;
+}
 
 pub document_in_work : (runner : Runner) (document : List ℕ) (r : RequestView) (path : List ℕ) (f g : Option Files)
     → ReadsAs document r → path ≡ (asked_by (words_of runner) r).path → KeptBy runner.config.update path f g → IsInWork (words_of runner) document f g
@@ -115,7 +106,7 @@ unread_stops words document f (request.NoRequest why) none = (refl, none why ref
 unread_stops words document f request.OutOfMemory none = inl refl
 
 -- an assertion is refused because the store failed in the work on a path, or memory was out
-only_two : (before now : ℕ) (refused : AssertError) (P : AssertError → Type 0) → ErrorCause before now refused → ((path : List ℕ) → Rose before now → P (refusal.FileIo path)) → (now ≡ before → P refusal.OutOfMemory) → P refused
+only_two : (before now : ℕ) (refused : AssertError) (P : AssertError → Type 0) → WorkErrorCause before now refused → ((path : List ℕ) → Rose before now → P (refusal.FileIo path)) → (now ≡ before → P refusal.OutOfMemory) → P refused
 only_two before now (refusal.FileIo path) P cause file memory = file path cause
 only_two before now refusal.OutOfMemory P cause file memory = memory cause
 only_two before now refusal.NameClash P cause file memory = absurd cause
@@ -128,7 +119,7 @@ only_two before now refusal.JsonKey P cause file memory = absurd cause
 
 -- a document whose assertion is refused
 pub refused_stops : (runner : Runner) (document : List ℕ) (r : RequestView) (at : List ℕ) (f g : Option Files) (before now : ℕ) (refused : AssertError)
-    → ErrorCause before now refused → FaultIsOwn runner.config.update at refused
+    → WorkErrorCause before now refused → FaultIsOwn runner.config.update at refused
     → ReadsAs document r → at ≡ (asked_by (words_of runner) r).path → KeptBy runner.config.update at f g → AssertionStops (words_of runner) (unanswered refused) document f g
 unfolding document_in_work
 refused_stops runner document r at f g before now refused cause own reads is kept =
@@ -136,5 +127,5 @@ refused_stops runner document r at f g before now refused cause own reads is kep
     only_two before now refused (λ e. FaultIsOwn runner.config.update at e → AssertionStops (words_of runner) (unanswered e) document f g) cause
     (λ named rose own. record { work = work; own = subst (λ p. IsOwn runner.config.update p named) is own }) (λ same own. inr work) own
 
-pub refused_count : (before now : ℕ) (refused : AssertError) → ErrorCause before now refused → CountedIf (is_store_fault (unanswered refused)) before now
+pub refused_count : (before now : ℕ) (refused : AssertError) → WorkErrorCause before now refused → CountedIf (is_store_fault (unanswered refused)) before now
 refused_count before now refused cause = only_two before now refused (λ e. CountedIf (is_store_fault (unanswered e)) before now) cause (λ path rose. rose) (λ same. same)

@@ -14,7 +14,7 @@ pub use Rattle.snap_io.specs.Streams.{HoldsFront}
 pub use Rattle.snap_run_requests.specs.Cut.{documents}
 pub use Rattle.snap_run_requests.specs.Requests.{RequestView, Spells, ReadsAs, Reads}
 pub use Rattle.snap_assert_settings.specs.declared.config.Update.{Update}
-pub use Rattle.snap_run.specs.Answers.{RunWords, place_by, settings_by, printed_by, asked_by, assertion_by, line_text, line_of, words_mean, Answer, requests_of, step_of, files_after, some_fails, AreAllowed, lines_of, answer_fails}
+pub use Rattle.snap_run.specs.Answers.{RunWords, place_by, settings_by, printed_by, asked_by, line_text, line_of, words_mean, Answer, requests_of, step_of, files_after, some_fails, AreAllowed, lines_of, answer_fails}
 pub use Rattle.snap_run.specs.Arguments.{arguments_in, words_given, arguments_of}
 pub use Rattle.snap_run.specs.Program.{message, IsSaid, IsRunOf}
 pub use Rattle.snap_run.specs.Refused.{status_at}

@@ -11,9 +11,7 @@ use Rattle.snap_assert_settings.specs.Replaced.{redacted_by}
 use Rattle.snap_assert_settings.specs.Settings.{SettingsView, new_settings, sorted_where}
 use Rattle.snap_assert_place.specs.Place.{PlaceView}
 use Rattle.snap_assert.specs.Judging.{May}
-use Rattle.snap_assert.specs.Session.{empty_session}
-use Rattle.snap_assert.specs.Steps.{Asked, asked_of, verdict_of, is_failure}
-use Rattle.snap_assert.specs.Assertions.{Assertion, assertion_of, assertion_step}
+use Rattle.snap_assert.specs.Steps.{Asked, asked_of, step, verdict_of, is_failure}
 use Rattle.snap_run_requests.specs.Requests.{RequestView}
 use Rattle.snap_run.specs.declared.usage.TheConstants.{USAGE, VERSION}
 use Rattle.snap_assert_settings.specs.declared.config.Flags.{Flags}
@@ -134,9 +132,6 @@ printed_by request = redacted_by request.redactions (sorted_where request.sort r
 abbrev pub asked_by : RunWords → RequestView → Asked
 asked_by words request = asked_of (blocks_if words.literal) (settings_by request) (place_by words.workspace request) request.name (printed_by request)
 
-abbrev pub assertion_by : RunWords → RequestView → Assertion
-assertion_by words request = assertion_of (blocks_if words.literal) (settings_by request) (place_by words.workspace request) request.name (printed_by request)
-
 -- a request, and whether it passed
 pub record Answer : Type 0 where
   pub request : RequestView
@@ -148,7 +143,7 @@ requests_of (a ∷ more) = a.request ∷ requests_of more
 
 -- the files after one answer; no request opens a block, so nothing is remembered from one to the next
 abbrev pub step_of : RunWords → Answer → Files → Files
-step_of words a files = (assertion_step words.update words.force_update (assertion_by words a.request) a.passed files empty_session).files
+step_of words a files = step words.update words.force_update (asked_by words a.request) a.passed files
 
 -- whether a request may pass is decided by the file that stands at its path at that moment
 abbrev pub IsAllowed : RunWords → Answer → Files → Type 0

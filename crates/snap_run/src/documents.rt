@@ -1,9 +1,10 @@
 //! One document, and many in turn.
-ghost use Rattle.std.specs.Prelude.{◌≡◌, ◌<◌, ◌≤◌, ◌^◌, List, ℕ, IfOk, IfErr, length, true};
+ghost use Rattle.std.specs.Prelude.{◌≡◌, ◌<◌, ◌≤◌, ◌^◌, List, ℕ, IfOk, IfErr, OnOk, length, true};
 ghost use Rattle.snap_io.specs.Causes.{Counted};
 ghost use Rattle.snap_io.specs.Outside.{outside};
 ghost use Rattle.snap_run_requests.specs.Cut.{documents};
 ghost use Rattle.snap_assert_place.specs.Place.{names_file, place_of};
+ghost use Rattle.snap_assert.specs.Session.{session_of, empty_session};
 ghost use Rattle.snap_run.specs.Runner.{IsReady, words_of};
 ghost use Rattle.snap_run.specs.Answers.{line_text, place_at};
 ghost use Rattle.snap_run.specs.Status.{Ended, says_file_fault, says_write_fault};
@@ -57,7 +58,7 @@ fn place_of_request(
     Ok(Place::of_file(workspace, Text::empty(), module_name, file, line, expr))
 }
 
-/// Reads one document and makes its assertion.
+/// Reads one document and makes its assertion. Nothing is remembered from one to the next, since names are given and no block is opened.
 fn assert_document<F: Store>(
     alloc: Global,
     runner: &Runner,
@@ -65,13 +66,15 @@ fn assert_document<F: Store>(
     document: &[u8],
     store: &mut F,
 ) -> Result<Outcome, DocumentError>
-    requires { IsReady runner.now }
+    requires ready { IsReady runner.now }
+    requires fresh { session_of session.old ≡ empty_session }
     ensures ok { IfOk result (λ outcome.
         IsDocumentAnswered (words_of runner.now) document.now outcome (F.files store.old)
         (F.files store.new)) }
     ensures err { IfErr result (λ error.
         AssertionStops (words_of runner.now) error document.now (F.files store.old)
         (F.files store.new)) }
+    ensures fresh { OnOk result (session_of session.new ≡ empty_session) }
     ensures store_count { Counted is_store_fault (F.faults store.old) (F.faults store.new) result }
 {
     let request = read_request(alloc, document)?;
@@ -119,7 +122,9 @@ fn run_document<K: Sink, F: Store>(
     sink: &mut K,
     store: &mut F,
 ) -> Result<bool, DocumentError>
-    requires { IsReady runner.now }
+    requires ready { IsReady runner.now }
+    requires fresh { session_of session.old ≡ empty_session }
+    ensures fresh { OnOk result (session_of session.new ≡ empty_session) }
     ensures ok { IfOk result (λ fails. RanOne (words_of runner.now) document.now fails
         (outside (F.files store.old) (K.written sink.old))
         (outside (F.files store.new) (K.written sink.new))) }
@@ -147,6 +152,7 @@ pub fn run_documents<K: Sink, F: Store>(
 ) -> Result<bool, Status>
     requires ready { IsReady runner.now }
     requires short { length input.now < 2 ^ 63 }
+    requires fresh { session_of session.old ≡ empty_session }
     ensures finished { IfOk result (λ fails. Ended fails (words_of runner.now) (documents input.now)
         (outside (F.files store.old) (K.written sink.old))
         (outside (F.files store.new) (K.written sink.new))) }

@@ -1,11 +1,36 @@
-use Rattle.snap_assert.proofs.Prelude.{refl, IfOk-weaker}
-use Rattle.snap_content.specs.View.{tree}
-use Rattle.snap_assert.proofs.Settling.{kept_unwritten}
+use Rattle.snap_assert.proofs.Prelude.{refl}
+use Rattle.snap_assert.proofs.Answering.{done_by}
+use Rattle.snap_assert.proofs.Refusals.{memory_stops}
+use Rattle.snap_assert.proofs.Settling.{has_text, kept_unwritten, own_refused}
+use Rattle.std.proofs.lemmas.Result.{err_from_is_err_and}
 use Rattle.snap_assert.proofs.engine.assert_named.Goals as goal
 
-pub returns-in-Ok-clause-answered : goal.returns-in-Ok-clause-answered
-returns-in-Ok-clause-answered g c =
-    IfOk-weaker c.assert_printed-outcome.result _ _ (λ outcome h. (tree c.in-Ok.printed, c.in-Ok.ensures.printed, h)) c.assert_printed-outcome.ensures.answered
+pub assert_prepared-judged-requires : goal.assert_prepared-judged-requires
+assert_prepared-judged-requires g c = has_text _ c.in_ok-prepared.prepared c.in_ok-prepared.ensures
 
-pub returns-in-Err-clause-kept : goal.returns-in-Err-clause-kept
-returns-in-Err-clause-kept g c = kept_unwritten _ _ _ _ refl
+pub returns-in_err-prepared-clause-stopped : goal.returns-in_err-prepared-clause-stopped
+returns-in_err-prepared-clause-stopped g c = memory_stops _ _ _ c.from_residual.result c.from_residual.ensures.1
+
+pub returns-in_err-prepared-clause-kept : goal.returns-in_err-prepared-clause-kept
+returns-in_err-prepared-clause-kept g c = kept_unwritten _ _ _ _ refl
+
+pub returns-in_err-judged-clause-stopped : goal.returns-in_err-judged-clause-stopped
+returns-in_err-judged-clause-stopped g c =
+    let told = err_from_is_err_and c.from_residual-in_err-judged.result c.from_residual-in_err-judged.ensures.1 in
+    rw (told.1, told.2) (c.in_err-judged.ensures.stopped _ c.in_ok-prepared.ensures)
+
+pub returns-in_err-judged-clause-kept : goal.returns-in_err-judged-clause-kept
+returns-in_err-judged-clause-kept g c = c.in_err-judged.ensures.kept _ c.in_ok-prepared.ensures
+
+pub returns-in_err-judged-clause-named : goal.returns-in_err-judged-clause-named
+returns-in_err-judged-clause-named g c = own_refused c.args.config.now.update _ c.from_residual-in_err-judged.result c.in_err-judged.field-0.0 c.from_residual-in_err-judged.ensures.1 (c.in_err-judged.ensures.named _ c.in_ok-prepared.ensures)
+
+pub returns-clause-kept : goal.returns-clause-kept
+returns-clause-kept g c = c.in_ok-judged.ensures.kept _ c.in_ok-prepared.ensures
+
+pub returns-clause-remembered : goal.returns-clause-remembered
+returns-clause-remembered g c = c.in_ok-judged.ensures.remembered _ c.in_ok-prepared.ensures
+
+pub returns-clause-done : goal.returns-clause-done
+returns-clause-done g c =
+    rw c.into_path-path.ensures (done_by c.args.config.now _ c.in_ok-prepared.prepared c.in_ok-judged.judged _ _ _ _ c.in_ok-prepared.ensures c.verdict-verdict.ensures c.fails.ensures c.in_ok-judged.ensures.settled)

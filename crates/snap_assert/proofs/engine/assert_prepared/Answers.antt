@@ -1,29 +1,54 @@
-use Rattle.snap_assert.proofs.Prelude.{◌∙◌, sym, subst, AreStrays, AllStray}
-use Rattle.snap_assert.proofs.Settling.{kept_unwritten, own_refused}
+use Rattle.snap_assert.proofs.Prelude.{◌∙◌, sym, ap, place_of, key_under}
+use Rattle.snap_assert.specs.Blocks.{keep_step}
+use Rattle.snap_assert.specs.Session.{session_of}
+use Rattle.std.proofs.lemmas.Result.{err_from_is_err_and}
+use Rattle.snap_assert.proofs.Refusals.{work_stops, stops_as, error_cause}
+use Rattle.snap_assert.proofs.Settling.{own_refused, kept_both}
 use Rattle.snap_assert.proofs.engine.assert_prepared.Goals as goal
 
-pub returns-in_err-seen-clause-kept : goal.returns-in_err-seen-clause-kept
-returns-in_err-seen-clause-kept g c = λ asked prepared. kept_unwritten c.args.config.now.update asked.path _ _ c.in_err-seen.ensures.same
+pub returns-in_err-judged-clause-stopped : goal.returns-in_err-judged-clause-stopped
+returns-in_err-judged-clause-stopped g c =
+    let told = err_from_is_err_and c.from_residual.result c.from_residual.ensures.1 in
+    rw (told.1, told.2) (λ asked prepared. work_stops _ _ _ _ _ c.in_err-judged.field-0.0 c.in_err-judged.ensures.cause)
 
-pub returns-in_err-seen-clause-named : goal.returns-in_err-seen-clause-named
-returns-in_err-seen-clause-named g c = λ asked prepared. own_refused c.args.config.now.update asked.path c.from_residual.result c.in_err-seen.field-0.0 c.from_residual.ensures.1 (c.in_err-seen.ensures.named asked c.args.config.now.update prepared)
+pub returns-in_err-judged-clause-kept : goal.returns-in_err-judged-clause-kept
+returns-in_err-judged-clause-kept g c = λ asked prepared. c.in_err-judged.ensures.kept asked c.args.config.now.update prepared
 
-pub returns-in_err-settle-clause-kept : goal.returns-in_err-settle-clause-kept
-returns-in_err-settle-clause-kept g c = λ asked prepared m told.
-    c.in_err-settle.ensures.kept asked prepared (subst (AllStray asked.path) (sym c.deref.ensures.value) (c.in_ok-seen.ensures.strays asked prepared)) m (c.in_ok-seen.ensures.same ∙ told)
+pub returns-in_err-judged-clause-named : goal.returns-in_err-judged-clause-named
+returns-in_err-judged-clause-named g c = λ asked prepared. own_refused c.args.config.now.update asked.path c.from_residual.result c.in_err-judged.field-0.0 c.from_residual.ensures.1 (c.in_err-judged.ensures.named asked c.args.config.now.update prepared)
 
-pub returns-in_err-settle-clause-named : goal.returns-in_err-settle-clause-named
-returns-in_err-settle-clause-named g c = λ asked prepared. own_refused c.args.config.now.update asked.path c.from_residual-in_err-settle.result c.in_err-settle.field-0.0 c.from_residual-in_err-settle.ensures.1
-    (c.in_err-settle.ensures.named asked prepared (subst (AllStray asked.path) (sym c.deref.ensures.value) (c.in_ok-seen.ensures.strays asked prepared)))
+pub returns-in_err-judged-clause-cause : goal.returns-in_err-judged-clause-cause
+returns-in_err-judged-clause-cause g c =
+    let told = err_from_is_err_and c.from_residual.result c.from_residual.ensures.1 in
+    rw (told.1, told.2) (error_cause _ _ c.in_err-judged.field-0.0 c.in_err-judged.ensures.cause)
+
+pub returns-in_err-keep_and_settle-clause-stopped : goal.returns-in_err-keep_and_settle-clause-stopped
+returns-in_err-keep_and_settle-clause-stopped g c =
+    let told = err_from_is_err_and c.from_residual-in_err-keep_and_settle.result c.from_residual-in_err-keep_and_settle.ensures.1 in
+    rw (told.1, told.2) (λ asked prepared. stops_as _ _ _ _ _ _ c.in_err-keep_and_settle.field-0.0
+    (λ same m is. same ∙ c.in_ok-judged.ensures.cleared asked prepared m is)
+    (ap (λ contents. keep_step (key_under (place_of c.args.place.now) c.args.name.now) contents (session_of c.args.session.now)) prepared.contents)
+    c.in_err-keep_and_settle.ensures.stopped)
+
+pub returns-in_err-keep_and_settle-clause-kept : goal.returns-in_err-keep_and_settle-clause-kept
+returns-in_err-keep_and_settle-clause-kept g c = λ asked prepared.
+    kept_both c.args.config.now.update asked.path _ _ _ (c.in_ok-judged.ensures.kept asked c.args.config.now.update prepared) (c.in_err-keep_and_settle.ensures.kept asked prepared)
+
+pub returns-in_err-keep_and_settle-clause-named : goal.returns-in_err-keep_and_settle-clause-named
+returns-in_err-keep_and_settle-clause-named g c = λ asked prepared. own_refused c.args.config.now.update asked.path c.from_residual-in_err-keep_and_settle.result c.in_err-keep_and_settle.field-0.0 c.from_residual-in_err-keep_and_settle.ensures.1
+    (c.in_err-keep_and_settle.ensures.named asked prepared)
 
 pub returns-clause-kept : goal.returns-clause-kept
-returns-clause-kept g c = λ asked prepared m told.
-    c.in_ok-settle.ensures.kept asked prepared (subst (AllStray asked.path) (sym c.deref.ensures.value) (c.in_ok-seen.ensures.strays asked prepared)) m (c.in_ok-seen.ensures.same ∙ told)
+returns-clause-kept g c = λ asked prepared.
+    kept_both c.args.config.now.update asked.path _ _ _ (c.in_ok-judged.ensures.kept asked c.args.config.now.update prepared) (c.in_ok-keep_and_settle.ensures.kept asked prepared)
+
+pub returns-clause-remembered : goal.returns-clause-remembered
+returns-clause-remembered g c = λ asked prepared.
+    sym (ap (λ contents. keep_step (key_under (place_of c.args.place.now) c.args.name.now) contents (session_of c.args.session.now)) prepared.contents)
+    ∙ c.in_ok-keep_and_settle.ensures.remembered
 
 pub returns-clause-settled : goal.returns-clause-settled
-returns-clause-settled g c = λ asked m prepared told.
-    let seen = c.in_ok-seen.ensures.seen asked m prepared told in
-    record {
-      compared = seen.judged;
-      stands = c.in_ok-settle.ensures.ok asked m prepared (c.in_ok-seen.ensures.same ∙ told) (subst (AreStrays asked.path m) (sym c.deref.ensures.value) seen.strays);
-    }
+returns-clause-settled g c = λ asked prepared m told. record {
+  compared = c.in_ok-judged.ensures.judged asked prepared m told;
+  stands = c.in_ok-keep_and_settle.ensures.ok asked m prepared (c.in_ok-judged.ensures.cleared asked prepared m told);
+}

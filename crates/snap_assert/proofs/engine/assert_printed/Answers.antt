@@ -1,23 +1,55 @@
-use Rattle.snap_assert.proofs.Prelude.{refl}
-use Rattle.snap_assert.proofs.Answering.{answered}
-use Rattle.snap_assert.proofs.Settling.{has_text, kept_unwritten, own_refused}
+use Rattle.snap_assert.proofs.Prelude.{refl, subst, settings_of, place_of, assertion_of, blocks_if, KeptBy, NamesOwn}
+use Rattle.std.proofs.lemmas.Result.{err_from_is_err_and}
+use Rattle.std.specs.Option.{option_copied}
+use Rattle.snap_content.specs.View.{tree}
+use Rattle.snap_assert.specs.Session.{session_of}
+use Rattle.snap_assert_place.specs.SnapshotPath.{path_of}
+use Rattle.snap_assert.proofs.Refusals.{name_stops, named_stops, answered, one_named, refused_own, refused_cause, err_weaker, done_and_kept, not_both}
+use Rattle.snap_assert.proofs.Settling.{kept_unwritten, own_refused}
 use Rattle.snap_assert.proofs.engine.assert_printed.Goals as goal
 
-pub assert_prepared-judged-requires : goal.assert_prepared-judged-requires
-assert_prepared-judged-requires g c = has_text _ c.in_ok-prepared.prepared c.in_ok-prepared.ensures
+pub returns-in_err-name-clause-stopped : goal.returns-in_err-name-clause-stopped
+returns-in_err-name-clause-stopped g c =
+    let told = err_from_is_err_and c.from_residual.result c.from_residual.ensures.1 in
+    let a = assertion_of (blocks_if c.args.config.now.literal) (settings_of c.args.settings.now) (place_of c.args.place.now) (option_copied c.args.given) (tree c.args.printed.now) in
+    let files = g.S.Store.files c.args.store.now in
+    rw (told.1, told.2) (name_stops a files files (session_of c.args.session.now) _ c.in_err-name.field-0.0 c.in_err-name.ensures.err c.in_err-name.ensures.same refl)
 
-pub returns-in_err-prepared-clause-kept : goal.returns-in_err-prepared-clause-kept
-returns-in_err-prepared-clause-kept g c = kept_unwritten _ _ _ _ refl
+pub returns-in_err-name-clause-kept : goal.returns-in_err-name-clause-kept
+returns-in_err-name-clause-kept g c = λ named is. kept_unwritten _ _ _ _ refl
 
-pub returns-in_err-judged-clause-kept : goal.returns-in_err-judged-clause-kept
-returns-in_err-judged-clause-kept g c = c.in_err-judged.ensures.kept _ c.in_ok-prepared.ensures
+pub returns-in_err-name-clause-named : goal.returns-in_err-name-clause-named
+returns-in_err-name-clause-named g c = λ named is. own_refused c.args.config.now.update _ c.from_residual.result c.in_err-name.field-0.0 c.from_residual.ensures.1
+    (refused_own c.args.config.now.update _ _ c.in_err-name.field-0.0 c.in_err-name.ensures.err)
 
-pub returns-in_err-judged-clause-named : goal.returns-in_err-judged-clause-named
-returns-in_err-judged-clause-named g c = own_refused c.args.config.now.update _ c.from_residual-in_err-judged.result c.in_err-judged.field-0.0 c.from_residual-in_err-judged.ensures.1 (c.in_err-judged.ensures.named _ c.in_ok-prepared.ensures)
-
-pub returns-clause-kept : goal.returns-clause-kept
-returns-clause-kept g c = c.in_ok-judged.ensures.kept _ c.in_ok-prepared.ensures
+pub returns-in_err-name-clause-cause : goal.returns-in_err-name-clause-cause
+returns-in_err-name-clause-cause g c =
+    let told = err_from_is_err_and c.from_residual.result c.from_residual.ensures.1 in
+    rw (told.1, told.2) (refused_cause _ _ c.in_err-name.field-0.0 c.in_err-name.ensures.err)
 
 pub returns-clause-answered : goal.returns-clause-answered
 returns-clause-answered g c =
-    rw c.into_path-path.ensures (answered c.args.config.now _ c.in_ok-prepared.prepared c.in_ok-judged.judged _ _ _ _ c.in_ok-prepared.ensures c.verdict-verdict.ensures c.fails.ensures c.in_ok-judged.ensures.settled)
+    let a = assertion_of (blocks_if c.args.config.now.literal) (settings_of c.args.settings.now) (place_of c.args.place.now) (option_copied c.args.given) (tree c.args.printed.now) in
+    done_and_kept c.assert_named-outcome.result (λ outcome done kept.
+    answered c.args.config.now a outcome (g.S.Store.files c.args.store.now) (g.S.Store.files c.assert_named-outcome.new.store) (session_of c.args.session.now) _ _ c.in_ok-name.name c.in_ok-name.ensures.ok kept done)
+    c.assert_named-outcome.ensures.done c.assert_named-outcome.ensures.remembered
+
+pub returns-clause-stopped : goal.returns-clause-stopped
+returns-clause-stopped g c =
+    let a = assertion_of (blocks_if c.args.config.now.literal) (settings_of c.args.settings.now) (place_of c.args.place.now) (option_copied c.args.given) (tree c.args.printed.now) in
+    err_weaker c.assert_named-outcome.result (λ error stops.
+    named_stops a (g.S.Store.files c.args.store.now) (g.S.Store.files c.assert_named-outcome.new.store) (session_of c.args.session.now) _ _ c.in_ok-name.name error c.in_ok-name.ensures.ok stops)
+    c.assert_named-outcome.ensures.stopped
+
+pub returns-clause-kept : goal.returns-clause-kept
+returns-clause-kept g c = λ named is.
+    subst (λ n. KeptBy c.args.config.now.update (path_of (settings_of c.args.settings.now) (place_of c.args.place.now) n.name) (g.S.Store.files c.args.store.now) (g.S.Store.files c.assert_named-outcome.new.store))
+    (one_named _ _ _ c.in_ok-name.ensures.ok is) c.assert_named-outcome.ensures.kept
+
+pub returns-clause-named : goal.returns-clause-named
+returns-clause-named g c = λ named is.
+    subst (λ n. NamesOwn c.args.config.now.update (path_of (settings_of c.args.settings.now) (place_of c.args.place.now) n.name) c.assert_named-outcome.result)
+    (one_named _ _ _ c.in_ok-name.ensures.ok is) c.assert_named-outcome.ensures.named
+
+pub returns-clause-untouched : goal.returns-clause-untouched
+returns-clause-untouched g c = λ error is. not_both _ _ _ c.in_ok-name.ensures.ok is

@@ -2,12 +2,12 @@ use Rattle.snap_assert.proofs.Looking.{judge_read, judge_refused, all_judged, re
 use Rattle.snap_assert.proofs.look.judge.Goals as goal
 
 pub returns-in_ok-judged-in-Ok-clause-judged : goal.returns-in_ok-judged-in-Ok-clause-judged
-returns-in_ok-judged-in-Ok-clause-judged g c = λ asked m prepared told.
+returns-in_ok-judged-in-Ok-clause-judged g c = λ asked prepared m told.
     judge_read asked m c.args.prepared.now _ c.in-Ok.old c.was_legacy.result c.has_number_text.result c.contents.result.now c.contents-in-Ok.result.now c.in_ok-judged-in-Ok.field-0 prepared told
     c.in-Ok.ensures.end c.was_legacy.ensures c.has_number_text.ensures c.contents.ensures c.contents-in-Ok.ensures c.in_ok-judged-in-Ok.ensures
 
 pub returns-in-Err-clause-judged : goal.returns-in-Err-clause-judged
-returns-in-Err-clause-judged g c = all_judged c.args.prepared.now _ c.refused.result (λ asked m prepared told.
+returns-in-Err-clause-judged g c = all_judged c.args.prepared.now _ c.refused.result (λ asked prepared m told.
     judge_refused asked m c.args.prepared.now _ c.in-Err.error c.refused.result prepared told c.in-Err.ensures.end c.refused.ensures)
 
 pub returns-in-Err-clause-named : goal.returns-in-Err-clause-named

@@ -1,62 +1,45 @@
 use Rattle.snap_assert.proofs.Prelude.{◌∙◌, ap, sym, true, Some, on_ok_weaker, step}
-use Rattle.snap_assert.proofs.Settling.{cleared_is, passed_is, kept_clearing, kept_approving, kept_at, kept_both, own_strays, own_wait, own_at, own_refused}
+use Rattle.snap_assert.proofs.Settling.{passed_is, kept_approving, kept_at, kept_both, own_wait, own_at, own_refused}
 use Rattle.snap_assert.proofs.settle.settle.Goals as goal
 
-pub returns-in_err-remove_files-clause-kept : goal.returns-in_err-remove_files-clause-kept
-returns-in_err-remove_files-clause-kept g c = λ asked prepared all. kept_clearing c.args.config.now.update asked c.args.strays.now _ _ all c.in_err-remove_files.ensures.kept
-
-pub returns-in_err-remove_files-clause-named : goal.returns-in_err-remove_files-clause-named
-returns-in_err-remove_files-clause-named g c = λ asked prepared all. own_refused c.args.config.now.update asked.path c.from_residual.result c.in_err-remove_files.field-0.0 c.from_residual.ensures.1
-    (own_strays c.args.config.now.update asked.path c.args.strays.now c.in_err-remove_files.field-0.0 all c.in_err-remove_files.ensures.named)
-
 pub returns-then-not-passed-clause-ok : goal.returns-then-not-passed-clause-ok
-returns-then-not-passed-clause-ok g c = on_ok_weaker c.write_by.result (λ written asked m prepared told strays.
-    written asked _ prepared (cleared_is asked m c.args.strays.now _ _ told strays c.in_ok-remove_files.ensures.ok)
+returns-then-not-passed-clause-ok g c = on_ok_weaker c.write_by.result (λ written asked m prepared told.
+    written asked prepared _ told
     ∙ ap (λ b. Some (step c.args.config.now.update c.args.config.now.force_update asked b m)) (sym c.if-not-passed.true)) c.write_by.ensures.ok
 
 pub returns-then-not-passed-clause-kept : goal.returns-then-not-passed-clause-kept
-returns-then-not-passed-clause-kept g c = λ asked prepared all.
-    let mode = c.args.config.now.update in
-    kept_both mode asked.path _ _ _ (kept_clearing mode asked c.args.strays.now _ _ all c.in_ok-remove_files.ensures.kept)
-    (kept_at mode asked c.args.prepared.now _ _ prepared c.write_by.ensures.kept)
+returns-then-not-passed-clause-kept g c = λ asked prepared. kept_at c.args.config.now.update asked c.args.prepared.now _ _ prepared c.write_by.ensures.kept
 
 pub returns-then-not-passed-clause-named : goal.returns-then-not-passed-clause-named
-returns-then-not-passed-clause-named g c = λ asked prepared all. own_at c.args.config.now.update _ asked.path c.write_by.result prepared.path c.write_by.ensures.named
+returns-then-not-passed-clause-named g c = λ asked prepared. own_at c.args.config.now.update _ asked.path c.write_by.result prepared.path c.write_by.ensures.named
 
 pub returns-in_err-approve-clause-kept : goal.returns-in_err-approve-clause-kept
-returns-in_err-approve-clause-kept g c = λ asked prepared all.
-    let mode = c.args.config.now.update in
-    kept_both mode asked.path _ _ _ (kept_clearing mode asked c.args.strays.now _ _ all c.in_ok-remove_files.ensures.kept)
-    (kept_approving mode asked c.args.prepared.now _ _ prepared c.in_err-approve.ensures.kept)
+returns-in_err-approve-clause-kept g c = λ asked prepared. kept_approving c.args.config.now.update asked c.args.prepared.now _ _ prepared c.in_err-approve.ensures.kept
 
 pub returns-in_err-approve-clause-named : goal.returns-in_err-approve-clause-named
-returns-in_err-approve-clause-named g c = λ asked prepared all. own_refused c.args.config.now.update asked.path c.from_residual-in_err-approve.result c.in_err-approve.field-0.0 c.from_residual-in_err-approve.ensures.1
+returns-in_err-approve-clause-named g c = λ asked prepared. own_refused c.args.config.now.update asked.path c.from_residual.result c.in_err-approve.field-0.0 c.from_residual.ensures.1
     (own_wait c.args.config.now.update asked.path _ c.in_err-approve.field-0.0 prepared.pending c.in_err-approve.ensures.named)
 
 pub returns-then-config-clause-ok : goal.returns-then-config-clause-ok
-returns-then-config-clause-ok g c = on_ok_weaker c.write_by-then-config.result (λ written asked m prepared told strays.
-    written asked _ prepared (passed_is asked m c.args.prepared.now _ _ prepared (cleared_is asked m c.args.strays.now _ _ told strays c.in_ok-remove_files.ensures.ok) c.in_ok-approve.ensures.ok)
+returns-then-config-clause-ok g c = on_ok_weaker c.write_by-then-config.result (λ written asked m prepared told.
+    written asked prepared _ (passed_is asked m c.args.prepared.now _ _ prepared told c.in_ok-approve.ensures.ok)
     ∙ ap (λ b. Some (step c.args.config.now.update b asked true m)) (sym c.if-config.true)
     ∙ ap (λ b. Some (step c.args.config.now.update c.args.config.now.force_update asked b m)) (sym c.if-not-passed.false)) c.write_by-then-config.ensures.ok
 
 pub returns-then-config-clause-kept : goal.returns-then-config-clause-kept
-returns-then-config-clause-kept g c = λ asked prepared all.
+returns-then-config-clause-kept g c = λ asked prepared.
     let mode = c.args.config.now.update in
-    kept_both mode asked.path _ _ _ (kept_clearing mode asked c.args.strays.now _ _ all c.in_ok-remove_files.ensures.kept)
-    (kept_both mode asked.path _ _ _ (kept_approving mode asked c.args.prepared.now _ _ prepared c.in_ok-approve.ensures.kept)
-    (kept_at mode asked c.args.prepared.now _ _ prepared c.write_by-then-config.ensures.kept))
+    kept_both mode asked.path _ _ _ (kept_approving mode asked c.args.prepared.now _ _ prepared c.in_ok-approve.ensures.kept)
+    (kept_at mode asked c.args.prepared.now _ _ prepared c.write_by-then-config.ensures.kept)
 
 pub returns-then-config-clause-named : goal.returns-then-config-clause-named
-returns-then-config-clause-named g c = λ asked prepared all. own_at c.args.config.now.update _ asked.path c.write_by-then-config.result prepared.path c.write_by-then-config.ensures.named
+returns-then-config-clause-named g c = λ asked prepared. own_at c.args.config.now.update _ asked.path c.write_by-then-config.result prepared.path c.write_by-then-config.ensures.named
 
 pub returns-else-config-clause-ok : goal.returns-else-config-clause-ok
-returns-else-config-clause-ok g c = λ asked m prepared told strays.
-    passed_is asked m c.args.prepared.now _ _ prepared (cleared_is asked m c.args.strays.now _ _ told strays c.in_ok-remove_files.ensures.ok) c.in_ok-approve.ensures.ok
+returns-else-config-clause-ok g c = λ asked m prepared told.
+    passed_is asked m c.args.prepared.now _ _ prepared told c.in_ok-approve.ensures.ok
     ∙ ap (λ b. Some (step c.args.config.now.update b asked true m)) (sym c.if-config.false)
     ∙ ap (λ b. Some (step c.args.config.now.update c.args.config.now.force_update asked b m)) (sym c.if-not-passed.false)
 
 pub returns-else-config-clause-kept : goal.returns-else-config-clause-kept
-returns-else-config-clause-kept g c = λ asked prepared all.
-    let mode = c.args.config.now.update in
-    kept_both mode asked.path _ _ _ (kept_clearing mode asked c.args.strays.now _ _ all c.in_ok-remove_files.ensures.kept)
-    (kept_approving mode asked c.args.prepared.now _ _ prepared c.in_ok-approve.ensures.kept)
+returns-else-config-clause-kept g c = λ asked prepared. kept_approving c.args.config.now.update asked c.args.prepared.now _ _ prepared c.in_ok-approve.ensures.kept

@@ -3,12 +3,13 @@ use Rattle.snap_run.proofs.Stepping.{begins, goes_on, stops, first_is}
 use Rattle.snap_run.proofs.documents.run_documents.Goals as goal
 
 pub loop-rest-init : goal.loop-rest-init
-loop-rest-init g c = record { run = begins _ _ _; few = omega arith; store_count = refl; sink_count = refl }
+loop-rest-init g c = record { run = begins _ _ _; few = omega arith; fresh = c.requires.fresh; store_count = refl; sink_count = refl }
 
 pub loop-rest-preserved : goal.loop-rest-preserved
 loop-rest-preserved g c = record {
   run = goes_on _ _ _ _ _ _ _ _ _ _ _ (first_is _ _ _ _ c.first_document_end.ensures.cut c.split_at.ensures.front c.split_at.ensures.back) c.loop-rest.invariant.run c.in-Ok.ensures.ok;
   few = omega (arith, c.split_at.ensures.back_len, c.first_document_end.ensures.positive);
+  fresh = c.in-Ok.ensures.fresh;
   store_count = c.in-Ok.ensures.store_count ∙ c.loop-rest.invariant.store_count;
   sink_count = c.in-Ok.ensures.sink_count ∙ c.loop-rest.invariant.sink_count;
 }

@@ -1,0 +1,6 @@
+//! Tests of `snap_assert` that rows can't say: a block of duplicates round a closure.
+//! They stand apart, since a crate with tests is proved twice.
+#![tactic(auto)]
+
+#[cfg(test)]
+mod blocks;
