@@ -141,6 +141,7 @@ WorkErrorCause before now (FileIo path) = Rose before now
 WorkErrorCause before now OutOfMemory = now ≡ before
 WorkErrorCause before now _ = ⊥
 
+-- how many calls of the store failed by the end of the work: none more, but one where a fault is returned
 abbrev pub WorkCause : {T : Type 0} → ℕ → ℕ → Result T AssertError → Type 0
 WorkCause before now (Ok value) = now ≡ before
 WorkCause before now (Err error) = WorkErrorCause before now error

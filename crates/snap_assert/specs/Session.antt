@@ -23,6 +23,7 @@ key_cmp a b = ordering_then (text_cmp a.0 b.0) (text_cmp a.1 b.1)
 abbrev pub BlockKey : Type 0
 BlockKey = List ℕ × List ℕ × Option ℕ
 
+-- the order of the keys of a block: by their first text, then their second, then the line
 abbrev pub block_cmp : BlockKey → BlockKey → Ordering
 block_cmp a b = ordering_then (ordering_then (text_cmp a.0 b.0) (text_cmp a.1 b.1)) (option_cmp nat_cmp a.2 b.2)
 

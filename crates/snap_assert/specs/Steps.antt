@@ -58,6 +58,7 @@ is_slashless (Some rest) = not (holds_slash rest)
 abbrev pub is_stray : List ℕ → List ℕ → Bool
 is_stray path q = is_slashless (past_mark (stray_front path) q)
 
+-- the files without what payloads left behind beside a path
 abbrev pub cleared : List ℕ → Files → Files
 cleared path files = retain_keys files (λ q. not (is_stray path q))
 

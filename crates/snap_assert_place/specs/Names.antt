@@ -23,6 +23,7 @@ last_name (c ∷ cs) = if holds_colons cs then last_name cs else unwrap_or (past
 abbrev pub past_test : List ℕ → Option (List ℕ)
 past_test name = past_mark (codes "test_") name
 
+-- whether a function is named as a test: its name begins with `test_`
 abbrev pub is_test : List ℕ → Bool
 is_test name = is_some (past_test name)
 

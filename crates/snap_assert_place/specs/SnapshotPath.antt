@@ -22,6 +22,7 @@ flat_module [] = []
 flat_module (c ∷ []) = c ∷ []
 flat_module (c ∷ d ∷ cs) = if c == 58 && d == 58 then codes "__" ++ flat_module cs else c ∷ flat_module (d ∷ cs)
 
+-- whether a function is that of a test in documentation
 abbrev pub is_doctest : List ℕ → Bool
 is_doctest function = is_some (past_mark (codes "rust_out::main::_doctest") function)
 

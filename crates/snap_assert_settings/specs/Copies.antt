@@ -40,6 +40,7 @@ is_called redaction.Sorted = false
 is_called (redaction.Dynamic object) = true
 is_called (redaction.Function function) = true
 
+-- whether a redaction calls an object or a function
 abbrev pub calls : {X : Type 0} {P : X → Type 0} {Y : Type 0} {Q : Y → Type 0} {g : _} → RedactionView (Redaction X Y P Q g) → Bool
 calls view = is_called view.redaction
 

@@ -40,6 +40,7 @@ PrintRefused refused (FloatText named) = ⊥
 PrintRefused refused (NotText named) = ⊥
 PrintRefused refused (NoFile named) = ⊥
 
+-- how printing a record ends: with its line where JSON takes it, else with the refusal of its key; or memory was short
 abbrev pub PrintEnd : {T : Type 0} → Bool → Result T Error → Type 0
 PrintEnd refused (Ok printed) = refused ≡ false
 PrintEnd refused (Err error) = PrintRefused refused error
