@@ -1,6 +1,5 @@
 //! The metadata of a new snapshot.
-ghost use Rattle.std.specs.Prelude.{◌≡◌, None, Some, IfOk, if◌then◌else◌, option_map};
-ghost use Rattle.std.specs.Str.{chars};
+ghost use Rattle.std.specs.Prelude.{◌≡◌, None, Some, IfOk, option_map};
 ghost use Rattle.snap_content.specs.View.{tree};
 ghost use Rattle.snap_store.specs.Views.{meta_of};
 ghost use Rattle.snap_assert_settings.specs.Settings.{settings_of};

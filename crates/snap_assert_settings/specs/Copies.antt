@@ -1,5 +1,5 @@
 -- Copies of redactions: what is the same in them, and which have none.
-use Rattle.std.specs.Prelude.{◌≡◌, Bool, true, false, List, [], ◌∷◌, Result, Ok, Err, map}
+use Rattle.std.specs.Prelude.{◌≡◌, Bool, true, false, List, Result, Ok, Err, map}
 use Rattle.snap_content.specs.Tree.{Tree}
 use Rattle.snap_content.specs.View.{tree}
 use Rattle.snap_select.specs.Parts.{Parts}

@@ -1,5 +1,5 @@
 //! Writing records to a file.
-ghost use Rattle.std.specs.Prelude.{◌≡◌, ◌++◌, ◌∷◌, [], Some, IfOk, OnOk, OnErr, IsErrOf, encode_utf8_all, map};
+ghost use Rattle.std.specs.Prelude.{◌≡◌, ◌++◌, ◌∷◌, [], IfOk, OnOk, OnErr, IsErrOf, encode_utf8_all, map};
 ghost use Rattle.std.specs.FinMap.{remove};
 ghost use Rattle.std.specs.List.{list_any};
 ghost use Rattle.snap_content.specs.declared.error.Error.TheVariants.{JsonKey};

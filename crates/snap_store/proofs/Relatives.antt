@@ -1,5 +1,5 @@
 -- Paths below others: what is left where all of the base is gone.
-use Rattle.snap_store.proofs.Prelude.{◌≡◌, ℕ, List, [], ◌∷◌, Some, true, false, cond, refl, sym, ap, ◌∙◌, components, is_absolute, slashed, path_of_parts, relative_from, Apart, apart, from_apart, same_start, left_below}
+use Rattle.snap_store.proofs.Prelude.{◌≡◌, ℕ, List, [], ◌∷◌, Some, true, cond, refl, sym, ap, ◌∙◌, components, is_absolute, slashed, path_of_parts, relative_from, Apart, apart, from_apart, same_start, left_below}
 
 whole_left : (path : List (List ℕ)) → apart path [] ≡ record { path = path; base = [] }
 whole_left [] = refl

@@ -1,7 +1,7 @@
 //! A path without the components of another that stand at its front.
 ghost use Rattle.std.specs.Prelude.{◌≡◌, ◌<◌, [], ◌∷◌, List, ℕ, None, Some, length, IfOk, IfSome, MatchOption, option_map};
 ghost use Rattle.std.specs.Str.{bytes_eq, chars};
-ghost use Rattle.snap_path.specs.Paths.{is_component, components, slashed, path_of_parts, is_absolute, apart};
+ghost use Rattle.snap_path.specs.Paths.{is_component, components, slashed, apart};
 ghost use Rattle.snap_store.specs.Relative.{left_below, path_within, source_within};
 ghost use Rattle.snap_store.specs.Views.{meta_of};
 

@@ -1,4 +1,4 @@
-use Rattle.snap_assert_settings.proofs.Prelude.{◌≡◌, true, map, ap, sym, ◌∙◌, subst, list_any, redaction_of, redactions_of, take, take_all, shown_redactions, calls}
+use Rattle.snap_assert_settings.proofs.Prelude.{map, ap, sym, ◌∙◌, list_any, redaction_of, redactions_of, take_all, shown_redactions, calls}
 use Rattle.std.proofs.lemmas.Result.{err_from_is_err_and}
 use Rattle.snap_assert_settings.proofs.CopiedLists.{one_copied, none_calls, one_calls, stops_all}
 use Rattle.snap_assert_settings.proofs.redactions.Redactions.try_clone.Goals as goal
