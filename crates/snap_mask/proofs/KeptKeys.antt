@@ -1,5 +1,6 @@
--- Rules that put texts and sort lists keep keys that JSON accepts: a key that is hit becomes a text, one that isn't stays.
-use Rattle.snap_mask.proofs.Prelude.{◌≡◌, ℕ, ℤ, pos, negsuc, ◌^◌, suc, List, [], ◌∷◌, ◌++◌, Bool, true, false, ◌||◌, cond, nat_lt, Option, None, Some, refl, sym, ap, ◌∙◌, or_from, or_left, or_right, subst, some_same, option_map, option_and_then, bytes_eq, codes, Plain, null, bool, int, text, list, dict, Plains, no_items, item, Entries, no_entries, entry, number_tree, content_of, trees_made, pairs_made, has_refused, items_refused, entries_refused, is_refused, json_plain, json_plains, json_pairs, json_refuses, key_plain, json_key, Parts, ReplacementView, redacted_by, IsMasking, AreMasking, puts_text, sorts, rules_in, puts_in, sorts_in, rule_then, put_rule, sort_rule, selected}
+-- Rules that put texts and sort lists keep keys that JSON accepts, and numbers within 128 bits: a key that is hit becomes a text, one that isn't
+-- stays, and no number is made.
+use Rattle.snap_mask.proofs.Prelude.{◌≡◌, ℕ, ℤ, pos, negsuc, ◌^◌, suc, List, [], ◌∷◌, ◌++◌, Bool, true, false, ◌||◌, cond, nat_lt, Option, None, Some, refl, sym, ap, ◌∙◌, or_from, or_left, or_right, subst, some_same, option_map, option_and_then, bytes_eq, codes, Plain, null, bool, int, text, list, dict, Plains, no_items, item, Entries, no_entries, entry, number_tree, content_of, trees_made, pairs_made, has_refused, items_refused, entries_refused, is_refused, IsWithin, AreWithin, AreEntriesWithin, IsNumber, json_plain, json_plains, json_pairs, json_refuses, key_plain, json_key, Parts, ReplacementView, redacted_by, IsMasking, AreMasking, puts_text, sorts, rules_in, puts_in, sorts_in, rule_then, put_rule, sort_rule, selected}
 use Rattle.std.specs.declared.cmp.Ordering.{Ordering}
 use Rattle.std.specs.Ordering.{is_lt}
 use Rattle.snap_content.specs.Tree as t
@@ -13,14 +14,14 @@ use Rattle.snap_select.specs.Redacted.{put_or, inside, redacted_items, redacted_
 abbrev IsText : t.Tree → Type 0
 IsText key = (s : List ℕ) × (key ≡ t.string s)
 
--- a tree such as a reader makes of JSON: no wrappers, and keys that are texts
+-- a tree such as a reader makes of JSON: no wrappers, numbers of 128 bits, and keys that are texts
 abbrev mutual
   IsFine : t.Tree → Type 0
   IsFine (t.bool b) = Unit {0}
-  IsFine (t.u64 n) = Unit {0}
-  IsFine (t.u128 n) = Unit {0}
-  IsFine (t.i64 z) = Unit {0}
-  IsFine (t.i128 z) = Unit {0}
+  IsFine (t.u64 n) = IsNumber (pos n)
+  IsFine (t.u128 n) = IsNumber (pos n)
+  IsFine (t.i64 z) = IsNumber z
+  IsFine (t.i128 z) = IsNumber z
   IsFine (t.string s) = Unit {0}
   IsFine t.none = Unit {0}
   IsFine (t.seq items) = AreFine items
@@ -36,18 +37,18 @@ abbrev mutual
   ArePairsFine (t.pair key value rest) = IsText key × IsFine value × ArePairsFine rest
 
 -- the tree of a JSON text is such a tree
-fine_number : (z : ℤ) → IsFine (number_tree z)
-fine_number (pos n) = by (nat_lt n (2 ^ 63)) (nat_lt n (2 ^ 64))
+fine_number : (z : ℤ) → IsNumber z → IsFine (number_tree z)
+fine_number (pos n) w = by (nat_lt n (2 ^ 63)) (nat_lt n (2 ^ 64))
   where
     by : (small middle : Bool) → IsFine (cond small (t.i64 (pos n)) (cond middle (t.u64 n) (t.u128 n)))
-    by true middle = tt
-    by false true = tt
-    by false false = tt
-fine_number (negsuc n) = by (nat_lt n (2 ^ 63))
+    by true middle = w
+    by false true = w
+    by false false = w
+fine_number (negsuc n) w = by (nat_lt n (2 ^ 63))
   where
     by : (small : Bool) → IsFine (cond small (t.i64 (negsuc n)) (t.i128 (negsuc n)))
-    by true = tt
-    by false = tt
+    by true = w
+    by false = w
 
 text_key : (key : Plain) → is_refused key ≡ false → IsText (content_of key)
 text_key null h = cc
@@ -58,25 +59,26 @@ text_key (list ps) h = cc
 text_key (dict es) h = cc
 
 mutual
-  fine_made : (p : Plain) → has_refused p ≡ false → IsFine (content_of p)
-  fine_made null h = tt
-  fine_made (bool b) h = tt
-  fine_made (int z) h = fine_number z
-  fine_made (text s) h = tt
-  fine_made (list ps) h = items_made ps h
-  fine_made (dict es) h = entries_made es h
+  fine_made : (p : Plain) → IsWithin p → has_refused p ≡ false → IsFine (content_of p)
+  fine_made null w h = tt
+  fine_made (bool b) w h = tt
+  fine_made (int z) w h = fine_number z w
+  fine_made (text s) w h = tt
+  fine_made (list ps) w h = items_made ps w h
+  fine_made (dict es) w h = entries_made es w h
 
-  items_made : (ps : Plains) → items_refused ps ≡ false → AreFine (trees_made ps)
-  items_made no_items h = tt
-  items_made (item p ps) h = (fine_made p (or_left (has_refused p) (items_refused ps) h), items_made ps (or_right (has_refused p) (items_refused ps) h))
+  items_made : (ps : Plains) → AreWithin ps → items_refused ps ≡ false → AreFine (trees_made ps)
+  items_made no_items w h = tt
+  items_made (item p ps) w h =
+      (fine_made p w.0 (or_left (has_refused p) (items_refused ps) h), items_made ps w.1 (or_right (has_refused p) (items_refused ps) h))
 
-  entries_made : (es : Entries) → entries_refused es ≡ false → ArePairsFine (pairs_made es)
-  entries_made no_entries h = tt
-  entries_made (entry key p es) h =
+  entries_made : (es : Entries) → AreEntriesWithin es → entries_refused es ≡ false → ArePairsFine (pairs_made es)
+  entries_made no_entries w h = tt
+  entries_made (entry key p es) w h =
       let below = or_right (is_refused key) (has_refused p || entries_refused es) h in (
         text_key key (or_left (is_refused key) (has_refused p || entries_refused es) h),
-        fine_made p (or_left (has_refused p) (entries_refused es) below),
-        entries_made es (or_right (has_refused p) (entries_refused es) below),
+        fine_made p w.1.0 (or_left (has_refused p) (entries_refused es) below),
+        entries_made es w.1.1 (or_right (has_refused p) (entries_refused es) below),
       )
 
 -- JSON refuses no key of such a tree
@@ -124,6 +126,49 @@ mutual
       or_from (is_refused (key_plain (json_key key))) (has_refused (json_plain value) || entries_refused (json_pairs rest)) (accepted_key key f.0)
       (or_from (has_refused (json_plain value)) (entries_refused (json_pairs rest)) (accepted value f.1) (pairs_accepted rest f.2))
 
+-- what JSON keeps of such a tree has no number beyond 128 bits
+key_within : (key : t.Tree) → IsText key → IsWithin (key_plain (json_key key))
+key_within key k = subst (λ c. IsWithin (key_plain (json_key c))) (sym k.1) tt
+
+mutual
+  fine_within : (c : t.Tree) → IsFine c → IsWithin (json_plain c)
+  fine_within (t.bool b) f = tt
+  fine_within (t.u8 n) f = absurd f
+  fine_within (t.u16 n) f = absurd f
+  fine_within (t.u32 n) f = absurd f
+  fine_within (t.u64 n) f = f
+  fine_within (t.u128 n) f = f
+  fine_within (t.i8 z) f = absurd f
+  fine_within (t.i16 z) f = absurd f
+  fine_within (t.i32 z) f = absurd f
+  fine_within (t.i64 z) f = f
+  fine_within (t.i128 z) f = f
+  fine_within (t.char c) f = absurd f
+  fine_within (t.string s) f = tt
+  fine_within (t.bytes bs) f = absurd f
+  fine_within t.none f = tt
+  fine_within (t.some inner) f = absurd f
+  fine_within t.unit f = absurd f
+  fine_within (t.unit_struct name) f = absurd f
+  fine_within (t.unit_variant name index variant) f = absurd f
+  fine_within (t.newtype_struct name inner) f = absurd f
+  fine_within (t.newtype_variant name index variant inner) f = absurd f
+  fine_within (t.seq items) f = items_within items f
+  fine_within (t.tuple items) f = absurd f
+  fine_within (t.tuple_struct name items) f = absurd f
+  fine_within (t.tuple_variant name index variant items) f = absurd f
+  fine_within (t.map pairs) f = pairs_within pairs f
+  fine_within (t.struct name held) f = absurd f
+  fine_within (t.struct_variant name index variant held) f = absurd f
+
+  items_within : (items : t.Trees) → AreFine items → AreWithin (json_plains items)
+  items_within t.no_trees f = tt
+  items_within (t.tree first rest) f = (fine_within first f.0, items_within rest f.1)
+
+  pairs_within : (pairs : t.TreePairs) → ArePairsFine pairs → AreEntriesWithin (json_pairs pairs)
+  pairs_within t.no_pairs f = tt
+  pairs_within (t.pair key value rest) f = (key_within key f.0, (fine_within value f.1, pairs_within rest f.2))
+
 -- lists in order hold what they held
 abbrev Each : {X : Type 0} → (X → Type 0) → List X → Type 0
 Each P [] = Unit {0}
@@ -165,13 +210,13 @@ fine_in_order (t.bool b) f = tt
 fine_in_order (t.u8 n) f = absurd f
 fine_in_order (t.u16 n) f = absurd f
 fine_in_order (t.u32 n) f = absurd f
-fine_in_order (t.u64 n) f = tt
-fine_in_order (t.u128 n) f = tt
+fine_in_order (t.u64 n) f = f
+fine_in_order (t.u128 n) f = f
 fine_in_order (t.i8 z) f = absurd f
 fine_in_order (t.i16 z) f = absurd f
 fine_in_order (t.i32 z) f = absurd f
-fine_in_order (t.i64 z) f = tt
-fine_in_order (t.i128 z) f = tt
+fine_in_order (t.i64 z) f = f
+fine_in_order (t.i128 z) f = f
 fine_in_order (t.char c) f = absurd f
 fine_in_order (t.string s) f = tt
 fine_in_order (t.bytes bs) f = absurd f
@@ -218,13 +263,13 @@ mutual
   fine_inside rule m path (t.u8 n) f = absurd f
   fine_inside rule m path (t.u16 n) f = absurd f
   fine_inside rule m path (t.u32 n) f = absurd f
-  fine_inside rule m path (t.u64 n) f = tt
-  fine_inside rule m path (t.u128 n) f = tt
+  fine_inside rule m path (t.u64 n) f = f
+  fine_inside rule m path (t.u128 n) f = f
   fine_inside rule m path (t.i8 z) f = absurd f
   fine_inside rule m path (t.i16 z) f = absurd f
   fine_inside rule m path (t.i32 z) f = absurd f
-  fine_inside rule m path (t.i64 z) f = tt
-  fine_inside rule m path (t.i128 z) f = tt
+  fine_inside rule m path (t.i64 z) f = f
+  fine_inside rule m path (t.i128 z) f = f
   fine_inside rule m path (t.char c) f = absurd f
   fine_inside rule m path (t.string s) f = tt
   fine_inside rule m path (t.bytes bs) f = absurd f
@@ -268,8 +313,11 @@ fine_redacted (r ∷ rs) c m f =
     fine_redacted rs (redacted r.parts r.put [] c) m.1
     (either IsFine (path_match r.parts []) (r.put c) (inside r.parts r.put [] c) (fine_put r c m.0 f) (fine_inside r m.0 [] c f))
 
-pub kept_keys : (rules : List ReplacementView) (p : Plain) → AreMasking rules → has_refused p ≡ false → json_refuses (redacted_by rules (content_of p)) ≡ false
-kept_keys rules p m h = accepted (redacted_by rules (content_of p)) (fine_redacted rules (content_of p) m (fine_made p h))
+pub kept_keys : (rules : List ReplacementView) (p : Plain) → AreMasking rules → IsWithin p → has_refused p ≡ false → json_refuses (redacted_by rules (content_of p)) ≡ false
+kept_keys rules p m w h = accepted (redacted_by rules (content_of p)) (fine_redacted rules (content_of p) m (fine_made p w h))
+
+pub kept_within : (rules : List ReplacementView) (p : Plain) → AreMasking rules → IsWithin p → has_refused p ≡ false → IsWithin (json_plain (redacted_by rules (content_of p)))
+kept_within rules p m w h = fine_within (redacted_by rules (content_of p)) (fine_redacted rules (content_of p) m (fine_made p w h))
 
 -- the rules that words spell put texts and sort
 masking_then : (parts : Option Parts) (rule : Parts → ReplacementView) (others : Option (List ReplacementView)) (rules : List ReplacementView)

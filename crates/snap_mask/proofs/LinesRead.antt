@@ -1,5 +1,5 @@
 -- What a line is read as, or why it is not.
-use Rattle.snap_mask.proofs.Prelude.{◌≡◌, ◌≢◌, ℕ, List, Bool, true, false, Option, None, Some, refl, sym, ap, ◌∙◌, subst, some_same, Plain, content_of, Tree, IsWithin, IsUtf8, chars, Lacks, IsJsonOf, json_refuses, ReplacementView, redacted_by, AreMasking, beginning_in, beginning_of, IsJsonLine, IsNoJsonLine, IsValueOf, RefusesValue, RefusesFor, parse_stop, json_stop}
+use Rattle.snap_mask.proofs.Prelude.{◌≡◌, ◌≢◌, ℕ, List, Bool, true, false, Option, None, Some, refl, sym, ap, ◌∙◌, subst, some_same, Plain, content_of, Tree, IsWithin, IsUtf8, chars, Lacks, IsJsonOf, is_bounded, json_text, json_refuses, Condensed, ReplacementView, redacted_by, AreMasking, json_plain, beginning_in, beginning_of, IsJsonLine, IsNoJsonLine, IsValueOf, IsRecordOf, IsReadAgainAs, RefusesValue, RefusesFor, parse_stop, json_stop}
 use Rattle.std.specs.Prelude.{Err, IsErrOf}
 use Rattle.snap_content.specs.declared.error.Error.{Error}
 use Rattle.snap_content.specs.declared.error.Error.TheVariants as parse
@@ -10,7 +10,7 @@ use Rattle.snap_mask.specs.declared.beginning.Beginning.{Beginning}
 use Rattle.snap_mask.specs.declared.record.RecordError.{RecordError}
 use Rattle.snap_mask.specs.declared.record.RecordError.TheVariants.{BadLine, FloatLine, JsonKey, OutOfMemory}
 use Rattle.snap_mask.proofs.Begun.{json_begins, json_lacks}
-use Rattle.snap_mask.proofs.KeptKeys.{kept_keys}
+use Rattle.snap_mask.proofs.KeptKeys.{kept_keys, kept_within}
 
 -- a line that is no UTF-8, holds NUL, or begins as no JSON text does, is none
 pub no_utf8 : (line : List ℕ) → (IsUtf8 line → ⊥) → IsNoJsonLine line
@@ -79,7 +79,7 @@ pub refused_key : (rules : List ReplacementView) (line : List ℕ) (value masked
 refused_key rules line value masked json.OutOfMemory m read is refuses = tt
 refused_key rules line value masked json.JsonKey m read is refuses =
     let refused : json_refuses (redacted_by rules value) ≡ true = sym (ap json_refuses is) ∙ refuses refl in (
-      λ t j. let clash : true ≡ false = sym refused ∙ ap (λ v. json_refuses (redacted_by rules v)) (read.one t j) ∙ kept_keys rules t m j.json.0 in cc,
+      λ t j. let clash : true ≡ false = sym refused ∙ ap (λ v. json_refuses (redacted_by rules v)) (read.one t j) ∙ kept_keys rules t m j.within j.json.0 in cc,
       record { value = value; read = read; refused = refused },
     )
 
@@ -87,3 +87,11 @@ refused_key rules line value masked json.JsonKey m read is refuses =
 pub is_refused_key : {T : Type 0} (e : JsonError) (masked : Tree) → (IsErrOf {T = T} (Err e) json.JsonKey → json_refuses masked ≡ true)
     → e ≡ json.JsonKey → json_refuses masked ≡ true
 is_refused_key e masked refuses is = refuses (ap Err is)
+
+-- the record of a JSON text, where it is within the bounds, is one too
+pub read_again : (rules : List ReplacementView) (t : Plain) (line given : List ℕ) → AreMasking rules → IsJsonLine t line → IsRecordOf rules line given
+    → is_bounded (json_plain (redacted_by rules (content_of t))) ≡ true → IsReadAgainAs (json_plain (redacted_by rules (content_of t))) given
+read_again rules t line given m j made bounded = record {
+  within = kept_within rules t m j.within j.json.0;
+  json = (kept_keys rules t m j.within j.json.0, bounded, made.is ∙ ap (λ v. json_text Condensed (redacted_by rules v)) (made.read.one t j));
+}

@@ -7,7 +7,7 @@ pub use Rattle.std.specs.List.{list_any}
 pub use Rattle.std.specs.Str.{IsUtf8, chars, bytes_eq}
 pub use Rattle.snap_content.proofs.Booleans.{or_left, or_right, some_same}
 pub use Rattle.snap_content.specs.Plain.{Plain, null, bool, int, text, list, dict, Plains, no_items, item, Entries, no_entries, entry, number_tree, content_of, trees_made, pairs_made}
-pub use Rattle.snap_print.specs.Readable.{IsWithin, IsNumber}
+pub use Rattle.snap_print.specs.Readable.{IsWithin, AreWithin, AreEntriesWithin, IsNumber}
 pub use Rattle.snap_content.specs.Tree.{Tree}
 pub use Rattle.snap_content.specs.View.{tree}
 pub use Rattle.snap_str.specs.Cut.{Lacks, IsCutAtFirst}
@@ -21,7 +21,7 @@ pub use Rattle.snap_io_lines.specs.declared.lines.LineError.TheVariants.{Fault, 
 pub use Rattle.snap_json.specs.JsonPlain.{json_plain, json_plains, json_pairs, key_plain, json_key}
 pub use Rattle.snap_json.specs.JsonText.{text_at, json_text, json_refuses, has_refused, items_refused, entries_refused, is_refused}
 pub use Rattle.snap_json.specs.declared.format.Format.TheVariants.{Condensed}
-pub use Rattle.snap_parse_laws_json.specs.Bounded.{IsJsonOf}
+pub use Rattle.snap_parse_laws_json.specs.Bounded.{IsJsonOf, is_bounded}
 pub use Rattle.snap_select.specs.Parts.{Parts}
 pub use Rattle.snap_select.specs.Put.{Objects}
 pub use Rattle.snap_select.specs.Selected.{selected}
@@ -34,7 +34,7 @@ pub use Rattle.snap_mask.specs.Rules.{put_rule, sort_rule, rule_then, rules_in, 
 pub use Rattle.snap_mask.specs.Rules.IsMasking.{puts_text, sorts}
 pub use Rattle.snap_mask.specs.Beginning.{beginning_at, beginning_in, beginning_of}
 pub use Rattle.snap_mask.specs.declared.beginning.Beginning.TheVariants.{Word}
-pub use Rattle.snap_mask.specs.Records.{IsJsonLine, IsNoJsonLine, IsValueOf, IsRecordOf, RefusesValue, RefusesFor, parse_stop, json_stop}
+pub use Rattle.snap_mask.specs.Records.{IsJsonLine, IsNoJsonLine, IsValueOf, IsRecordOf, IsReadAgainAs, RefusesValue, RefusesFor, parse_stop, json_stop}
 pub use Rattle.snap_mask.specs.Masked.{Masks, AreShort, IsWritten, IsBegun, IsDone, StopsWithin, StopsAt, IsTooLong, Leaves, LeavesOf, Gave, is_input_too_long, LengthIs, LengthCause, ReadCause}
 pub use Rattle.snap_mask.specs.Masked.AreShort.{at_start, at_end}
 pub use Rattle.snap_mask.specs.Written.{RecordEnds, IsRefused, RefusesRecord, stop_for}

@@ -44,6 +44,11 @@ pub record IsRecordOf (rules : List ReplacementView) (line record_text : List �
   pub accepted : json_refuses (redacted_by rules value) ≡ false
   pub is : record_text ≡ json_text Condensed (redacted_by rules value)
 
+-- a reader of bounded JSON texts reads the record as this tree
+pub record IsReadAgainAs (kept : Plain) (record_text : List ℕ) : Type 0 where
+  pub within : IsWithin kept
+  pub json : IsJsonOf kept record_text
+
 -- a line has a key that JSON refuses, once it is masked
 pub record HasRefusedKey (rules : List ReplacementView) (line : List ℕ) : Type 0 where
   pub value : Tree

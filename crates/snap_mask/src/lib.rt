@@ -3,11 +3,12 @@
 //!
 //! In the order in which data flows: `rules` (what the words ask for), `beginning` (what a JSON text may begin with), `record`
 //! (a line to its record), `writing`, `masking` (the loop over the lines), `status` and `usage` (what is said of a run, and of
-//! the program), `command` (the run that the arguments ask for).
+//! the program), `command` (the run that the arguments ask for), `laws` (what definitions promise by themselves).
 #![tactic(auto)]
 
-mod beginning;
+pub mod beginning;
 pub mod command;
+pub mod laws;
 pub mod masking;
 pub mod record;
 pub mod rules;

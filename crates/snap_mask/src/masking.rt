@@ -19,7 +19,7 @@ use snap_io_words::text_in;
 use std::alloc::Global;
 
 /// The line without one return, where a line's end followed it.
-fn line_read(end: LineEnd, line: &[u8]) -> &[u8]
+pub fn line_read(end: LineEnd, line: &[u8]) -> &[u8]
     ensures { result.now ≡ line_read end line.now }
 {
     match end {
