@@ -1,9 +1,9 @@
 mod Prelude
-mod KeptKeys
+pub mod KeptKeys
 mod RulesRead
 mod Begun
 mod LinesRead
 mod RecordsWritten
-mod LinesCut
-mod Runs
+pub mod LinesCut
+pub mod Runs
 mod Complete

@@ -1,0 +1,4 @@
+mod Prelude
+mod Turns
+mod Endings
+mod Shown

@@ -1,0 +1,6 @@
+pub mod Words
+pub mod Starts
+pub mod Reasons
+pub mod Findings
+pub mod Runs
+pub mod Program

@@ -1,0 +1,43 @@
+//! The run that the system's arguments ask for.
+ghost use Rattle.snap_io_words.specs.Arguments.{arguments_of, words_given};
+ghost use Rattle.snap_explain.specs.Program.{Ends, RunOfArguments};
+
+use crate::mask::explain;
+use crate::status::ExplainStatus;
+use snap_io::{Sink, Source};
+use snap_io_words::words_in;
+use std::alloc::Global;
+use std::env::Args;
+use std::io;
+
+/// The status of the run that the arguments ask for. Arguments that are no texts are wrong words.
+pub fn explain_arguments<S: Source, K: Sink>(
+    alloc: Global,
+    arguments: io::Result<Args<Global>>,
+    source: &mut S,
+    sink: &mut K,
+) -> ExplainStatus
+    ensures { RunOfArguments (words_given (arguments_of arguments)) result (S.left source.old)
+        (S.left source.new) (K.written sink.old) (K.written sink.new) }
+{
+    match words_in(alloc, arguments) {
+        Err(_) => ExplainStatus::OutOfMemory,
+        Ok(None) => ExplainStatus::BadWords,
+        Ok(Some(words)) => explain(alloc, &words, source, sink),
+    }
+}
+
+/// All that the program does: the run that the arguments ask for. The answer is the exit status. The first argument is the
+/// program's name.
+pub fn program<S: Source, K: Sink>(
+    alloc: Global,
+    arguments: io::Result<Args<Global>>,
+    source: &mut S,
+    sink: &mut K,
+) -> u8
+    ensures { Ends result (words_given (arguments_of arguments)) (S.left source.old)
+        (S.left source.new) (K.written sink.old) (K.written sink.new) }
+{
+    let status = explain_arguments(alloc, arguments, source, sink);
+    status.code()
+}

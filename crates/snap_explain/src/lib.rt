@@ -1,0 +1,23 @@
+//! Says why an input is refused: each finding on a line of its own. It reads only, and writes nothing but what it finds.
+//! It asks the tools' own readers, so that a line is said to be bad exactly where they refuse it.
+//!
+//! In the order in which data flows: `fault` (why a line has no record, in words), `start` (what a line begins with that no JSON text
+//! begins with), `place` (where a number stands in a value), `cause` (the fault of a line), `saying` (the finding of a line, written),
+//! `lines` (the loop over the lines), `status` and `usage` (what is said of a run, and of the program), `mask` (what the filter of JSON
+//! lines refuses), `command` (the run that the arguments ask for).
+#![tactic(auto)]
+
+pub mod cause;
+pub mod command;
+pub mod fault;
+pub mod lines;
+pub mod mask;
+pub mod place;
+pub mod saying;
+pub mod start;
+pub mod status;
+pub mod usage;
+
+pub use command::program;
+pub use mask::explain;
+pub use status::ExplainStatus;

@@ -1,0 +1,40 @@
+//! How a run ended.
+ghost use Rattle.std.specs.Prelude.{◌≡◌};
+
+/// How a run ended.
+#[derive(Clone, Copy, Debug, PartialEq, Eq)]
+pub enum ExplainStatus {
+    /// All was read, and nothing is to be said.
+    Nothing,
+    /// All was read, or what was read before a line that is too long, and something was said.
+    Found,
+    /// The words are none of this program, or spell no rules. Nothing was read.
+    BadWords,
+    /// The source failed. A beginning of the findings is written.
+    ReadFault,
+    /// The sink failed. A beginning of the findings is written.
+    WriteFault,
+    /// There was not enough memory. A beginning of the findings is written.
+    OutOfMemory,
+    /// The source gave more than 1,099,511,627,776 bytes.
+    InputTooLong,
+}
+
+impl ExplainStatus {
+    ghost use Rattle.snap_explain.specs.Program.{code_of};
+
+    /// The exit status of the program.
+    pub fn code(&self) -> u8
+        ensures { result ≡ code_of self.now }
+    {
+        match self {
+            ExplainStatus::Nothing => 0,
+            ExplainStatus::Found => 1,
+            ExplainStatus::BadWords => 2,
+            ExplainStatus::ReadFault => 6,
+            ExplainStatus::WriteFault => 7,
+            ExplainStatus::OutOfMemory => 8,
+            ExplainStatus::InputTooLong => 10,
+        }
+    }
+}

@@ -1,0 +1,49 @@
+//! What the program says of itself.
+ghost use Rattle.std.specs.Prelude.{◌≡◌};
+ghost use Rattle.snap_io.specs.Causes.{CountedIf};
+ghost use Rattle.snap_explain.specs.Findings.{says_write_fault};
+ghost use Rattle.snap_explain.specs.Program.{IsTold};
+
+use crate::status::ExplainStatus;
+use snap_io::Sink;
+use snap_io_streams::streams::write_all;
+
+/// The answer to `--version`.
+pub const VERSION: &str = "snap-explain 0.1.0\n";
+
+/// The answer to `--help`.
+pub const USAGE: &str = "\
+Says why input is refused. Nothing is changed.
+
+Usage: snap-explain mask [RULE...] < LINES
+       snap-explain --help | --version
+
+mask says of each line of LINES that snap-mask refuses by these rules why that
+is so. The rules are those of snap-mask --help.
+
+Each finding is a line, as
+  line 12: a number with a fraction at .price
+  line 14, column 7: while parsing a quoted scalar, found unknown escape character
+Lines and columns are counted from 1, columns in characters. A line of more
+than 1,048,576 bytes is the last that is read.
+
+Exit status:
+  0   nothing is refused
+  1   something is, and each finding is written
+  2   wrong words, or a selector that cannot be read
+  6   the lines could not be read
+  7   the findings could not be written
+  8   out of memory
+  10  the input is longer than 1,099,511,627,776 bytes
+";
+
+/// Writes the text, and nothing else.
+pub fn tell<K: Sink>(text: &str, sink: &mut K) -> ExplainStatus
+    ensures told { IsTold text.now result (K.written sink.old) (K.written sink.new) }
+    ensures cause { CountedIf (says_write_fault result) (K.faults sink.old) (K.faults sink.new) }
+{
+    match write_all(sink, text.as_bytes()) {
+        Ok(()) => ExplainStatus::Nothing,
+        Err(_) => ExplainStatus::WriteFault,
+    }
+}

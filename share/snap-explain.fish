@@ -1,0 +1,31 @@
+# Completion of snap-explain's words for fish.
+
+# Whether a rule may begin here, after the word mask: --put takes two words, --sort one.
+function __snap_explain_at_rule
+    set -l words (commandline -opc)
+    test (count $words) -ge 2; and test "$words[2]" = mask; or return 1
+    set -l at 3
+    while test $at -le (count $words)
+        switch $words[$at]
+            case --put
+                set at (math $at + 3)
+            case --sort
+                set at (math $at + 2)
+            case '*'
+                return 1
+        end
+    end
+    test $at -eq (math (count $words) + 1)
+end
+
+# Whether it is the first word.
+function __snap_explain_at_first
+    test (count (commandline -opc)) -eq 1
+end
+
+complete -c snap-explain -f
+complete -c snap-explain -n __snap_explain_at_first -a mask -d 'Say which lines snap-mask refuses, and why'
+complete -c snap-explain -n __snap_explain_at_first -l help -d 'Say which words snap-explain takes'
+complete -c snap-explain -n __snap_explain_at_first -l version -d 'Say its version'
+complete -c snap-explain -n __snap_explain_at_rule -l put -d 'A rule of snap-mask: a text in place of what a selector reaches'
+complete -c snap-explain -n __snap_explain_at_rule -l sort -d 'A rule of snap-mask: the list that a selector reaches in order'

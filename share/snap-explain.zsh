@@ -1,0 +1,20 @@
+#compdef snap-explain
+# Completion of snap-explain's words for zsh.
+_snap-explain() {
+  local -i at=3
+  if (( CURRENT == 2 )); then
+    compadd -- mask --help --version
+    return
+  fi
+  [[ $words[2] == mask ]] || return 1
+  # Whether a rule may begin here: --put takes two words, --sort one.
+  while (( at < CURRENT )); do
+    case $words[at] in
+      --put) at=$((at + 3)) ;;
+      --sort) at=$((at + 2)) ;;
+      *) return 1 ;;
+    esac
+  done
+  (( at == CURRENT )) && compadd -- --put --sort
+}
+_snap-explain "$@"
