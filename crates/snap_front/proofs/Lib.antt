@@ -2,3 +2,4 @@ mod Prelude
 mod Found
 mod Splitting
 mod Placed
+mod Taken

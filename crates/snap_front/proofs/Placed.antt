@@ -6,13 +6,13 @@ use Rattle.snap_content.specs.Tree as t
 abbrev pub is_at : List ℕ → Content × Content → Bool
 is_at name pair = is_key name (tree pair.0)
 
-first_here : (p : Content × Content → Bool) (x : Content × Content) (xs : List (Content × Content)) → p x ≡ true → position p (x ∷ xs) ≡ Some 0
+pub first_here : {A : Type 0} (p : A → Bool) (x : A) (xs : List A) → p x ≡ true → position p (x ∷ xs) ≡ Some 0
 first_here p x xs e = rw e (grind (arith, nat_tests))
 
-first_later : (p : Content × Content → Bool) (x : Content × Content) (xs : List (Content × Content)) → p x ≡ false → position p (x ∷ xs) ≡ option_map suc (position p xs)
+pub first_later : {A : Type 0} (p : A → Bool) (x : A) (xs : List A) → p x ≡ false → position p (x ∷ xs) ≡ option_map suc (position p xs)
 first_later p x xs e = rw e (grind (arith, nat_tests))
 
-none_later : (o : Option ℕ) → option_map suc o ≡ None → o ≡ None
+pub none_later : (o : Option ℕ) → option_map suc o ≡ None → o ≡ None
 none_later None e = refl
 none_later (Some j) e = absurd (cc)
 
@@ -37,11 +37,11 @@ placed_later name p ps i x at later = record {
       ∙ ap (t.pair (tree p.0) (tree p.1)) (later.entries y same);
 }
 
-same_place : (o : Option ℕ) (i : ℕ) → option_map suc o ≡ Some (suc i) → o ≡ Some i
+pub same_place : (o : Option ℕ) (i : ℕ) → option_map suc o ≡ Some (suc i) → o ≡ Some i
 same_place None i e = absurd (cc)
 same_place (Some j) i e = cc
 
-never_first : (o : Option ℕ) → option_map suc o ≡ Some 0 → ⊥
+pub never_first : (o : Option ℕ) → option_map suc o ≡ Some 0 → ⊥
 never_first None e = absurd (cc)
 never_first (Some j) e = absurd (cc)
 
@@ -58,7 +58,7 @@ placed name (p ∷ ps) (suc i) x e is = by (is_at name p) refl (λ f. placed nam
     by true at later = let none : Some 0 ≡ Some (suc i) = sym (first_here (is_at name) p ps at) ∙ e in absurd (cc)
     by false at later = placed_later name p ps i x at (later (same_place (position (is_at name) ps) i (sym (first_later (is_at name) p ps at) ∙ e)))
 
-not_none : (o : Option ℕ) → o ≡ Some 0 → o ≡ None → ⊥
+pub not_none : (o : Option ℕ) → o ≡ Some 0 → o ≡ None → ⊥
 not_none None a b = absurd (cc)
 not_none (Some n) a b = absurd (cc)
 
@@ -117,13 +117,13 @@ item_beyond [] (suc n) v large = refl
 item_beyond (x ∷ xs) zero v large = absurd (omega arith)
 item_beyond (x ∷ xs) (suc n) v large = ap (option_map (t.tree (tree x))) (item_beyond xs n v (omega arith))
 
-item_none : (xs : List Content) (n : ℕ) → length xs ≤ n → item_at n (item_trees xs) ≡ None
+pub item_none : (xs : List Content) (n : ℕ) → length xs ≤ n → item_at n (item_trees xs) ≡ None
 item_none [] zero large = refl
 item_none [] (suc n) large = refl
 item_none (x ∷ xs) zero large = absurd (omega arith)
 item_none (x ∷ xs) (suc n) large = item_none xs n (omega arith)
 
-same_item : (n : ℕ) (items : t.Trees) (v : t.Tree) → item_at n items ≡ Some v → with_item n v items ≡ Some items
+pub same_item : (n : ℕ) (items : t.Trees) (v : t.Tree) → item_at n items ≡ Some v → with_item n v items ≡ Some items
 same_item zero t.no_trees v e = absurd (cc)
 same_item (suc n) t.no_trees v e = absurd (cc)
 same_item zero (t.tree x xs) v e = let same : v ≡ x = cc in ap (λ z. Some (t.tree z xs)) same

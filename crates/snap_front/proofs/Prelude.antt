@@ -4,7 +4,7 @@ pub use Rattle.std.specs.Prelude.{option_copied, position, ◌==◌}
 pub use Rattle.std.proofs.lemmas.Bool.{eqb-true, eqb-false}
 pub use Rattle.std.proofs.lemmas.List.{drop_all}
 pub use Rattle.std.proofs.lemmas.List.Folds.{concat-append}
-pub use Rattle.std.specs.List.{concat}
+pub use Rattle.std.specs.List.{concat, remove}
 pub use Rattle.std.specs.Str.{bytes_eq}
 unfoldable pub use Rattle.std.specs.Str.{chars}
 pub use Rattle.snap_content.specs.View.{tree, item_list, item_trees, pair_list, pair_trees, Pairs}
@@ -20,3 +20,4 @@ pub use Rattle.snap_select.specs.declared.segment.Segment.{Segment}
 pub use Rattle.snap_select.specs.Parts.{Parts}
 pub use Rattle.snap_select.specs.Selectors.{parts_of}
 pub use Rattle.snap_front.specs.Setting.{IsSet}
+pub use Rattle.snap_front.specs.Removing.{IsRemoved}

@@ -2,3 +2,4 @@ pub mod Split
 pub mod TreePaths
 pub mod Paths
 pub mod Setting
+pub mod Removing

@@ -16,7 +16,7 @@ use std::alloc::Global;
 use std::mem;
 
 /// Where the first entry with that key stands.
-fn key_at(pairs: &[(Content, Content)], name: &str) -> Option<usize>
+pub(crate) fn key_at(pairs: &[(Content, Content)], name: &str) -> Option<usize>
     ensures { result ≡ position (λ pair. is_key (chars name.now) (tree pair.0)) pairs.now }
 {
     pairs.iter().position(|pair| is_key(&pair.0, name))
