@@ -3,3 +3,13 @@ mod Found
 mod Splitting
 mod Placed
 mod Taken
+mod Named
+mod Bodies
+mod Putting
+mod OneDocument
+mod Again
+mod Nulls
+mod Read
+mod Storing
+mod Running
+mod PathWords

@@ -3,3 +3,11 @@ pub mod TreePaths
 pub mod Paths
 pub mod Setting
 pub mod Removing
+pub mod Reading
+pub mod Documents
+pub mod Commands
+pub mod Heads
+pub mod Runs
+pub mod Stored
+pub mod Wanted
+pub mod Front
