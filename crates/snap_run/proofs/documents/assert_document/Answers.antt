@@ -3,6 +3,9 @@ use Rattle.std.proofs.lemmas.Result.{err_from_is_err_and}
 use Rattle.snap_run.proofs.DocumentEnds.{path_is, printed_is, asked_is, document_answered, unread_stops, refused_stops, refused_count}
 use Rattle.snap_assert.proofs.GivenNames.{given_done, given_cause}
 use Rattle.snap_run_requests.specs.RequestOf.{request_of}
+use Rattle.snap_print.specs.Blocks.{blocks_if}
+use Rattle.snap_assert_place.specs.Place.{place_of}
+use Rattle.snap_assert_settings.specs.Settings.{settings_of}
 use Rattle.snap_run.proofs.documents.assert_document.Goals as goal
 
 pub returns-in_err-request-clause-err : goal.returns-in_err-request-clause-err
@@ -30,7 +33,9 @@ returns-in_err-outcome-clause-err g c =
     let told = err_from_is_err_and c.from_residual-in_err-outcome.result c.from_residual-in_err-outcome.ensures.1 in
     rw (told.1, told.2)
     (refused_stops c.args.runner.now c.args.document.now (request_of c.in_ok-request.request) _ _ _ _ _ c.in_err-outcome.field-0.0
-    (given_cause _ _ _ _ _ _ _ _ _ _ c.in_err-outcome.field-0.0 (ap (λ s. s.blocks) c.requires.fresh) c.in_err-outcome.ensures.stopped c.in_err-outcome.ensures.cause) (c.in_err-outcome.ensures.named _ refl) c.in_ok-request.ensures.ok
+    (given_cause (blocks_if c.args.runner.now.config.literal) (settings_of c.in-Ok.settings) (place_of c.in-Ok-place_of_request.place) c.in_ok-request.request.name
+    (g.F.Store.files c.args.store.now) (g.F.Store.files c.assert_content-outcome.new.store) _ _ _ _ c.in_err-outcome.field-0.0
+    (ap (λ s. s.blocks) c.requires.fresh) c.in_err-outcome.ensures.stopped c.in_err-outcome.ensures.cause) (c.in_err-outcome.ensures.named _ refl) c.in_ok-request.ensures.ok
     (path_is _ _ (words_of c.args.runner.now) (request_of c.in_ok-request.request) c.in-Ok.ensures.settings c.in-Ok-place_of_request.ensures)
     (c.in_err-outcome.ensures.kept _ refl))
 
@@ -38,7 +43,9 @@ pub returns-in_err-outcome-clause-store_count : goal.returns-in_err-outcome-clau
 returns-in_err-outcome-clause-store_count g c =
     let told = err_from_is_err_and c.from_residual-in_err-outcome.result c.from_residual-in_err-outcome.ensures.1 in
     rw (told.1, told.2) (refused_count _ _ c.in_err-outcome.field-0.0
-    (given_cause _ _ _ _ _ _ _ _ _ _ c.in_err-outcome.field-0.0 (ap (λ s. s.blocks) c.requires.fresh) c.in_err-outcome.ensures.stopped c.in_err-outcome.ensures.cause))
+    (given_cause (blocks_if c.args.runner.now.config.literal) (settings_of c.in-Ok.settings) (place_of c.in-Ok-place_of_request.place) c.in_ok-request.request.name
+    (g.F.Store.files c.args.store.now) (g.F.Store.files c.assert_content-outcome.new.store) _ _ _ _ c.in_err-outcome.field-0.0
+    (ap (λ s. s.blocks) c.requires.fresh) c.in_err-outcome.ensures.stopped c.in_err-outcome.ensures.cause))
 
 pub returns-clause-fresh : goal.returns-clause-fresh
 returns-clause-fresh g c = (given_done _ _ _ _ _ _ _ _ refl (ap (λ s. s.blocks) c.requires.fresh) c.in_ok-outcome.ensures.answered.2).1 ∙ c.requires.fresh
