@@ -14,5 +14,6 @@ mod Innermost
 mod Counters
 pub mod Refusals
 mod Printing
+mod NameSteps
 pub mod GivenNames
 mod Calls
