@@ -13,3 +13,4 @@ mod Read
 mod Storing
 mod Running
 mod PathWords
+mod RunLeft

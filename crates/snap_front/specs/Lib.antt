@@ -11,3 +11,5 @@ pub mod Runs
 pub mod Stored
 pub mod Wanted
 pub mod Front
+pub mod Describe
+pub mod Program
