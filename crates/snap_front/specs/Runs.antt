@@ -76,6 +76,7 @@ abbrev pub HeaderReads : Option (List ℕ × List ℕ) → Type 0
 HeaderReads (Some parts) = (p : Plain) × ReadsAs parts.0 p
 HeaderReads None = Unit {0}
 
+-- the header of each document that is put reads so
 abbrev pub AllRead : List CommandView → Type 0
 AllRead [] = Unit {0}
 AllRead (puts name text ∷ cs) = HeaderReads (front_read text) × AllRead cs
