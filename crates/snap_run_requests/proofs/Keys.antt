@@ -1,13 +1,13 @@
 -- The keys of pairs, and how often each stands there.
-use Rattle.snap_run_requests.proofs.Prelude.{◌≡◌, ℕ, arith, ◌<◌, ◌≤◌, ◌+◌, ◌&&◌, Bool, true, false, not, List, [], ◌∷◌, map, cond, take, take_all, Option, None, Some, option_map, get_or, length, refl, ap, sym, ◌∙◌, slice_get, list_all, count_by, tree, pair_trees, Content}
+use Rattle.snap_run_requests.proofs.Prelude.{◌≡◌, ℕ, arith, ◌<◌, ◌≤◌, ◌+◌, ◌&&◌, Bool, true, false, List, [], ◌∷◌, map, cond, take, take_all, Some, option_map, get_or, length, refl, ap, sym, ◌∙◌, slice_get, list_all, count_by, tree, pair_trees, Content}
 use Rattle.std.proofs.lemmas.Option.{slice_get-get_or, slice_get-map}
 use Rattle.std.proofs.lemmas.List.Folds.{list_all-map, list_all_more}
 use Rattle.std.proofs.lemmas.List.Sums.{sum_by-cons}
-use Rattle.snap_content.specs.Tree.{Tree, TreePairs}
-use Rattle.snap_run_requests.specs.Keys.{keys_in, name_of, times, is_one_of}
+use Rattle.snap_content.specs.Tree.{Tree}
+use Rattle.snap_run_requests.specs.Keys.{keys_in, is_one_of}
 use Rattle.snap_run_requests.specs.Faults.{IsUnknownAt}
 use Rattle.snap_run_requests.specs.declared.key.Key.{Key}
-use Rattle.snap_run_requests.specs.declared.key.Key.TheVariants.{Module, File, Line, Name, Expr, Value, Redactions, Sort, At, Put}
+use Rattle.snap_run_requests.specs.declared.key.Key.TheVariants.{Module, File, Line, Name, Function, Suffix, Expr, Value, Redactions, Sort, At, Put, Duplicates}
 
 abbrev pub key_of : Content × Content → Tree
 key_of q = tree q.0
@@ -47,17 +47,20 @@ unknown_at keys qs i q within is other = record {
 }
 
 abbrev pub all_keys : List Key
-all_keys = Module ∷ File ∷ Line ∷ Name ∷ Expr ∷ Value ∷ Redactions ∷ Sort ∷ At ∷ Put ∷ []
+all_keys = Module ∷ File ∷ Line ∷ Name ∷ Function ∷ Suffix ∷ Expr ∷ Value ∷ Redactions ∷ Sort ∷ At ∷ Put ∷ Duplicates ∷ []
 
 -- what holds of each key of the list of all, holds of every key
-pub of_each : (P : Key → Type 0) → ((k : ℕ) → k < 10 → P (get_or all_keys k Module)) → (key : Key) → P key
+pub of_each : (P : Key → Type 0) → ((k : ℕ) → k < 13 → P (get_or all_keys k Module)) → (key : Key) → P key
 of_each P h Module = h 0 (omega arith)
 of_each P h File = h 1 (omega arith)
 of_each P h Line = h 2 (omega arith)
 of_each P h Name = h 3 (omega arith)
-of_each P h Expr = h 4 (omega arith)
-of_each P h Value = h 5 (omega arith)
-of_each P h Redactions = h 6 (omega arith)
-of_each P h Sort = h 7 (omega arith)
-of_each P h At = h 8 (omega arith)
-of_each P h Put = h 9 (omega arith)
+of_each P h Function = h 4 (omega arith)
+of_each P h Suffix = h 5 (omega arith)
+of_each P h Expr = h 6 (omega arith)
+of_each P h Value = h 7 (omega arith)
+of_each P h Redactions = h 8 (omega arith)
+of_each P h Sort = h 9 (omega arith)
+of_each P h At = h 10 (omega arith)
+of_each P h Put = h 11 (omega arith)
+of_each P h Duplicates = h 12 (omega arith)

@@ -3,3 +3,4 @@ mod Cutting
 mod Keys
 mod RedactionsRead
 pub mod Requesting
+mod PairsFaults

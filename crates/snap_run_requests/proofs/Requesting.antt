@@ -1,5 +1,5 @@
 -- A tree is one request, or none for a reason.
-use Rattle.snap_run_requests.proofs.Prelude.{◌≡◌, ℕ, zero, suc, ◌+◌, ◌≤◌, ◌&&◌, Bool, true, false, is_some, List, [], ◌∷◌, Option, None, Some, refl, sym, ap, ◌∙◌, subst, arith, slice_get, list_all, chars, IsUtf8, Plain, content_of, MayBeReadAs, Result, Ok, Err, IsErrOf, option_and_then, tree_text, tree_line, selector_selected, ReplacementView, IsKeyFault, IsMapOf, IsTreeFault, IsTreeEnd, request_of, IsRedactionFault, IsReason, IsRefused, is_map, names_file, text_at, line_at, name_of, value_at, request_table, redaction_table, keys_in, is_one_of, IsKeyed, truth_of, list_of, Table, RequestView, IsRequest, IsRedaction, AreRedactions, AreRedactionsAt, Spells, ReadsAs, SelectsAt}
+use Rattle.snap_run_requests.proofs.Prelude.{◌≡◌, ℕ, zero, suc, ◌||◌, Bool, true, false, not, is_some, option_map, List, [], ◌∷◌, Option, None, Some, refl, sym, ap, ◌∙◌, subst, arith, slice_get, list_all, chars, IsUtf8, Plain, content_of, MayBeReadAs, Result, Ok, Err, IsErrOf, option_and_then, tree_text, tree_line, selector_selected, ReplacementView, IsKeyFault, IsMapOf, IsTreeFault, IsTreeEnd, IsAssertionFault, IsBlockFault, IsPairsFault, request_of, IsRedactionFault, IsReason, IsRefused, is_map, names_file, text_at, line_at, name_of, value_at, assertion_table, block_table, redaction_table, asks_for_block, has_name, is_block_word, keys_in, is_one_of, IsKeyed, truth_of, list_of, AssertionView, RequestView, asserts, begins, ends, IsAssertion, IsBlock, IsRequest, text_if, text_or_empty, IsRedaction, AreRedactions, AreRedactionsAt, Spells, ReadsAs}
 use Rattle.std.specs.Prelude.{unwrap_or}
 use Rattle.std.specs.Result.{MatchResult}
 use Rattle.snap_content.proofs.PlainMade.{plain_made}
@@ -13,10 +13,10 @@ use Rattle.snap_emit.proofs.OneText.{one_tree}
 use Rattle.snap_emit.specs.Spelled.{IsTextOf}
 use Rattle.snap_select.specs.Grammar.{IsSelector}
 use Rattle.snap_select.specs.Parts.{Parts}
-use Rattle.snap_run_requests.specs.Faults.{IsUnknownAt, IsWrongAt, HasNoSelector, HasNothingPut, HasBoth, HasNoFile, HasNoRedaction, IsNoneAt, MayBeRead, IsUnread, trees_in, is_true}
-use Rattle.snap_run_requests.specs.Requests.{IsListOf, put_by, sorted_if, sorted_by}
+use Rattle.snap_run_requests.specs.Faults.{IsUnknownAt, IsWrongAt, HasNoSelector, HasNothingPut, HasBoth, IsNoneAt, MayBeRead, trees_in, is_true}
+use Rattle.snap_run_requests.specs.Requests.{put_by, sorted_if, sorted_by}
 use Rattle.snap_run_requests.specs.declared.key.Key.{Key}
-use Rattle.snap_run_requests.specs.declared.key.Key.TheVariants.{Module, File, Line, Name, Expr, Value, Redactions, Sort, At, Put}
+use Rattle.snap_run_requests.specs.declared.key.Key.TheVariants.{Module, File, Line, Name, Function, Suffix, Expr, Value, Redactions, Sort, At, Put, Duplicates}
 use Rattle.snap_run_requests.specs.declared.fault.KeyFault.{KeyFault}
 use Rattle.snap_run_requests.specs.declared.fault.KeyFault.TheVariants.{Missing, Twice, Unknown, WrongKind}
 use Rattle.snap_run_requests.specs.declared.fault.RedactionFault.{RedactionFault}
@@ -69,35 +69,118 @@ wrong_sort (Some held) value sort there is fails =
     let clash = ap is_some (sym there) ∙ ap (λ v. is_some (truth_of v)) same ∙ fails in
     cc clash
 
-missing_key : (t : Tree) (r : RequestView) (q : IsRequest t r) (key : Key) → request_table.needs key ≡ true → value_at key q.pairs ≡ None → ⊥
+-- a text that may be missing is no other thing
+wrong_if : (o : Option Tree) (value : Tree) (name : Option (List ℕ)) → text_if o ≡ Some name → o ≡ Some value → is_some (tree_text value) ≡ false → ⊥
+wrong_if None value name there is fails = cc
+wrong_if (Some held) value name there is fails =
+    let same : held ≡ value = cc in
+    some_if (tree_text held) name there (ap (λ v. is_some (tree_text v)) same ∙ fails)
+  where
+    some_if : (o : Option (List ℕ)) (name : Option (List ℕ)) → option_map Some o ≡ Some name → is_some o ≡ false → ⊥
+    some_if None name there fails = cc
+    some_if (Some text) name there fails = cc
+
+wrong_or_empty : (o : Option Tree) (value : Tree) (text : List ℕ) → text_or_empty o ≡ Some text → o ≡ Some value → is_some (tree_text value) ≡ false → ⊥
+wrong_or_empty None value text there is fails = cc
+wrong_or_empty (Some held) value text there is fails =
+    let same : held ≡ value = cc in
+    let clash = ap is_some (sym there) ∙ ap (λ v. is_some (tree_text v)) same ∙ fails in
+    cc clash
+
+-- where no name stands, a function does
+uncalled : (named : Bool) (function : Option Tree) → named || is_some function ≡ true → not named ≡ true → function ≡ None → ⊥
+uncalled true function called needed none = cc
+uncalled false None called needed none = cc
+uncalled false (Some value) called needed none = cc
+
+missing_key : (t : Tree) (r : AssertionView) (q : IsAssertion t r) (key : Key) → assertion_table.needs q.pairs key ≡ true → value_at key q.pairs ≡ None → ⊥
 missing_key t r q Module needed none = missed tree_text _ _ q.module_name none
 missing_key t r q File needed none = missed tree_text _ _ q.file none
 missing_key t r q Line needed none = missed tree_line _ _ q.line none
-missing_key t r q Name needed none = missed tree_text _ _ q.name none
+missing_key t r q Name needed none = cc needed
+missing_key t r q Function needed none = uncalled (has_name q.pairs) (value_at Function q.pairs) q.called needed none
+missing_key t r q Suffix needed none = cc needed
 missing_key t r q Expr needed none = missed tree_text _ _ q.expr none
 missing_key t r q Value needed none = let clash = sym q.value ∙ none in cc clash
 missing_key t r q Redactions needed none = cc needed
 missing_key t r q Sort needed none = cc needed
 missing_key t r q At needed none = cc needed
 missing_key t r q Put needed none = cc needed
+missing_key t r q Duplicates needed none = cc needed
 
-wrong_key : (t : Tree) (r : RequestView) (q : IsRequest t r) (key : Key) → IsWrongAt request_table q.pairs key → ⊥
+wrong_key : (t : Tree) (r : AssertionView) (q : IsAssertion t r) (key : Key) → IsWrongAt assertion_table q.pairs key → ⊥
 wrong_key t r q Module w = wrong tree_text _ _ w.value q.module_name w.there w.wrong
 wrong_key t r q File w = wrong tree_text _ _ w.value q.file w.there w.wrong
 wrong_key t r q Line w = wrong tree_line _ _ w.value q.line w.there w.wrong
-wrong_key t r q Name w = wrong tree_text _ _ w.value q.name w.there w.wrong
+wrong_key t r q Name w = wrong_if _ w.value _ q.name w.there w.wrong
+wrong_key t r q Function w = wrong_or_empty _ w.value _ q.function w.there w.wrong
+wrong_key t r q Suffix w = wrong_or_empty _ w.value _ q.suffix w.there w.wrong
 wrong_key t r q Expr w = wrong tree_text _ _ w.value q.expr w.there w.wrong
 wrong_key t r q Value w = let clash = w.wrong in cc clash
 wrong_key t r q Redactions w = wrong_list _ w.value _ q.redactions w.there w.wrong
 wrong_key t r q Sort w = wrong_sort _ w.value _ q.sort w.there w.wrong
 wrong_key t r q At w = let clash = w.wrong in cc clash
 wrong_key t r q Put w = let clash = w.wrong in cc clash
+wrong_key t r q Duplicates w = let clash = w.wrong in cc clash
 
-key_fault : (t : Tree) (r : RequestView) (q : IsRequest t r) (fault : KeyFault) → IsKeyFault request_table q.pairs fault → ⊥
+key_fault : (t : Tree) (r : AssertionView) (q : IsAssertion t r) (fault : KeyFault) → IsKeyFault assertion_table q.pairs fault → ⊥
 key_fault t r q (Missing key) f = missing_key t r q key f.0 f.1
 key_fault t r q (Twice key) f = let few = q.keyed.once key in omega (arith, few, f)
-key_fault t r q (Unknown place) f = unknown_known request_table.keys q.pairs place q.keyed f
+key_fault t r q (Unknown place) f = unknown_known assertion_table.keys q.pairs place q.keyed f
 key_fault t r q (WrongKind key) f = wrong_key t r q key f
+
+-- the same of a block
+
+there_asks : (o : Option Tree) (word : List ℕ) → option_and_then tree_text o ≡ Some word → is_some o ≡ true
+there_asks None word there = cc
+there_asks (Some value) word there = refl
+
+asks : (t : Tree) (word : List ℕ) (q : IsBlock t word) → asks_for_block q.pairs ≡ true
+asks t word q = there_asks _ word q.there
+
+wrong_word : (o : Option Tree) (word : List ℕ) (value : Tree) → option_and_then tree_text o ≡ Some word → is_block_word (Some word) ≡ true → o ≡ Some value
+    → is_block_word (tree_text value) ≡ false → ⊥
+wrong_word None word value there is held fails = cc
+wrong_word (Some other) word value there is held fails =
+    let same : other ≡ value = cc in
+    let clash = sym is ∙ ap is_block_word (sym there) ∙ ap (λ v. is_block_word (tree_text v)) same ∙ fails in
+    cc clash
+
+block_missing : (t : Tree) (word : List ℕ) (q : IsBlock t word) (key : Key) → block_table.needs q.pairs key ≡ true → value_at key q.pairs ≡ None → ⊥
+block_missing t word q Duplicates needed none = missed tree_text _ _ q.there none
+block_missing t word q Module needed none = cc needed
+block_missing t word q File needed none = cc needed
+block_missing t word q Line needed none = cc needed
+block_missing t word q Name needed none = cc needed
+block_missing t word q Function needed none = cc needed
+block_missing t word q Suffix needed none = cc needed
+block_missing t word q Expr needed none = cc needed
+block_missing t word q Value needed none = cc needed
+block_missing t word q Redactions needed none = cc needed
+block_missing t word q Sort needed none = cc needed
+block_missing t word q At needed none = cc needed
+block_missing t word q Put needed none = cc needed
+
+block_wrong : (t : Tree) (word : List ℕ) (q : IsBlock t word) (key : Key) → is_block_word (Some word) ≡ true → IsWrongAt block_table q.pairs key → ⊥
+block_wrong t word q Duplicates is w = wrong_word _ word w.value q.there is w.there w.wrong
+block_wrong t word q Module is w = let clash = w.wrong in cc clash
+block_wrong t word q File is w = let clash = w.wrong in cc clash
+block_wrong t word q Line is w = let clash = w.wrong in cc clash
+block_wrong t word q Name is w = let clash = w.wrong in cc clash
+block_wrong t word q Function is w = let clash = w.wrong in cc clash
+block_wrong t word q Suffix is w = let clash = w.wrong in cc clash
+block_wrong t word q Expr is w = let clash = w.wrong in cc clash
+block_wrong t word q Value is w = let clash = w.wrong in cc clash
+block_wrong t word q Redactions is w = let clash = w.wrong in cc clash
+block_wrong t word q Sort is w = let clash = w.wrong in cc clash
+block_wrong t word q At is w = let clash = w.wrong in cc clash
+block_wrong t word q Put is w = let clash = w.wrong in cc clash
+
+block_key : (t : Tree) (word : List ℕ) (q : IsBlock t word) (fault : KeyFault) → is_block_word (Some word) ≡ true → IsKeyFault block_table q.pairs fault → ⊥
+block_key t word q (Missing key) is f = block_missing t word q key f.0 f.1
+block_key t word q (Twice key) is f = let few = q.keyed.once key in omega (arith, few, f)
+block_key t word q (Unknown place) is f = unknown_known block_table.keys q.pairs place q.keyed f
+block_key t word q (WrongKind key) is f = block_wrong t word q key is f
 
 -- the same of redactions
 
@@ -126,12 +209,15 @@ sort_put None (Some held) p value is there fails =
 sort_put (Some put) None p value is there fails = cc
 sort_put (Some put) (Some held) p value is there fails = cc
 
-redaction_missing : (t : Tree) (r : ReplacementView) (q : IsRedaction t r) (key : Key) → redaction_table.needs key ≡ true → value_at key q.pairs ≡ None → ⊥
+redaction_missing : (t : Tree) (r : ReplacementView) (q : IsRedaction t r) (key : Key) → redaction_table.needs q.pairs key ≡ true → value_at key q.pairs ≡ None → ⊥
 redaction_missing t r q At needed none = missed tree_text _ _ q.selector.there none
 redaction_missing t r q Module needed none = cc needed
 redaction_missing t r q File needed none = cc needed
 redaction_missing t r q Line needed none = cc needed
 redaction_missing t r q Name needed none = cc needed
+redaction_missing t r q Function needed none = cc needed
+redaction_missing t r q Suffix needed none = cc needed
+redaction_missing t r q Duplicates needed none = cc needed
 redaction_missing t r q Expr needed none = cc needed
 redaction_missing t r q Value needed none = cc needed
 redaction_missing t r q Redactions needed none = cc needed
@@ -145,6 +231,9 @@ redaction_wrong t r q Module w = let clash = w.wrong in cc clash
 redaction_wrong t r q File w = let clash = w.wrong in cc clash
 redaction_wrong t r q Line w = let clash = w.wrong in cc clash
 redaction_wrong t r q Name w = let clash = w.wrong in cc clash
+redaction_wrong t r q Function w = let clash = w.wrong in cc clash
+redaction_wrong t r q Suffix w = let clash = w.wrong in cc clash
+redaction_wrong t r q Duplicates w = let clash = w.wrong in cc clash
 redaction_wrong t r q Expr w = let clash = w.wrong in cc clash
 redaction_wrong t r q Value w = let clash = w.wrong in cc clash
 redaction_wrong t r q Redactions w = let clash = w.wrong in cc clash
@@ -190,19 +279,46 @@ no_redactions (Some value) rs items place fault are there none =
     let same : items ≡ are.items = cc (there, are.is) in
     no_item are.items rs place none.item fault are.each (ap (λ x. slice_get (trees_in x) place) (sym same) ∙ none.there) none.holds
 
+no_assertion : (t : Tree) (r : AssertionView) (why : Reason) (q : IsAssertion t r) → IsAssertionFault q.pairs why → ⊥
+no_assertion t r (reason.Key fault) q f = key_fault t r q fault f.holds
+no_assertion t r reason.NoFile q f =
+    let clash = sym f.other ∙ ap names_file (one_text _ f.file r.file f.there q.file) ∙ q.of_file in
+    cc clash
+no_assertion t r (reason.NoRedaction place fault) q f = no_redactions _ r.redactions f.items place fault q.redactions f.there f.none
+no_assertion t r (reason.NotUtf8 place) q f = f
+no_assertion t r (reason.NoTree refusal) q f = f
+no_assertion t r reason.NoMap q f = f
+
+no_block : (t : Tree) (word : List ℕ) (why : Reason) (q : IsBlock t word) → is_block_word (Some word) ≡ true → IsBlockFault q.pairs why → ⊥
+no_block t word (reason.Key fault) q is f = block_key t word q fault is f.holds
+no_block t word reason.NoFile q is f = f
+no_block t word (reason.NoRedaction place fault) q is f = f
+no_block t word (reason.NotUtf8 place) q is f = f
+no_block t word (reason.NoTree refusal) q is f = f
+no_block t word reason.NoMap q is f = f
+
+-- what is wrong with the pairs of a map is wrong with those of the request
+none_of : (t : Tree) (r : RequestView) (why : Reason) → IsMapOf t (λ pairs. IsPairsFault (asks_for_block pairs) pairs why) → IsRequest t r → ⊥
+none_of t (asserts r) why f q =
+    no_assertion t r why q (subst (λ b. IsPairsFault b q.pairs why) q.no_block (moved t (λ pairs. IsPairsFault (asks_for_block pairs) pairs why) q.pairs q.is f))
+none_of t begins why f q =
+    no_block t _ why q refl (subst (λ b. IsPairsFault b q.pairs why) (asks t _ q) (moved t (λ pairs. IsPairsFault (asks_for_block pairs) pairs why) q.pairs q.is f))
+none_of t ends why f q =
+    no_block t _ why q refl (subst (λ b. IsPairsFault b q.pairs why) (asks t _ q) (moved t (λ pairs. IsPairsFault (asks_for_block pairs) pairs why) q.pairs q.is f))
+
+no_map_of : (t : Tree) (r : RequestView) → is_map t ≡ false → IsRequest t r → ⊥
+no_map_of t (asserts r) f q = no_map t q.pairs q.is f
+no_map_of t begins f q = no_map t q.pairs q.is f
+no_map_of t ends f q = no_map t q.pairs q.is f
+
 -- no tree is a request that has a fault
 pub no_request : (t : Tree) (r : RequestView) (why : Reason) → IsTreeFault t why → IsRequest t r → ⊥
 no_request t r (reason.NotUtf8 place) f q = f
 no_request t r (reason.NoTree refusal) f q = f
-no_request t r reason.NoMap f q = no_map t q.pairs q.is f
-no_request t r (reason.Key fault) f q = key_fault t r q fault (moved t _ q.pairs q.is f)
-no_request t r reason.NoFile f q =
-    let h = moved t HasNoFile q.pairs q.is f in
-    let clash = sym h.other ∙ ap names_file (one_text _ h.file r.file h.there q.file) ∙ q.of_file in
-    cc clash
-no_request t r (reason.NoRedaction place fault) f q =
-    let h = moved t (λ pairs. HasNoRedaction pairs place fault) q.pairs q.is f in
-    no_redactions _ r.redactions h.items place fault q.redactions h.there h.none
+no_request t r reason.NoMap f q = no_map_of t r f q
+no_request t r (reason.Key fault) f q = none_of t r (reason.Key fault) f q
+no_request t r reason.NoFile f q = none_of t r reason.NoFile f q
+no_request t r (reason.NoRedaction place fault) f q = none_of t r (reason.NoRedaction place fault) f q
 
 -- a document that may be read as a tree with a fault spells no request
 none_read : (document : List ℕ) (why : Reason) (r : RequestView) → MayBeRead document (λ t. IsTreeFault t why) → Spells document r → ⊥
@@ -286,38 +402,78 @@ one_list (Some value) rs ss h k =
 one_some : {A : Type 0} (o : Option A) (a b : A) → o ≡ Some a → o ≡ Some b → a ≡ b
 one_some o a b h k = cc
 
--- what stands at the keys of a request
-record IsRequestOf (pairs : TreePairs) (request : RequestView) : Type 0 where
-  module_name : text_at (name_of Module) pairs ≡ Some request.module_name
-  file : text_at (name_of File) pairs ≡ Some request.file
-  line : line_at (name_of Line) pairs ≡ Some request.line
-  name : text_at (name_of Name) pairs ≡ Some request.name
-  expr : text_at (name_of Expr) pairs ≡ Some request.expr
-  value : value_at Value pairs ≡ Some request.value
-  redactions : AreRedactionsAt (value_at Redactions pairs) request.redactions
-  sort : sorted_by (value_at Sort pairs) ≡ Some request.sort
+-- what stands at the keys of an assertion
+record IsAssertionOf (pairs : TreePairs) (r : AssertionView) : Type 0 where
+  module_name : text_at (name_of Module) pairs ≡ Some r.module_name
+  file : text_at (name_of File) pairs ≡ Some r.file
+  line : line_at (name_of Line) pairs ≡ Some r.line
+  name : text_if (value_at Name pairs) ≡ Some r.name
+  function : text_or_empty (value_at Function pairs) ≡ Some r.function
+  suffix : text_or_empty (value_at Suffix pairs) ≡ Some r.suffix
+  expr : text_at (name_of Expr) pairs ≡ Some r.expr
+  value : value_at Value pairs ≡ Some r.value
+  redactions : AreRedactionsAt (value_at Redactions pairs) r.redactions
+  sort : sorted_by (value_at Sort pairs) ≡ Some r.sort
 
-at_pairs : (t : Tree) (r : RequestView) (qs : TreePairs) (h : IsRequest t r) → h.pairs ≡ qs → IsRequestOf qs r
+at_pairs : (t : Tree) (r : AssertionView) (qs : TreePairs) (h : IsAssertion t r) → h.pairs ≡ qs → IsAssertionOf qs r
 at_pairs t r qs h same =
-    let here : IsRequestOf h.pairs r =
-    record { module_name = h.module_name; file = h.file; line = h.line; name = h.name; expr = h.expr; value = h.value; redactions = h.redactions; sort = h.sort } in
-    subst (λ ps. IsRequestOf ps r) same here
+    let here : IsAssertionOf h.pairs r =
+    record {
+      module_name = h.module_name;
+      file = h.file;
+      line = h.line;
+      name = h.name;
+      function = h.function;
+      suffix = h.suffix;
+      expr = h.expr;
+      value = h.value;
+      redactions = h.redactions;
+      sort = h.sort;
+    } in
+    subst (λ ps. IsAssertionOf ps r) same here
+
+one_assertion : (t : Tree) (a b : AssertionView) → IsAssertion t a → IsAssertion t b → a ≡ b
+one_assertion t a b h k =
+    let pairs = same_pairs t h.pairs k.pairs h.is k.is in
+    let there : IsAssertionOf k.pairs a = at_pairs t a k.pairs h pairs in
+    let redactions = one_list (value_at Redactions k.pairs) a.redactions b.redactions there.redactions k.redactions in
+    let made : List ℕ → List ℕ → ℕ → Option (List ℕ) → List ℕ → List ℕ → List ℕ → Tree → List ReplacementView → Bool → AssertionView =
+    λ m f l n fn su e v rs s.
+    record { module_name = m; file = f; line = l; name = n; function = fn; suffix = su; expr = e; value = v; redactions = rs; sort = s } in
+    ap (λ x. made x a.file a.line a.name a.function a.suffix a.expr a.value a.redactions a.sort) (one_some _ _ _ there.module_name k.module_name)
+    ∙ ap (λ x. made b.module_name x a.line a.name a.function a.suffix a.expr a.value a.redactions a.sort) (one_some _ _ _ there.file k.file)
+    ∙ ap (λ x. made b.module_name b.file x a.name a.function a.suffix a.expr a.value a.redactions a.sort) (one_some _ _ _ there.line k.line)
+    ∙ ap (λ x. made b.module_name b.file b.line x a.function a.suffix a.expr a.value a.redactions a.sort) (one_some _ _ _ there.name k.name)
+    ∙ ap (λ x. made b.module_name b.file b.line b.name x a.suffix a.expr a.value a.redactions a.sort) (one_some _ _ _ there.function k.function)
+    ∙ ap (λ x. made b.module_name b.file b.line b.name b.function x a.expr a.value a.redactions a.sort) (one_some _ _ _ there.suffix k.suffix)
+    ∙ ap (λ x. made b.module_name b.file b.line b.name b.function b.suffix x a.value a.redactions a.sort) (one_some _ _ _ there.expr k.expr)
+    ∙ ap (λ x. made b.module_name b.file b.line b.name b.function b.suffix b.expr x a.redactions a.sort) (one_some _ _ _ there.value k.value)
+    ∙ ap (λ x. made b.module_name b.file b.line b.name b.function b.suffix b.expr b.value x a.sort) redactions
+    ∙ ap (λ x. made b.module_name b.file b.line b.name b.function b.suffix b.expr b.value b.redactions x) (one_some _ _ _ there.sort k.sort)
+
+-- an assertion is no block
+not_both : (t : Tree) (r : AssertionView) (word : List ℕ) → IsAssertion t r → IsBlock t word → ⊥
+not_both t r word h k =
+    let pairs = same_pairs t h.pairs k.pairs h.is k.is in
+    let clash = sym h.no_block ∙ ap asks_for_block pairs ∙ asks t word k in
+    cc clash
+
+-- a block has one word
+one_word : (t : Tree) (a b : List ℕ) → IsBlock t a → IsBlock t b → a ≡ b
+one_word t a b h k =
+    let pairs = same_pairs t h.pairs k.pairs h.is k.is in
+    one_some _ a b (ap (λ ps. text_at (name_of Duplicates) ps) (sym pairs) ∙ h.there) k.there
 
 pub one_request : (t : Tree) (a b : RequestView) → IsRequest t a → IsRequest t b → a ≡ b
-one_request t a b h k =
-    let pairs = same_pairs t h.pairs k.pairs h.is k.is in
-    let there : IsRequestOf k.pairs a = at_pairs t a k.pairs h pairs in
-    let redactions = one_list (value_at Redactions k.pairs) a.redactions b.redactions there.redactions k.redactions in
-    let made : List ℕ → List ℕ → ℕ → List ℕ → List ℕ → Tree → List ReplacementView → Bool → RequestView =
-    λ m f l n e v rs s. record { module_name = m; file = f; line = l; name = n; expr = e; value = v; redactions = rs; sort = s } in
-    ap (λ x. made x a.file a.line a.name a.expr a.value a.redactions a.sort) (one_some _ _ _ there.module_name k.module_name)
-    ∙ ap (λ x. made b.module_name x a.line a.name a.expr a.value a.redactions a.sort) (one_some _ _ _ there.file k.file)
-    ∙ ap (λ x. made b.module_name b.file x a.name a.expr a.value a.redactions a.sort) (one_some _ _ _ there.line k.line)
-    ∙ ap (λ x. made b.module_name b.file b.line x a.expr a.value a.redactions a.sort) (one_some _ _ _ there.name k.name)
-    ∙ ap (λ x. made b.module_name b.file b.line b.name x a.value a.redactions a.sort) (one_some _ _ _ there.expr k.expr)
-    ∙ ap (λ x. made b.module_name b.file b.line b.name b.expr x a.redactions a.sort) (one_some _ _ _ there.value k.value)
-    ∙ ap (λ x. made b.module_name b.file b.line b.name b.expr b.value x a.sort) redactions
-    ∙ ap (λ x. made b.module_name b.file b.line b.name b.expr b.value b.redactions x) (one_some _ _ _ there.sort k.sort)
+one_request t (asserts a) (asserts b) h k = ap asserts (one_assertion t a b h k)
+one_request t (asserts a) begins h k = absurd (not_both t a _ h k)
+one_request t (asserts a) ends h k = absurd (not_both t a _ h k)
+one_request t begins (asserts b) h k = absurd (not_both t b _ k h)
+one_request t begins begins h k = refl
+one_request t begins ends h k = let clash = one_word t _ _ h k in absurd (cc clash)
+one_request t ends (asserts b) h k = absurd (not_both t b _ k h)
+one_request t ends begins h k = let clash = one_word t _ _ h k in absurd (cc clash)
+one_request t ends ends h k = refl
 
 -- a document that spells a request is read as that one
 pub reads_as : (document : List ℕ) (r : RequestView) → Spells document r → ReadsAs document r

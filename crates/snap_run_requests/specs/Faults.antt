@@ -13,7 +13,7 @@ use Rattle.snap_emit.specs.Readings.{IsReasonIn, IsReasonOf}
 use Rattle.snap_emit.specs.declared.refusal.Refusal.{Refusal}
 use Rattle.snap_fields.specs.Fields.{text_at, tree_text}
 use Rattle.snap_assert_place.specs.Place.{names_file}
-use Rattle.snap_run_requests.specs.Keys.{Table, request_table, redaction_table, name_of, keys_in, value_at, times, is_one_of, truth_of, list_of}
+use Rattle.snap_run_requests.specs.Keys.{Table, assertion_table, block_table, redaction_table, asks_for_block, name_of, keys_in, value_at, times, is_one_of, truth_of, list_of}
 use Rattle.snap_run_requests.specs.declared.key.Key.{Key}
 use Rattle.snap_run_requests.specs.declared.key.Key.TheVariants.{File, Redactions, Sort, At, Put}
 use Rattle.snap_run_requests.specs.declared.fault.KeyFault.{KeyFault}
@@ -42,15 +42,19 @@ pub record IsWrongAt (table : Table) (pairs : TreePairs) (key : Key) : Type 0 wh
 -- what is wrong with the keys of pairs: a key that is needed is not there, one stands twice, one is none of the table's, or the
 -- value at one is not of its kind
 abbrev pub IsKeyFault : Table → TreePairs → KeyFault → Type 0
-IsKeyFault table pairs (Missing key) = (table.needs key ≡ true) × (value_at key pairs ≡ None)
+IsKeyFault table pairs (Missing key) = (table.needs pairs key ≡ true) × (value_at key pairs ≡ None)
 IsKeyFault table pairs (Twice key) = 2 ≤ times key pairs
 IsKeyFault table pairs (Unknown place) = IsUnknownAt table.keys pairs place
 IsKeyFault table pairs (WrongKind key) = IsWrongAt table pairs key
 
 -- the table needs a text at the key
-pub record NeedsText (table : Table) (key : Key) : Type 0 where
-  pub needed : table.needs key ≡ true
+pub record NeedsText (table : Table) (pairs : TreePairs) (key : Key) : Type 0 where
+  pub needed : table.needs pairs key ≡ true
   pub takes : (value : Tree) → table.takes key value ≡ is_some (tree_text value)
+
+-- the table takes nothing but texts at the key
+pub record TakesText (table : Table) (key : Key) : Type 0 where
+  pub refuses : (value : Tree) → is_some (tree_text value) ≡ false → table.takes key value ≡ false
 
 abbrev pub is_map : Tree → Bool
 is_map (map pairs) = true
@@ -133,14 +137,38 @@ pub record HasNoRedaction (pairs : TreePairs) (place : ℕ) (fault : RedactionFa
   pub there : option_and_then list_of (value_at Redactions pairs) ≡ Some items
   pub none : IsNoneAt items place fault
 
+-- this is wrong with the keys of pairs
+pub record HasKeyFault (table : Table) (pairs : TreePairs) (fault : KeyFault) : Type 0 where
+  pub holds : IsKeyFault table pairs fault
+
+-- why pairs are no assertion
+abbrev pub IsAssertionFault : TreePairs → Reason → Type 0
+IsAssertionFault pairs (reason.Key fault) = HasKeyFault assertion_table pairs fault
+IsAssertionFault pairs reason.NoFile = HasNoFile pairs
+IsAssertionFault pairs (reason.NoRedaction place fault) = HasNoRedaction pairs place fault
+IsAssertionFault pairs _ = ⊥
+
+-- memory was short, or that is why pairs are no assertion
+abbrev pub IsAssertionEnd : TreePairs → RequestError → Type 0
+IsAssertionEnd pairs (end.NoRequest why) = IsAssertionFault pairs why
+IsAssertionEnd pairs end.OutOfMemory = Unit {0}
+
+-- why pairs are no request for a block
+abbrev pub IsBlockFault : TreePairs → Reason → Type 0
+IsBlockFault pairs (reason.Key fault) = HasKeyFault block_table pairs fault
+IsBlockFault pairs _ = ⊥
+
+-- why pairs are no request, by whether they ask for a block
+abbrev pub IsPairsFault : Bool → TreePairs → Reason → Type 0
+IsPairsFault true pairs why = IsBlockFault pairs why
+IsPairsFault false pairs why = IsAssertionFault pairs why
+
 -- why a tree is no request
 abbrev pub IsTreeFault : Tree → Reason → Type 0
 IsTreeFault t (reason.NotUtf8 place) = ⊥
 IsTreeFault t (reason.NoTree refusal) = ⊥
 IsTreeFault t reason.NoMap = is_map t ≡ false
-IsTreeFault t (reason.Key fault) = IsMapOf t (λ pairs. IsKeyFault request_table pairs fault)
-IsTreeFault t reason.NoFile = IsMapOf t HasNoFile
-IsTreeFault t (reason.NoRedaction place fault) = IsMapOf t (λ pairs. HasNoRedaction pairs place fault)
+IsTreeFault t why = IsMapOf t (λ pairs. IsPairsFault (asks_for_block pairs) pairs why)
 
 -- memory was short, or that is why the tree is no request
 abbrev pub IsTreeEnd : Tree → RequestError → Type 0

@@ -10,6 +10,8 @@ pub enum Key {
     File,
     Line,
     Name,
+    Function,
+    Suffix,
     Expr,
     Value,
     Redactions,
@@ -17,6 +19,8 @@ pub enum Key {
     Sort,
     At,
     Put,
+    /// Of a request that opens or closes a block.
+    Duplicates,
 }
 
 impl Key {
@@ -24,30 +28,38 @@ impl Key {
     ghost use Rattle.snap_run_requests.specs.Keys.{name_of};
 
     /// Each key.
-    pub const ALL: [Key; 10] = [
+    pub const ALL: [Key; 13] = [
         Key::Module,
         Key::File,
         Key::Line,
         Key::Name,
+        Key::Function,
+        Key::Suffix,
         Key::Expr,
         Key::Value,
         Key::Redactions,
         Key::Sort,
         Key::At,
         Key::Put,
+        Key::Duplicates,
     ];
 
-    /// The keys that a request may have.
-    pub const OF_REQUEST: [Key; 8] = [
+    /// The keys that an assertion may have.
+    pub const OF_ASSERTION: [Key; 10] = [
         Key::Module,
         Key::File,
         Key::Line,
         Key::Name,
+        Key::Function,
+        Key::Suffix,
         Key::Expr,
         Key::Value,
         Key::Redactions,
         Key::Sort,
     ];
+
+    /// The key that a request for a block has.
+    pub const OF_BLOCK: [Key; 1] = [Key::Duplicates];
 
     /// The keys that a redaction may have.
     pub const OF_REDACTION: [Key; 3] = [Key::At, Key::Put, Key::Sort];
@@ -62,12 +74,15 @@ impl Key {
             Key::File => "file",
             Key::Line => "line",
             Key::Name => "name",
+            Key::Function => "function",
+            Key::Suffix => "suffix",
             Key::Expr => "expr",
             Key::Value => "value",
             Key::Redactions => "redactions",
             Key::Sort => "sort",
             Key::At => "at",
             Key::Put => "put",
+            Key::Duplicates => "duplicates",
         }
     }
 }

@@ -14,4 +14,4 @@ pub mod request;
 
 pub use fault::{KeyFault, Reason, RedactionFault, RequestError};
 pub use key::Key;
-pub use request::{Request, read_request};
+pub use request::{Assertion, Request, read_request};

@@ -9,7 +9,7 @@ ghost use Rattle.snap_select.specs.Selectors.{parts_of};
 ghost use Rattle.snap_assert_settings.specs.Replaced.{replacement_of, replacements_of};
 ghost use Rattle.snap_run_requests.specs.Keys.{value_at};
 ghost use Rattle.snap_run_requests.specs.Requests.{IsRedaction, AreRedactions, AreRedactionsAt, SelectsAt, put_by};
-ghost use Rattle.snap_run_requests.specs.Faults.{IsTreeEnd, IsItemsEnd, IsRedactionEnd, IsSelectorEnd, end_at};
+ghost use Rattle.snap_run_requests.specs.Faults.{IsAssertionEnd, IsItemsEnd, IsRedactionEnd, IsSelectorEnd, end_at};
 
 use crate::fault::{KeyFault, Reason, RedactionFault, RequestError};
 use crate::key::Key;
@@ -58,7 +58,7 @@ pub(crate) fn redactions_of_pairs(
     ensures { MatchResult result
         (λ held. AreRedactionsAt (value_at Key.Redactions (pair_trees pairs.now))
         (replacements_of held.items))
-        (λ error. IsTreeEnd (map (pair_trees pairs.now)) error) }
+        (λ error. IsAssertionEnd (pair_trees pairs.now) error) }
 {
     let Some(value) = value_named(pairs, Key::Redactions.name()) else {
         return Ok(Vec::new(alloc));
