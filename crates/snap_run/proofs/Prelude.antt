@@ -5,21 +5,22 @@ pub use Rattle.std.proofs.lemmas.Str.{encodes-chars}
 pub use Rattle.std.specs.FinMap.{empty, get}
 pub use Rattle.snap_assert.proofs.Keeping.{step_keeps, gone_after}
 pub use Rattle.snap_assert.specs.Kept.{KeptBy, IsOwn, FaultIsOwn, Keeps, IsKeptOrGone, is_written, may_change}
-pub use Rattle.snap_assert.specs.Steps.{asked_path, verdict_of, is_failure}
+pub use Rattle.snap_assert.specs.Session.{SessionView, empty_session, is_open, opened, closed}
+pub use Rattle.snap_assert.specs.Steps.{verdict_of, is_failure, step}
 pub use Rattle.snap_assert.specs.declared.outcome.Outcome.{Outcome}
 pub use Rattle.snap_io.specs.Causes.{Rose, Counted, CountedIf, is_fault}
 pub use Rattle.snap_io.specs.Files.{Files}
 pub use Rattle.snap_io.specs.Outside.{Outside, outside}
 pub use Rattle.snap_io.specs.Streams.{HoldsFront}
 pub use Rattle.snap_run_requests.specs.Cut.{documents}
-pub use Rattle.snap_run_requests.specs.Requests.{RequestView, Spells, ReadsAs, Reads}
+pub use Rattle.snap_run_requests.specs.Requests.{AssertionView, RequestView, asserts, begins, ends, Spells, ReadsAs, Reads}
 pub use Rattle.snap_assert_settings.specs.declared.config.Update.{Update}
-pub use Rattle.snap_run.specs.Answers.{RunWords, place_by, settings_by, printed_by, asked_by, line_text, line_of, words_mean, Answer, requests_of, step_of, files_after, some_fails, AreAllowed, lines_of, answer_fails}
+pub use Rattle.snap_run.specs.Answers.{RunWords, place_by, settings_by, printed_by, assertion_by, asked_by, line_text, line_by, course_line, course_files, MayPass, IsAllowed, words_mean, Answer, requests_of, is_taken, AreTaken, remembered_by, remembered_after, step_by, files_after, some_fails, AreAllowed, lines_of, answer_fails}
 pub use Rattle.snap_run.specs.Arguments.{arguments_in, words_given, arguments_of}
 pub use Rattle.snap_run.specs.Program.{message, IsSaid, IsRunOf}
 pub use Rattle.snap_run.specs.Refused.{status_at}
 pub use Rattle.snap_run.specs.Runner.{words_of}
-pub use Rattle.snap_run.specs.Runs.{StopsAt, Ran, AssertionStops, IsInWork, MemoryFails, LineFails, IsDocumentAnswered, is_store_fault, Stopped, RanOne}
+pub use Rattle.snap_run.specs.Runs.{StopsAt, Ran, AssertionStops, IsInWork, FileFails, IsRefusedWith, LineFails, IsMade, OfAssertion, HasNoRequest, is_store_fault, Stopped, RanOne, name_in, path_in}
 pub use Rattle.snap_run.specs.Status.{RunsTo, AreSpelled, IsSteady, EndsWell, RunCause, Ended, RunsBy, RunsFrom, LengthCause, says_read_fault, says_write_fault, says_file_fault}
 pub use Rattle.snap_run.specs.declared.document_error.DocumentError.{DocumentError}
 pub use Rattle.snap_run.specs.declared.runner.Runner.{Runner}

@@ -1,5 +1,5 @@
 -- Statuses before any document is run, and runs in place.
-use Rattle.snap_run.proofs.Prelude.{◌≡◌, ◌||◌, ◌&&◌, ℕ, Bool, true, false, not, List, [], ◌∷◌, Option, None, Some, refl, ap, ◌∙◌, Outside, Answer, RunWords, some_fails, verdict_of, is_failure, RunsBy, RunsFrom, Update, Status}
+use Rattle.snap_run.proofs.Prelude.{◌≡◌, ◌||◌, ◌&&◌, ℕ, Bool, true, false, not, List, [], ◌∷◌, Option, None, Some, refl, ap, ◌∙◌, Outside, RequestView, asserts, begins, ends, Answer, RunWords, answer_fails, some_fails, verdict_of, is_failure, RunsBy, RunsFrom, Update, Status}
 use Rattle.snap_assert_settings.specs.declared.config.Update.TheVariants.{InPlace}
 
 -- some bytes are those that are left, where these are told
@@ -15,7 +15,11 @@ pub no_failure : (mode : Update) (passed : Bool) → mode ≡ InPlace → is_fai
 no_failure mode true h = refl
 no_failure mode false h = ap (λ m. is_failure (verdict_of m false)) h
 
+this_fails_not : (words : RunWords) (r : RequestView) (passed : Bool) → words.update ≡ InPlace → answer_fails words r passed ≡ false
+this_fails_not words (asserts a) passed h = ap (λ b. b && not words.force_pass) (no_failure words.update passed h)
+this_fails_not words begins passed h = refl
+this_fails_not words ends passed h = refl
+
 pub none_fails : (words : RunWords) (answers : List Answer) → words.update ≡ InPlace → some_fails words answers ≡ false
 none_fails words [] h = refl
-none_fails words (a ∷ more) h =
-    ap (λ b. (b && not words.force_pass) || some_fails words more) (no_failure words.update a.passed h) ∙ none_fails words more h
+none_fails words (a ∷ more) h = ap (λ b. b || some_fails words more) (this_fails_not words a.request a.passed h) ∙ none_fails words more h

@@ -1,5 +1,5 @@
 -- The answers of a run: its requests in turn, what they leave and the lines that tell of them.
-use Rattle.std.specs.Prelude.{◌&&◌, ◌||◌, ℕ, Bool, true, false, not, List, [], ◌∷◌, ◌++◌, codes, encode_utf8_all, Option, None, Some, option_and_then, if◌then◌else◌}
+use Rattle.std.specs.Prelude.{◌≡◌, ◌&&◌, ◌||◌, Result, Ok, Err, is_ok, ℕ, Bool, true, false, not, List, [], ◌∷◌, ◌++◌, codes, encode_utf8_all, Option, None, Some, option_and_then, if◌then◌else◌}
 use Rattle.std.specs.List.{list_any}
 use Rattle.std.specs.Str.{bytes_eq}
 use Rattle.std.specs.FinMap.{get}
@@ -11,8 +11,12 @@ use Rattle.snap_assert_settings.specs.Replaced.{redacted_by}
 use Rattle.snap_assert_settings.specs.Settings.{SettingsView, new_settings, sorted_where}
 use Rattle.snap_assert_place.specs.Place.{PlaceView}
 use Rattle.snap_assert.specs.Judging.{May}
-use Rattle.snap_assert.specs.Steps.{Asked, asked_of, step, verdict_of, is_failure}
-use Rattle.snap_run_requests.specs.Requests.{RequestView}
+use Rattle.snap_assert.specs.Steps.{Asked, step, verdict_of, is_failure}
+use Rattle.snap_run_requests.specs.Requests.{AssertionView, RequestView, asserts, begins, ends}
+use Rattle.snap_store.specs.Meta.{shown_text}
+use Rattle.snap_assert.specs.Assertions.{Assertion, assertion_of, asked_under}
+use Rattle.snap_assert.specs.Courses.{Course, Refused, course_of, session_after}
+use Rattle.snap_assert.specs.Session.{SessionView, opened, closed, is_open}
 use Rattle.snap_run.specs.declared.usage.TheConstants.{USAGE, VERSION}
 use Rattle.snap_assert_settings.specs.declared.config.Flags.{Flags}
 use Rattle.snap_assert_settings.specs.declared.config.Update.{Update}
@@ -107,32 +111,58 @@ abbrev pub text_asked : List (List ℕ) → Option (List ℕ)
 text_asked (word ∷ []) = if bytes_eq word (codes "--help") then Some USAGE.now else if bytes_eq word (codes "--version") then Some VERSION.now else None
 text_asked _ = None
 
--- a request is made in the workspace, with no function
-abbrev pub place_at : List ℕ → List ℕ → List ℕ → ℕ → List ℕ → PlaceView
-place_at workspace module_name file line expr = record {
+-- a request is made in the workspace
+abbrev pub place_at : List ℕ → List ℕ → List ℕ → List ℕ → ℕ → List ℕ → PlaceView
+place_at workspace function module_name file line expr = record {
   workspace = workspace;
-  function = [];
+  function = function;
   module_name = module_name;
   file = file;
   line = line;
   expr = expr;
 }
 
-abbrev pub place_by : List ℕ → RequestView → PlaceView
-place_by workspace request = place_at workspace request.module_name request.file request.line request.expr
+abbrev pub place_by : List ℕ → AssertionView → PlaceView
+place_by workspace a = place_at workspace a.function a.module_name a.file a.line a.expr
 
--- and with new settings but for its sorting and its redactions
-abbrev pub settings_by : RequestView → SettingsView
-settings_by request = record new_settings { sort_maps = request.sort }
+-- and with new settings but for its suffix, its sorting and its redactions
+abbrev pub settings_by : AssertionView → SettingsView
+settings_by a = record new_settings { sort_maps = a.sort; suffix = shown_text (Some a.suffix) }
 
 -- the tree that is printed: its maps sorted where that is asked, and then each redaction in turn
-abbrev pub printed_by : RequestView → Tree
-printed_by request = redacted_by request.redactions (sorted_where request.sort request.value)
+abbrev pub printed_by : AssertionView → Tree
+printed_by a = redacted_by a.redactions (sorted_where a.sort a.value)
 
-abbrev pub asked_by : RunWords → RequestView → Asked
-asked_by words request = asked_of (blocks_if words.literal) (settings_by request) (place_by words.workspace request) request.name (printed_by request)
+-- what the assertion of a request is
+abbrev pub assertion_by : RunWords → AssertionView → Assertion
+assertion_by words a = assertion_of (blocks_if words.literal) (settings_by a) (place_by words.workspace a) a.name (printed_by a)
 
--- a request, and whether it passed
+-- what is asked of the files under the name that the assertion takes
+abbrev pub asked_by : RunWords → AssertionView → List ℕ → Asked
+asked_by words a name = asked_under (assertion_by words a) name
+
+-- what is remembered after a request, whatever the files are
+abbrev pub remembered_by : RunWords → RequestView → SessionView → SessionView
+remembered_by words (asserts a) session = session_after (course_of (assertion_by words a) session)
+remembered_by words begins session = opened session
+remembered_by words ends session = closed session
+
+-- whether a request goes on, whatever the files are: an assertion is refused by what is remembered alone, and a block ends where one
+-- is open
+abbrev pub is_taken : RunWords → RequestView → SessionView → Bool
+is_taken words (asserts a) session = is_ok (course_of (assertion_by words a) session)
+is_taken words begins session = true
+is_taken words ends session = is_open session
+
+abbrev pub AreTaken : RunWords → List RequestView → SessionView → Type 0
+AreTaken words [] session = Unit {0}
+AreTaken words (r ∷ more) session = (is_taken words r session ≡ true) × AreTaken words more (remembered_by words r session)
+
+abbrev pub remembered_after : RunWords → List RequestView → SessionView → SessionView
+remembered_after words [] session = session
+remembered_after words (r ∷ more) session = remembered_after words more (remembered_by words r session)
+
+-- a request, and whether it passed, which says nothing of one that opens or closes a block
 pub record Answer : Type 0 where
   pub request : RequestView
   pub passed : Bool
@@ -141,21 +171,35 @@ abbrev pub requests_of : List Answer → List RequestView
 requests_of [] = []
 requests_of (a ∷ more) = a.request ∷ requests_of more
 
--- the files after one answer; no request opens a block, so nothing is remembered from one to the next
-abbrev pub step_of : RunWords → Answer → Files → Files
-step_of words a files = step words.update words.force_update (asked_by words a.request) a.passed files
+-- the files after an assertion that goes on
+abbrev pub course_files : RunWords → AssertionView → Bool → Result Course Refused → Files → Files
+course_files words a passed (Ok course) files = step words.update words.force_update (asked_by words a course.name) passed files
+course_files words a passed (Err refused) files = files
 
--- whether a request may pass is decided by the file that stands at its path at that moment
-abbrev pub IsAllowed : RunWords → Answer → Files → Type 0
-IsAllowed words a files = May a.passed (get files (asked_by words a.request).path) (asked_by words a.request).blocks (asked_by words a.request).tree
+-- the files after one answer
+abbrev pub step_by : RunWords → RequestView → Bool → SessionView → Files → Files
+step_by words (asserts a) passed session files = course_files words a passed (course_of (assertion_by words a) session) files
+step_by words begins passed session files = files
+step_by words ends passed session files = files
 
-abbrev pub AreAllowed : RunWords → List Answer → Files → Type 0
-AreAllowed words [] files = Unit {0}
-AreAllowed words (a ∷ more) files = IsAllowed words a files × AreAllowed words more (step_of words a files)
+-- whether an assertion may pass is decided by the file that stands at its path at that moment
+abbrev pub MayPass : RunWords → AssertionView → Bool → Result Course Refused → Files → Type 0
+MayPass words a passed (Ok course) files = May passed (get files (asked_by words a course.name).path) (asked_by words a course.name).blocks (asked_by words a course.name).tree
+MayPass words a passed (Err refused) files = Unit {0}
 
-abbrev pub files_after : RunWords → List Answer → Files → Files
-files_after words [] files = files
-files_after words (a ∷ more) files = files_after words more (step_of words a files)
+abbrev pub IsAllowed : RunWords → RequestView → Bool → SessionView → Files → Type 0
+IsAllowed words (asserts a) passed session files = MayPass words a passed (course_of (assertion_by words a) session) files
+IsAllowed words begins passed session files = Unit {0}
+IsAllowed words ends passed session files = Unit {0}
+
+abbrev pub AreAllowed : RunWords → List Answer → SessionView → Files → Type 0
+AreAllowed words [] session files = Unit {0}
+AreAllowed words (a ∷ more) session files =
+    IsAllowed words a.request a.passed session files × AreAllowed words more (remembered_by words a.request session) (step_by words a.request a.passed session files)
+
+abbrev pub files_after : RunWords → List Answer → SessionView → Files → Files
+files_after words [] session files = files
+files_after words (a ∷ more) session files = files_after words more (remembered_by words a.request session) (step_by words a.request a.passed session files)
 
 abbrev pub word_of : Verdict → List ℕ
 word_of Passed = codes "passed "
@@ -167,18 +211,27 @@ word_of Rejected = codes "rejected "
 abbrev pub line_text : Verdict → List ℕ → List ℕ
 line_text verdict path = word_of verdict ++ (spell_text path ++ 10 ∷ [])
 
-abbrev pub line_of : RunWords → Answer → List ℕ
-line_of words a = encode_utf8_all (line_text (verdict_of words.update a.passed) (asked_by words a.request).path)
+abbrev pub course_line : RunWords → AssertionView → Bool → Result Course Refused → List ℕ
+course_line words a passed (Ok course) = encode_utf8_all (line_text (verdict_of words.update passed) (asked_by words a course.name).path)
+course_line words a passed (Err refused) = []
 
-abbrev pub lines_of : RunWords → List Answer → List ℕ
-lines_of words [] = []
-lines_of words (a ∷ more) = line_of words a ++ lines_of words more
+-- the line of an assertion; the begin and the end of a block have none
+abbrev pub line_by : RunWords → RequestView → Bool → SessionView → List ℕ
+line_by words (asserts a) passed session = course_line words a passed (course_of (assertion_by words a) session)
+line_by words begins passed session = []
+line_by words ends passed session = []
 
--- whether one of the answers fails
-abbrev pub answer_fails : RunWords → Answer → Bool
-answer_fails words a = is_failure (verdict_of words.update a.passed) && not words.force_pass
+abbrev pub lines_of : RunWords → List Answer → SessionView → List ℕ
+lines_of words [] session = []
+lines_of words (a ∷ more) session = line_by words a.request a.passed session ++ lines_of words more (remembered_by words a.request session)
+
+-- whether an answer fails; the begin and the end of a block never do
+abbrev pub answer_fails : RunWords → RequestView → Bool → Bool
+answer_fails words (asserts a) passed = is_failure (verdict_of words.update passed) && not words.force_pass
+answer_fails words begins passed = false
+answer_fails words ends passed = false
 
 -- one of the answers fails
 abbrev pub some_fails : RunWords → List Answer → Bool
 some_fails words [] = false
-some_fails words (a ∷ more) = answer_fails words a || some_fails words more
+some_fails words (a ∷ more) = answer_fails words a.request a.passed || some_fails words more

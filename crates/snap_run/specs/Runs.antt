@@ -1,81 +1,121 @@
 -- What a run over many documents leaves, and where it stops.
-use Rattle.std.specs.Prelude.{◌≡◌, ◌⊎◌, ℕ, ◌+◌, List, ◌∷◌, ◌++◌, [], Bool, true, false, length, Option}
+use Rattle.std.specs.Prelude.{◌≡◌, ◌⊎◌, ◌&&◌, not, ℕ, ◌+◌, List, ◌∷◌, ◌++◌, [], Bool, true, false, length, Option, Some, Result, Ok, Err}
+use Rattle.std.specs.FinMap.{get}
 use Rattle.snap_io.specs.Files.{Files}
 use Rattle.snap_io.specs.Outside.{Outside, Given, Becomes}
 use Rattle.snap_io.specs.Streams.{HoldsFront}
-use Rattle.snap_run_requests.specs.Requests.{RequestView, Spells, ReadsAs, Reads}
-use Rattle.snap_run.specs.Refused.{status_at}
-use Rattle.snap_run.specs.Answers.{Answer, RunWords, asked_by, IsAllowed, step_of, line_of, requests_of, AreAllowed, files_after, lines_of, answer_fails}
-use Rattle.snap_assert.specs.Steps.{verdict_of}
+use Rattle.snap_run_requests.specs.Requests.{AssertionView, RequestView, asserts, begins, ends, Spells, ReadsAs, Reads}
+use Rattle.snap_run.specs.Refused.{status_at, kind_of}
+use Rattle.snap_run.specs.Answers.{Answer, RunWords, place_by, settings_by, assertion_by, asked_by, is_taken, AreTaken, remembered_after, IsAllowed, step_by, line_by, requests_of, AreAllowed, files_after, lines_of, answer_fails}
+use Rattle.snap_assert_place.specs.SnapshotPath.{path_of}
+use Rattle.snap_assert.specs.Courses.{Course, Refused, course_of, cleared_at}
+use Rattle.snap_assert.specs.Judging.{May}
+use Rattle.snap_assert.specs.Names.{Named, name_step}
+use Rattle.snap_assert.specs.Session.{SessionView, is_open}
+use Rattle.snap_assert.specs.Steps.{step, verdict_of, is_failure}
 use Rattle.snap_assert.specs.Kept.{KeptBy, IsOwn}
+use Rattle.snap_assert.specs.declared.error.AssertError.{AssertError}
 use Rattle.snap_assert.specs.declared.outcome.Outcome.{Outcome}
 use Rattle.snap_run.specs.declared.document_error.DocumentError.{DocumentError}
-use Rattle.snap_run.specs.declared.document_error.DocumentError.TheVariants.{NoRequest, FileIo, WriteFault, OutOfMemory}
+use Rattle.snap_run.specs.declared.document_error.DocumentError.TheVariants as error
+use Rattle.snap_run.specs.declared.status.RefusalKind.{RefusalKind}
 use Rattle.snap_run.specs.declared.status.Status.{Status}
 
--- these documents were run with these answers: each was read as its answer's request, and where the store and the
--- sink tell, each pass is allowed, the files are those after all steps, and the lines are written
-pub record Ran (words : RunWords) (documents : List (List ℕ)) (answers : List Answer) (before after : Outside) : Type 0 where
+-- these documents were run with these answers: each was read as its answer's request, and was taken; and where the store and the
+-- sink tell, each pass is allowed, the files are those after all steps, and the lines are written. What is remembered is the requests' alone
+pub record Ran (words : RunWords) (documents : List (List ℕ)) (answers : List Answer) (session session' : SessionView) (before after : Outside) : Type 0 where
   pub reads : Reads documents (requests_of answers)
-  pub allowed : Given before.files (λ m. AreAllowed words answers m)
-  pub stands : Becomes before.files after.files (λ m. files_after words answers m)
-  pub lines : Becomes before.written after.written (λ w. w ++ lines_of words answers)
+  pub taken : AreTaken words (requests_of answers) session
+  pub remembered : session' ≡ remembered_after words (requests_of answers) session
+  pub allowed : Given before.files (λ m. AreAllowed words answers session m)
+  pub stands : Becomes before.files after.files (λ m. files_after words answers session m)
+  pub lines : Becomes before.written after.written (λ w. w ++ lines_of words answers session)
 
 -- the same of one document, and whether its answer fails
-pub record RanOne (words : RunWords) (document : List ℕ) (fails : Bool) (before after : Outside) : Type 0 where
+pub record RanOne (words : RunWords) (document : List ℕ) (fails : Bool) (session session' : SessionView) (before after : Outside) : Type 0 where
   pub answer : Answer
-  pub ran : Ran words (document ∷ []) (answer ∷ []) before after
-  pub failing : answer_fails words answer ≡ fails
+  pub ran : Ran words (document ∷ []) (answer ∷ []) session session' before after
+  pub failing : answer_fails words answer.request answer.passed ≡ fails
 
--- the document's request was in work: what no assertion at its path may change is as before
-pub record IsInWork (words : RunWords) (document : List ℕ) (files files' : Option Files) : Type 0 where
-  pub request : RequestView
-  pub reads : ReadsAs document request
-  pub kept : KeptBy words.update (asked_by words request).path files files'
+-- the name that an assertion takes, or why it takes none
+abbrev pub name_in : RunWords → AssertionView → SessionView → Result Named AssertError
+name_in words a session = name_step (settings_by a) (place_by words.workspace a) a.name session
 
--- the store failed in that work at one of the request's own paths
-pub record FileFails (words : RunWords) (document named : List ℕ) (files files' : Option Files) : Type 0 where
-  pub work : IsInWork words document files files'
-  pub own : IsOwn words.update (asked_by words work.request).path named
+-- the path of the snapshot of this name
+abbrev pub path_in : RunWords → AssertionView → List ℕ → List ℕ
+path_in words a name = path_of (settings_by a) (place_by words.workspace a) name
+
+-- an assertion was in work: what none at its path may change is as before, and all files are where it takes no name
+pub record IsInWork (words : RunWords) (a : AssertionView) (session : SessionView) (files files' : Option Files) : Type 0 where
+  pub kept : (named : Named) → name_in words a session ≡ Ok named → KeptBy words.update (path_in words a named.name) files files'
+  pub untouched : (refused : AssertError) → name_in words a session ≡ Err refused → files' ≡ files
+
+-- the store failed in that work at one of the assertion's own paths
+pub record FileFails (words : RunWords) (a : AssertionView) (session : SessionView) (named : List ℕ) (files files' : Option Files) : Type 0 where
+  pub work : IsInWork words a session files files'
+  pub own : (name : Named) → name_in words a session ≡ Ok name → IsOwn words.update (path_in words a name.name) named
+
+-- what is remembered refuses it, with this kind; what was pending is gone where a block refuses it
+pub record IsRefusedWith (kind : RefusalKind) (words : RunWords) (a : AssertionView) (session : SessionView) (files files' : Option Files) : Type 0 where
+  pub refused : Refused
+  pub course_is : course_of (assertion_by words a) session ≡ Err refused
+  pub kind_is : kind_of refused.error ≡ Some kind
+  pub stands : Becomes files files' (cleared_at (assertion_by words a) refused.taken)
+  pub work : IsInWork words a session files files'
 
 -- the document was run, and a part of its line is written
-pub record LineFails (words : RunWords) (document : List ℕ) (before after : Outside) : Type 0 where
+pub record LineFails (words : RunWords) (document : List ℕ) (session : SessionView) (before after : Outside) : Type 0 where
   pub answer : Answer
   pub reads : ReadsAs document answer.request
-  pub allowed : Given before.files (λ m. IsAllowed words answer m)
-  pub stands : Becomes before.files after.files (λ m. step_of words answer m)
-  pub line : Given before.written (λ w. HoldsFront (line_of words answer) w after.written)
+  pub taken : is_taken words answer.request session ≡ true
+  pub allowed : Given before.files (λ m. IsAllowed words answer.request answer.passed session m)
+  pub stands : Becomes before.files after.files (λ m. step_by words answer.request answer.passed session m)
+  pub line : Given before.written (λ w. HoldsFront (line_by words answer.request answer.passed session) w after.written)
 
--- memory was out: before anything was changed, or in the work on the document's request
-abbrev pub MemoryFails : RunWords → List ℕ → Option Files → Option Files → Type 0
-MemoryFails words document files files' = (files' ≡ files) ⊎ IsInWork words document files files'
+-- an assertion was answered
+pub record IsMade (words : RunWords) (a : AssertionView) (outcome : Outcome) (session session' : SessionView) (files files' : Option Files) : Type 0 where
+  pub passed : Bool
+  pub course : Course
+  pub course_is : course_of (assertion_by words a) session ≡ Ok course
+  pub remembered : session' ≡ course.session
+  pub verdict : outcome.verdict ≡ verdict_of words.update passed
+  pub fails : outcome.fails ≡ (is_failure (verdict_of words.update passed) && not words.force_pass)
+  pub path : outcome.path ≡ (asked_by words a course.name).path
+  pub allowed : Given files (λ m. May passed (get m (asked_by words a course.name).path) (asked_by words a course.name).blocks (asked_by words a course.name).tree)
+  pub stands : Becomes files files' (λ m. step words.update words.force_update (asked_by words a course.name) passed m)
+  pub work : IsInWork words a session files files'
 
--- the document was read as a request, and that was answered
-pub record IsDocumentAnswered (words : RunWords) (document : List ℕ) (outcome : Outcome) (files files' : Option Files) : Type 0 where
-  pub answer : Answer
-  pub reads : ReadsAs document answer.request
-  pub verdict : outcome.verdict ≡ verdict_of words.update answer.passed
-  pub fails : outcome.fails ≡ answer_fails words answer
-  pub path : outcome.path ≡ (asked_by words answer.request).path
-  pub allowed : Given files (λ m. IsAllowed words answer m)
-  pub stands : Becomes files files' (λ m. step_of words answer m)
+-- what stands where an assertion comes to no answer
+abbrev pub AssertionStops : RunWords → DocumentError → AssertionView → SessionView → Option Files → Option Files → Type 0
+AssertionStops words error.NoRequest a session files files' = ⊥
+AssertionStops words (error.Refused kind) a session files files' = IsRefusedWith kind words a session files files'
+AssertionStops words (error.FileIo named) a session files files' = FileFails words a session named files files'
+AssertionStops words error.WriteFault a session files files' = ⊥
+AssertionStops words error.OutOfMemory a session files files' = IsInWork words a session files files'
 
--- what stands where a document comes to no answer
-abbrev pub AssertionStops : RunWords → DocumentError → List ℕ → Option Files → Option Files → Type 0
-AssertionStops words NoRequest document files files' = (files' ≡ files) × ((r : RequestView) → Spells document r → ⊥)
-AssertionStops words (FileIo named) document files files' = FileFails words document named files files'
-AssertionStops words WriteFault document files files' = ⊥
-AssertionStops words OutOfMemory document files files' = MemoryFails words document files files'
+-- the document was read as an assertion, of which this holds
+pub record OfAssertion (document : List ℕ) (holds : AssertionView → Type 0) : Type 0 where
+  pub assertion : AssertionView
+  pub reads : ReadsAs document (asserts assertion)
+  pub is : holds assertion
+
+-- what is spelled is at most the end of a block, where none is open
+abbrev pub HasNoRequest : List ℕ → SessionView → Type 0
+HasNoRequest document session = (r : RequestView) → Spells document r → (r ≡ ends) × (is_open session ≡ false)
 
 -- what stands where a document stops the run
-abbrev pub StopsAt : RunWords → DocumentError → List ℕ → Outside → Outside → Type 0
-StopsAt words NoRequest document before after = (after.files ≡ before.files) × (after.written ≡ before.written) × ((r : RequestView) → Spells document r → ⊥)
-StopsAt words (FileIo named) document before after = (after.written ≡ before.written) × FileFails words document named before.files after.files
-StopsAt words WriteFault document before after = LineFails words document before after
-StopsAt words OutOfMemory document before after = (after.written ≡ before.written) × MemoryFails words document before.files after.files
+abbrev pub StopsAt : RunWords → DocumentError → List ℕ → SessionView → Outside → Outside → Type 0
+StopsAt words error.NoRequest document session before after = (after.files ≡ before.files) × (after.written ≡ before.written) × HasNoRequest document session
+StopsAt words (error.Refused kind) document session before after =
+    (after.written ≡ before.written) × OfAssertion document (λ a. IsRefusedWith kind words a session before.files after.files)
+StopsAt words (error.FileIo named) document session before after =
+    (after.written ≡ before.written) × OfAssertion document (λ a. FileFails words a session named before.files after.files)
+StopsAt words error.WriteFault document session before after = LineFails words document session before after
+StopsAt words error.OutOfMemory document session before after =
+    (after.written ≡ before.written) × ((after.files ≡ before.files) ⊎ OfAssertion document (λ a. IsInWork words a session before.files after.files))
 
 -- the documents before one were run, that one stops the run, and the status tells of it
-pub record Stopped (status : Status) (words : RunWords) (documents : List (List ℕ)) (before after : Outside) : Type 0 where
+pub record Stopped (status : Status) (words : RunWords) (documents : List (List ℕ)) (session : SessionView) (before after : Outside) : Type 0 where
   pub done : List (List ℕ)
   pub document : List ℕ
   pub later : List (List ℕ)
@@ -83,20 +123,17 @@ pub record Stopped (status : Status) (words : RunWords) (documents : List (List 
   pub error : DocumentError
   pub status_is : status ≡ status_at (length done + 1) error
   pub answers : List Answer
+  pub remembered : SessionView
   pub between : Outside
-  pub ran : Ran words done answers before between
-  pub stops : StopsAt words error document between after
+  pub ran : Ran words done answers session remembered before between
+  pub stops : StopsAt words error document remembered between after
 
 -- whether it is the store that failed
 abbrev pub is_store_fault : DocumentError → Bool
-is_store_fault NoRequest = false
-is_store_fault (FileIo path) = true
-is_store_fault WriteFault = false
-is_store_fault OutOfMemory = false
+is_store_fault (error.FileIo path) = true
+is_store_fault _ = false
 
 -- whether it is the sink that failed
 abbrev pub is_sink_fault : DocumentError → Bool
-is_sink_fault NoRequest = false
-is_sink_fault (FileIo path) = false
-is_sink_fault WriteFault = true
-is_sink_fault OutOfMemory = false
+is_sink_fault error.WriteFault = true
+is_sink_fault _ = false

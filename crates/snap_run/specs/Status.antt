@@ -4,7 +4,8 @@ use Rattle.snap_io.specs.Outside.{Outside, Given, Becomes}
 use Rattle.snap_io.specs.Streams.{HoldsFront}
 use Rattle.snap_run_requests.specs.Cut.{documents}
 use Rattle.snap_run_requests.specs.Requests.{RequestView, Spells}
-use Rattle.snap_run.specs.Answers.{Answer, RunWords, words_mean, text_asked, some_fails}
+use Rattle.snap_assert.specs.Session.{SessionView, empty_session}
+use Rattle.snap_run.specs.Answers.{Answer, RunWords, words_mean, text_asked, some_fails, is_taken, remembered_by}
 use Rattle.snap_run.specs.Runs.{Ran, Stopped}
 use Rattle.snap_io_streams.specs.Streams.{TakesAtMost, TakesExactly}
 use Rattle.snap_run.specs.declared.status.Status.{Status}
@@ -30,22 +31,23 @@ abbrev pub IsUnchanged : Outside → Outside → Type 0
 IsUnchanged before after = (after.files ≡ before.files) × (after.written ≡ before.written)
 
 -- the run came to its end, and some answer fails or none does
-pub record Ended (fails : Bool) (words : RunWords) (docs : List (List ℕ)) (before after : Outside) : Type 0 where
+pub record Ended (fails : Bool) (words : RunWords) (docs : List (List ℕ)) (session : SessionView) (before after : Outside) : Type 0 where
   pub answers : List Answer
-  pub ran : Ran words docs answers before after
+  pub remembered : SessionView
+  pub ran : Ran words docs answers session remembered before after
   pub failing : some_fails words answers ≡ fails
 
--- what each status says of the documents, the files and the lines
+-- what each status says of the documents, the files and the lines; before the first document nothing is remembered
 abbrev pub RunsTo : Status → RunWords → List (List ℕ) → Outside → Outside → Type 0
-RunsTo AllPassed words docs before after = Ended false words docs before after
-RunsTo SomeFailed words docs before after = Ended true words docs before after
+RunsTo AllPassed words docs before after = Ended false words docs empty_session before after
+RunsTo SomeFailed words docs before after = Ended true words docs empty_session before after
 RunsTo BadWords words docs before after = IsUnchanged before after
-RunsTo (BadRequest n) words docs before after = Stopped (BadRequest n) words docs before after
-RunsTo (Refused n kind) words docs before after = ⊥
-RunsTo (FileIo n path) words docs before after = Stopped (FileIo n path) words docs before after
+RunsTo (BadRequest n) words docs before after = Stopped (BadRequest n) words docs empty_session before after
+RunsTo (Refused n kind) words docs before after = Stopped (Refused n kind) words docs empty_session before after
+RunsTo (FileIo n path) words docs before after = Stopped (FileIo n path) words docs empty_session before after
 RunsTo ReadFault words docs before after = IsUnchanged before after
-RunsTo WriteFault words docs before after = Stopped WriteFault words docs before after
-RunsTo OutOfMemory words docs before after = IsUnchanged before after ⊎ Stopped OutOfMemory words docs before after
+RunsTo WriteFault words docs before after = Stopped WriteFault words docs empty_session before after
+RunsTo OutOfMemory words docs before after = IsUnchanged before after ⊎ Stopped OutOfMemory words docs empty_session before after
 RunsTo InputTooLong words docs before after = IsUnchanged before after
 
 -- without words of a run nothing is changed
@@ -93,10 +95,17 @@ abbrev pub says_file_fault : Status → Bool
 says_file_fault (FileIo n path) = true
 says_file_fault _ = false
 
--- every document spells a request
-abbrev pub AreSpelled : List (List ℕ) → Type 0
-AreSpelled [] = Unit {0}
-AreSpelled (d ∷ ds) = ((r : RequestView) × Spells d r) × AreSpelled ds
+-- a document spells a request that is taken
+pub record SpellsTaken (words : RunWords) (document : List ℕ) (session : SessionView) : Type 0 where
+  pub request : RequestView
+  pub spells : Spells document request
+  pub taken : is_taken words request session ≡ true
+
+-- every document spells a request, and each is taken with what is remembered then
+pub data AreSpelled (words : RunWords) : List (List ℕ) → SessionView → Type 0 where
+  none : {session : SessionView} → AreSpelled words [] session
+  one_more : {d : List ℕ} {ds : List (List ℕ)} {session : SessionView} → (s : SpellsTaken words d session) → AreSpelled words ds (remembered_by words s.request session)
+      → AreSpelled words (d ∷ ds) session
 
 -- no fault: the count stands still, and not at its last value
 pub record IsSteady (before now : ℕ) : Type 0 where

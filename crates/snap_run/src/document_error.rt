@@ -1,5 +1,5 @@
 //! Why a document stops a run.
-use crate::status::Status;
+use crate::status::{RefusalKind, Status};
 use snap_assert::error::AssertError;
 use snap_content::{OutOfMemory, Text};
 use snap_io::Fault;
@@ -9,6 +9,7 @@ use snap_run_requests::RequestError;
 #[derive(Debug, Drop)]
 pub enum DocumentError {
     NoRequest,
+    Refused(RefusalKind),
     /// The store failed in the work on this path.
     FileIo(Text),
     WriteFault,
@@ -25,6 +26,7 @@ impl DocumentError {
     {
         match self {
             DocumentError::NoRequest => Status::BadRequest { document },
+            DocumentError::Refused(kind) => Status::Refused { document, kind },
             DocumentError::FileIo(path) => Status::FileIo { document, path },
             DocumentError::WriteFault => Status::WriteFault,
             DocumentError::OutOfMemory => Status::OutOfMemory,
@@ -68,7 +70,7 @@ impl From<RequestError> for DocumentError {
     }
 }
 
-/// While a name is given and no block is open, an assertion is refused for no other reason than these two.
+/// What is left are the errors of literals and of payloads, which an assertion of a tree doesn't come to.
 impl From<AssertError> for DocumentError {
     ghost use Rattle.std.specs.Prelude.{◌≡◌};
     ghost use Rattle.snap_run.specs.Refused.{unanswered};
@@ -78,6 +80,12 @@ impl From<AssertError> for DocumentError {
     fn from(refused: AssertError) -> Self {
         match refused {
             AssertError::FileIo(path) => DocumentError::FileIo(path),
+            AssertError::NameClash => DocumentError::Refused(RefusalKind::NameClash),
+            AssertError::DoctestNeedsName => DocumentError::Refused(RefusalKind::DoctestNeedsName),
+            AssertError::DuplicateDiffers { .. } => {
+                DocumentError::Refused(RefusalKind::DuplicateDiffers)
+            }
+            AssertError::NamesExhausted => DocumentError::Refused(RefusalKind::NamesExhausted),
             _ => DocumentError::OutOfMemory,
         }
     }

@@ -1,14 +1,16 @@
 //! One document, and many in turn.
-ghost use Rattle.std.specs.Prelude.{◌≡◌, ◌<◌, ◌≤◌, ◌^◌, List, ℕ, IfOk, IfErr, OnOk, length, true};
+ghost use Rattle.std.specs.Prelude.{◌≡◌, ◌<◌, ◌≤◌, ◌^◌, List, ℕ, IfOk, IfErr, length, option_copied, true, false};
 ghost use Rattle.snap_io.specs.Causes.{Counted};
 ghost use Rattle.snap_io.specs.Outside.{outside};
 ghost use Rattle.snap_run_requests.specs.Cut.{documents};
 ghost use Rattle.snap_assert_place.specs.Place.{names_file, place_of};
-ghost use Rattle.snap_assert.specs.Session.{session_of, empty_session};
+ghost use Rattle.snap_assert.specs.Session.{session_of, empty_session, opened, closed, is_open};
 ghost use Rattle.snap_run.specs.Runner.{IsReady, words_of};
 ghost use Rattle.snap_run.specs.Answers.{line_text, place_at};
 ghost use Rattle.snap_run.specs.Status.{Ended, says_file_fault, says_write_fault};
-ghost use Rattle.snap_run.specs.Runs.{RanOne, StopsAt, Stopped, IsDocumentAnswered, AssertionStops, is_store_fault, is_sink_fault};
+ghost use Rattle.snap_run.specs.Runs.{RanOne, StopsAt, Stopped, IsMade, AssertionStops, is_store_fault, is_sink_fault};
+ghost use Rattle.snap_run_requests.specs.Requests.{ReadsAs, asserts};
+ghost use Rattle.snap_run_requests.specs.RequestOf.{assertion_of};
 
 use crate::document_error::DocumentError;
 use crate::runner::Runner;
@@ -23,7 +25,7 @@ use snap_emit::push_spelled_text;
 use snap_io::{Sink, Store};
 use snap_io_streams::streams::write_all;
 use snap_run_requests::cut::first_document_end;
-use snap_run_requests::request::{Request, read_request};
+use snap_run_requests::request::{Assertion, Request, read_request};
 use std::alloc::Global;
 
 /// The line that tells of an answer.
@@ -45,6 +47,7 @@ fn line(alloc: Global, verdict: Verdict, path: &Text) -> Result<Text, OutOfMemor
 fn place_of_request(
     alloc: Global,
     runner: &Runner,
+    function: Text,
     module_name: Text,
     file: Text,
     line: u32,
@@ -52,47 +55,56 @@ fn place_of_request(
 ) -> Result<Place, OutOfMemory>
     requires { names_file file ≡ true }
     ensures { IfOk result (λ place. place_of place
-        ≡ place_at runner.now.workspace module_name file line expr) }
+        ≡ place_at runner.now.workspace function module_name file line expr) }
 {
     let workspace = runner.workspace.try_clone(alloc)?;
-    Ok(Place::of_file(workspace, Text::empty(), module_name, file, line, expr))
+    Ok(Place::of_file(workspace, function, module_name, file, line, expr))
 }
 
-/// Reads one document and makes its assertion. Nothing is remembered from one to the next, since names are given and no block is opened.
-fn assert_document<F: Store>(
+/// The name, where one is given.
+fn given_name(name: &Option<Text>) -> Option<&Text>
+    ensures { option_copied result ≡ name.now }
+{
+    match name {
+        None => None,
+        Some(name) => Some(name),
+    }
+}
+
+/// Makes the assertion that a document asks for.
+fn make_assertion<F: Store>(
     alloc: Global,
     runner: &Runner,
     session: &mut Session,
-    document: &[u8],
+    assertion: Assertion,
     store: &mut F,
 ) -> Result<Outcome, DocumentError>
     requires ready { IsReady runner.now }
-    requires fresh { session_of session.old ≡ empty_session }
-    ensures ok { IfOk result (λ outcome.
-        IsDocumentAnswered (words_of runner.now) document.now outcome (F.files store.old)
-        (F.files store.new)) }
-    ensures err { IfErr result (λ error.
-        AssertionStops (words_of runner.now) error document.now (F.files store.old)
-        (F.files store.new)) }
-    ensures fresh { OnOk result (session_of session.new ≡ empty_session) }
+    requires of_file { names_file assertion.file ≡ true }
+    ensures ok { IfOk result (λ outcome. IsMade (words_of runner.now) (assertion_of assertion) outcome
+        (session_of session.old) (session_of session.new) (F.files store.old) (F.files store.new)) }
+    ensures err { IfErr result (λ error. AssertionStops (words_of runner.now) error
+        (assertion_of assertion) (session_of session.old) (F.files store.old) (F.files store.new)) }
     ensures store_count { Counted is_store_fault (F.faults store.old) (F.faults store.new) result }
 {
-    let request = read_request(alloc, document)?;
-    let Request {
+    let Assertion {
         module_name,
         file,
         line,
         name,
+        function,
+        suffix,
         expr,
         value,
         redactions,
         sort,
-    } = request;
-    let Ok(settings) = Settings::from_replacements(alloc, sort, redactions) else {
+    } = assertion;
+    let Ok(mut settings) = Settings::from_replacements(alloc, sort, redactions) else {
         drop(value);
         return Err(DocumentError::OutOfMemory);
     };
-    let Ok(place) = place_of_request(alloc, runner, module_name, file, line, expr) else {
+    settings.set_snapshot_suffix(suffix);
+    let Ok(place) = place_of_request(alloc, runner, function, module_name, file, line, expr) else {
         drop(settings);
         drop(value);
         return Err(DocumentError::OutOfMemory);
@@ -104,7 +116,7 @@ fn assert_document<F: Store>(
         &runner.config,
         &settings,
         &place,
-        Some(&name),
+        given_name(&name),
         value,
     );
     drop(settings);
@@ -113,7 +125,62 @@ fn assert_document<F: Store>(
     Ok(outcome?)
 }
 
-/// Reads one document, makes its assertion and writes its line. Whether the answer fails.
+/// Makes the assertion that a document asks for and writes its line. Whether the answer fails.
+fn run_assertion<K: Sink, F: Store>(
+    alloc: Global,
+    runner: &Runner,
+    session: &mut Session,
+    assertion: Assertion,
+    sink: &mut K,
+    store: &mut F,
+) -> Result<bool, DocumentError>
+    requires ready { IsReady runner.now }
+    requires of_file { names_file assertion.file ≡ true }
+    ensures ok { IfOk result (λ fails. (document : List ℕ)
+        → ReadsAs document (asserts (assertion_of assertion))
+        → RanOne (words_of runner.now) document fails (session_of session.old)
+        (session_of session.new) (outside (F.files store.old) (K.written sink.old))
+        (outside (F.files store.new) (K.written sink.new))) }
+    ensures err { IfErr result (λ error. (document : List ℕ)
+        → ReadsAs document (asserts (assertion_of assertion))
+        → StopsAt (words_of runner.now) error document (session_of session.old)
+        (outside (F.files store.old) (K.written sink.old))
+        (outside (F.files store.new) (K.written sink.new))) }
+    ensures store_count { Counted is_store_fault (F.faults store.old) (F.faults store.new) result }
+    ensures sink_count { Counted is_sink_fault (K.faults sink.old) (K.faults sink.new) result }
+{
+    let outcome = make_assertion(alloc, runner, session, assertion, store)?;
+    let line = line(alloc, outcome.verdict, &outcome.path)?;
+    write_all(sink, line.as_str().as_bytes())?;
+    Ok(outcome.fails)
+}
+
+/// Opens a block of duplicates. No answer fails by that.
+fn begin_block(session: &mut Session) -> Result<bool, DocumentError>
+    ensures ok { IfOk result (λ fails. (fails ≡ false)
+        × (session_of session.new ≡ opened (session_of session.old))) }
+    ensures err { IfErr result (λ error. error ≡ DocumentError.OutOfMemory) }
+{
+    session.begin_duplicates()?;
+    Ok(false)
+}
+
+/// Closes a block of duplicates, where one is open.
+fn end_block(session: &mut Session) -> Result<bool, DocumentError>
+    ensures ok { IfOk result (λ fails. (fails ≡ false) × (is_open (session_of session.old) ≡ true)
+        × (session_of session.new ≡ closed (session_of session.old))) }
+    ensures err { IfErr result (λ error. (error ≡ DocumentError.NoRequest)
+        × (is_open (session_of session.old) ≡ false)) }
+{
+    if session.end_duplicates() {
+        Ok(false)
+    } else {
+        Err(DocumentError::NoRequest)
+    }
+}
+
+/// Reads one document and runs its request: an assertion is made and its line written; a block begins or ends without one.
+/// Whether the answer fails.
 fn run_document<K: Sink, F: Store>(
     alloc: Global,
     runner: &Runner,
@@ -123,21 +190,23 @@ fn run_document<K: Sink, F: Store>(
     store: &mut F,
 ) -> Result<bool, DocumentError>
     requires ready { IsReady runner.now }
-    requires fresh { session_of session.old ≡ empty_session }
-    ensures fresh { OnOk result (session_of session.new ≡ empty_session) }
     ensures ok { IfOk result (λ fails. RanOne (words_of runner.now) document.now fails
+        (session_of session.old) (session_of session.new)
         (outside (F.files store.old) (K.written sink.old))
         (outside (F.files store.new) (K.written sink.new))) }
     ensures err { IfErr result (λ error. StopsAt (words_of runner.now) error document.now
-        (outside (F.files store.old) (K.written sink.old))
+        (session_of session.old) (outside (F.files store.old) (K.written sink.old))
         (outside (F.files store.new) (K.written sink.new))) }
     ensures store_count { Counted is_store_fault (F.faults store.old) (F.faults store.new) result }
     ensures sink_count { Counted is_sink_fault (K.faults sink.old) (K.faults sink.new) result }
 {
-    let outcome = assert_document(alloc, runner, session, document, store)?;
-    let line = line(alloc, outcome.verdict, &outcome.path)?;
-    write_all(sink, line.as_str().as_bytes())?;
-    Ok(outcome.fails)
+    match read_request(alloc, document)? {
+        Request::Assertion(assertion) => {
+            run_assertion(alloc, runner, session, assertion, sink, store)
+        }
+        Request::Begin => begin_block(session),
+        Request::End => end_block(session),
+    }
 }
 
 /// Runs the documents of an input in turn, up to the first that stops the run, with the status that tells of it.
@@ -154,10 +223,10 @@ pub fn run_documents<K: Sink, F: Store>(
     requires short { length input.now < 2 ^ 63 }
     requires fresh { session_of session.old ≡ empty_session }
     ensures finished { IfOk result (λ fails. Ended fails (words_of runner.now) (documents input.now)
-        (outside (F.files store.old) (K.written sink.old))
+        empty_session (outside (F.files store.old) (K.written sink.old))
         (outside (F.files store.new) (K.written sink.new))) }
     ensures stopped { IfErr result (λ status. Stopped status (words_of runner.now)
-        (documents input.now) (outside (F.files store.old) (K.written sink.old))
+        (documents input.now) empty_session (outside (F.files store.old) (K.written sink.old))
         (outside (F.files store.new) (K.written sink.new))) }
     ensures store_count { Counted says_file_fault (F.faults store.old) (F.faults store.new) result }
     ensures sink_count { Counted says_write_fault (K.faults sink.old) (K.faults sink.new) result }

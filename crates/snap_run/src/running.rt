@@ -5,6 +5,7 @@ ghost use Rattle.snap_io.specs.Outside.{outside};
 ghost use Rattle.snap_run_requests.specs.Cut.{documents};
 ghost use Rattle.snap_run.specs.Answers.{RunWords, words_mean, text_asked};
 ghost use Rattle.snap_run.specs.RunKept.{KeptByRun};
+ghost use Rattle.snap_assert.specs.Session.{empty_session};
 ghost use Rattle.snap_run.specs.Status.{RunCause, WordsCause, IsTold, RunsFrom, LengthCause, says_read_fault, says_write_fault, says_file_fault, AreSpelled, IsSteady, EndsWell};
 ghost use Rattle.snap_io_streams.specs.Streams.{TakesAtMost, input_limit};
 
@@ -94,7 +95,7 @@ pub fn run<S: Source, K: Sink, F: Store>(
     ensures file { CountedIf (says_file_fault result) (F.faults store.old) (F.faults store.new) }
     // Without faults, a run over documents that spell requests ends well.
     ensures complete { (input : List ℕ) (said : RunWords) → S.left source.old ≡ Some input
-        → words_mean words.now ≡ Some said → AreSpelled (documents input)
+        → words_mean words.now ≡ Some said → AreSpelled said (documents input) empty_session
         → length input ≤ input_limit
         → IsSteady (S.faults source.old) (S.faults source.new)
         → IsSteady (K.faults sink.old) (K.faults sink.new)

@@ -1,19 +1,18 @@
 use Rattle.snap_run.proofs.Prelude.{refl, ◌∙◌, arith}
-use Rattle.snap_run.proofs.Stepping.{begins, goes_on, stops, first_is}
+use Rattle.snap_run.proofs.Stepping.{begins_run, ends_run, goes_on, stops, first_is}
 use Rattle.snap_run.proofs.documents.run_documents.Goals as goal
 
 pub loop-rest-init : goal.loop-rest-init
-loop-rest-init g c = record { run = begins _ _ _; few = omega arith; fresh = c.requires.fresh; store_count = refl; sink_count = refl }
+loop-rest-init g c = record { run = begins_run _ _ _ _ _ c.requires.fresh; few = omega arith; store_count = refl; sink_count = refl }
 
 pub loop-rest-preserved : goal.loop-rest-preserved
 loop-rest-preserved g c = record {
-  run = goes_on _ _ _ _ _ _ _ _ _ _ _ (first_is _ _ _ _ c.first_document_end.ensures.cut c.split_at.ensures.front c.split_at.ensures.back) c.loop-rest.invariant.run c.in-Ok.ensures.ok;
+  run = goes_on _ _ _ _ _ _ _ _ _ _ _ _ _ _ (first_is _ _ _ _ c.first_document_end.ensures.cut c.split_at.ensures.front c.split_at.ensures.back) c.loop-rest.invariant.run c.in-Ok.ensures.ok;
   few = omega (arith, c.split_at.ensures.back_len, c.first_document_end.ensures.positive);
-  fresh = c.in-Ok.ensures.fresh;
   store_count = c.in-Ok.ensures.store_count ∙ c.loop-rest.invariant.store_count;
   sink_count = c.in-Ok.ensures.sink_count ∙ c.loop-rest.invariant.sink_count;
 }
 
 pub returns-in-Err-clause-stopped : goal.returns-in-Err-clause-stopped
 returns-in-Err-clause-stopped g c =
-    stops _ _ _ _ c.split_at.result.1.now _ _ _ _ _ _ _ (first_is _ _ _ _ c.first_document_end.ensures.cut c.split_at.ensures.front c.split_at.ensures.back) c.loop-rest.invariant.run c.in-Err.ensures.err c.status_at.ensures
+    stops _ _ _ _ c.split_at.result.1.now _ _ _ _ _ _ _ _ _ (first_is _ _ _ _ c.first_document_end.ensures.cut c.split_at.ensures.front c.split_at.ensures.back) c.loop-rest.invariant.run c.in-Err.ensures.err c.status_at.ensures

@@ -5,9 +5,8 @@ use Rattle.snap_run.proofs.documents.run_documents.Given as goal
 
 abbrev pub invariant-loop-rest : goal.invariant-loop-rest
 invariant-loop-rest g l = record {
-  run : IsRun (words_of l.runner) (documents l.input) l.rest l.document l.fails
+  run : IsRun (words_of l.runner) (documents l.input) l.rest l.document l.fails empty_session (session_of l.session)
       (outside (g.F.Store.files l.fn.store) (g.K.Sink.written l.fn.sink)) (outside (g.F.Store.files l.store) (g.K.Sink.written l.sink));
-  fresh : session_of l.session ≡ empty_session;
   few : l.document + length l.rest ≤ length l.input;
   store_count : g.F.Store.faults l.store ≡ g.F.Store.faults l.fn.store;
   sink_count : g.K.Sink.faults l.sink ≡ g.K.Sink.faults l.fn.sink;
