@@ -10,7 +10,6 @@
 //! - `new_settings`: what new settings say.
 //! - `settings`: what is done with new settings, a column each, as `settings` says. The answer is what became of each, and the file
 //!   that is saved of the tree `id: 42` with those settings.
-//! - `changed`: what new settings are told, a column each, as `changed` says. The answer is what they say then, and that file.
 //! - `function`, `depth` and `object`: a selector, and for the last one a number. What stands there is put by a stored function as `[id]`, by one
 //!   that counts the steps to it, or by an object that holds the number. The answer is as for `settings`.
 //! - `list`: a selector and a text, and what the list of this one redaction makes of 42.
@@ -23,7 +22,6 @@
 #![tactic(auto)]
 
 mod asserted;
-mod changed;
 mod columns;
 mod errors;
 mod judged;
@@ -34,7 +32,6 @@ mod sessions;
 mod settings;
 mod stored;
 
-use crate::changed::changed_line;
 use crate::errors::error_line;
 use crate::judged::{judged_line, judged_text_line};
 use crate::lists::list_line;
@@ -56,7 +53,6 @@ fn answer_case(alloc: Global, call: &str, columns: &str) -> Result<Text, anyhow:
         "judged_text" => judged_text_line(alloc, columns),
         "new_settings" => new_settings_line(alloc),
         "settings" => settings_line(alloc, columns),
-        "changed" => changed_line(alloc, columns),
         "function" => function_line(alloc, columns),
         "depth" => depth_line(alloc, columns),
         "object" => object_line(alloc, columns),
