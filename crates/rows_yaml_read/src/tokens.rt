@@ -46,7 +46,7 @@ fn name(kind: &TokenType) -> &'static str {
         TokenType::StreamStart(_) => "StreamStart",
         TokenType::StreamEnd => "StreamEnd",
         TokenType::VersionDirective(_, _) => "VersionDirective",
-        TokenType::TagDirective(_, _) => "TagDirective",
+        TokenType::TagDirective(_) => "TagDirective",
         TokenType::DocumentStart => "DocumentStart",
         TokenType::DocumentEnd => "DocumentEnd",
         TokenType::BlockSequenceStart => "BlockSequenceStart",
@@ -62,7 +62,7 @@ fn name(kind: &TokenType) -> &'static str {
         TokenType::Value => "Value",
         TokenType::Alias(_) => "Alias",
         TokenType::Anchor(_) => "Anchor",
-        TokenType::Tag(_, _) => "Tag",
+        TokenType::Tag(_) => "Tag",
         TokenType::Scalar(_, _) => "Scalar",
     }
 }
@@ -74,9 +74,9 @@ fn add_fields(alloc: Global, lines: &mut Text, kind: &TokenType) -> Result<(), O
             let numbers = format!(in alloc; "\t{major}\t{minor}")?;
             lines.push_str(alloc, numbers.as_str())
         }
-        TokenType::TagDirective(first, second) | TokenType::Tag(first, second) => {
-            add_text_column(alloc, lines, first.as_str())?;
-            add_text_column(alloc, lines, second.as_str())
+        TokenType::TagDirective(tag) | TokenType::Tag(tag) => {
+            add_text_column(alloc, lines, tag.handle().as_str())?;
+            add_text_column(alloc, lines, tag.suffix().as_str())
         }
         TokenType::Alias(name) | TokenType::Anchor(name) => add_text_column(
             alloc,

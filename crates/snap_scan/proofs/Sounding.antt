@@ -51,10 +51,10 @@ left-open source u new is l = left-done source u new (open_still is) l
 read-fits : {ahead : Bool} → (source : List ℕ) (d : ℕ) (kind : TokenKind) (s : State) (token : TokenType) → IsSoundFrom false ahead source d s → Begins kind (slice_index s.place.left 0) → IsTokenOf kind token
     → IsFit source token
 read-fits source d k.Directive s (t.VersionDirective a b) is first of = fit-plain source _ (begun (codes "%") source d s 37 is first refl (omega arith)) (λ m. tt) refl refl
-read-fits source d k.Directive s (t.TagDirective a b) is first of = fit-plain source _ (begun (codes "%") source d s 37 is first refl (omega arith)) (λ m. tt) refl refl
+read-fits source d k.Directive s (t.TagDirective a) is first of = fit-plain source _ (begun (codes "%") source d s 37 is first refl (omega arith)) (λ m. tt) refl refl
 read-fits source d k.Alias s (t.Alias a) is first of = fit-plain source _ (begun (codes "*") source d s 42 is first refl (omega arith)) (λ m. tt) refl refl
 read-fits source d k.Anchor s (t.Anchor a) is first of = fit-plain source _ (begun (codes "&") source d s 38 is first refl (omega arith)) (λ m. tt) refl refl
-read-fits source d k.Tag s (t.Tag a b) is first of = fit-plain source _ (begun (codes "!") source d s 33 is first refl (omega arith)) (λ m. tt) refl refl
+read-fits source d k.Tag s (t.Tag a) is first of = fit-plain source _ (begun (codes "!") source d s 33 is first refl (omega arith)) (λ m. tt) refl refl
 read-fits source d kind s token is first of = absurd of
 
 sound-read : {ahead : Bool} → (source : List ℕ) (d : ℕ) (kind : TokenKind) (u new : State) → IsSoundFrom false ahead source d u → ((token : TokenType) → IsTokenOf kind token → IsFit source token)

@@ -38,10 +38,10 @@ pub data Outcome : Type 0 where
 -- the tokens that a reader may give for what begins here
 abbrev pub IsTokenOf : TokenKind → TokenType → Type 0
 IsTokenOf k.Directive (t.VersionDirective _ _) = Unit {0}
-IsTokenOf k.Directive (t.TagDirective _ _) = Unit {0}
+IsTokenOf k.Directive (t.TagDirective _) = Unit {0}
 IsTokenOf k.Alias (t.Alias _) = Unit {0}
 IsTokenOf k.Anchor (t.Anchor _) = Unit {0}
-IsTokenOf k.Tag (t.Tag _ _) = Unit {0}
+IsTokenOf k.Tag (t.Tag _) = Unit {0}
 IsTokenOf _ _ = ⊥
 
 -- a reader went on from the state s, and its token was put after the held ones

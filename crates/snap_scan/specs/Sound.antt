@@ -15,7 +15,7 @@ use Rattle.snap_scan.specs.declared.keys.SimpleKey.{SimpleKey}
 -- the signs one of which must stand in a text that gives a token
 abbrev pub shown : TokenType → Need
 shown (t.VersionDirective _ _) = one_of (codes "%")
-shown (t.TagDirective _ _) = one_of (codes "%")
+shown (t.TagDirective _) = one_of (codes "%")
 shown t.BlockSequenceStart = one_of (codes "-")
 shown t.BlockEntry = one_of (codes "-")
 shown t.BlockMappingStart = one_of (codes "?:")
@@ -23,7 +23,7 @@ shown t.FlowSequenceStart = one_of (codes "[")
 shown t.FlowMappingStart = one_of (codes "{")
 shown (t.Alias _) = one_of (codes "*")
 shown (t.Anchor _) = one_of (codes "&")
-shown (t.Tag _ _) = one_of (codes "!")
+shown (t.Tag _) = one_of (codes "!")
 shown _ = nothing
 
 -- the signs stand in the text

@@ -5,7 +5,7 @@ ghost use Rattle.snap_scan.specs.Fetching.{Does, stream_started, stream_end, doc
 
 use crate::fetcher::{Fetcher, ScanResult};
 use snap_scan_properties::directive::{Directive, scan_directive};
-use snap_scan_tokens::{TEncoding, TokenType};
+use snap_scan_tokens::{TEncoding, Tag, TagTexts, TokenType};
 
 impl<'a> Fetcher<'a> {
     pub(crate) fn fetch_stream_start(&mut self) -> ScanResult
@@ -72,10 +72,10 @@ impl<'a> Fetcher<'a> {
                 mark,
                 TokenType::VersionDirective(major, minor),
             ),
-            Directive::Tag(handle, prefix) => self.push_token(
-                mark,
-                TokenType::TagDirective(handle, prefix),
-            ),
+            Directive::Tag(handle, suffix) => {
+                let tag = Tag::new(self.alloc, TagTexts { handle, suffix })?;
+                self.push_token(mark, TokenType::TagDirective(tag))
+            }
         }
     }
 }

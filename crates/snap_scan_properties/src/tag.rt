@@ -14,14 +14,8 @@ use snap_scan_tokens::characters::{Kind, is_blank_or_end};
 use snap_scan_tokens::cursor::Cursor;
 use snap_scan_tokens::info::{ScanError, ScanInfo};
 use snap_scan_tokens::marker::Marker;
+use snap_scan_tokens::tag::TagTexts;
 use std::alloc::Global;
-
-/// A tag: its handle, and what stands after it.
-#[derive(Debug, Drop)]
-pub struct Tag {
-    pub handle: Text,
-    pub suffix: Text,
-}
 
 /// The handle with this name: the name between two `!`.
 pub(crate) fn handle_of(alloc: Global, name: &str) -> Result<Text, OutOfMemory>
@@ -80,7 +74,7 @@ pub(crate) fn scan_some_uri(
 }
 
 /// Reads `!<suffix>`.
-fn scan_verbatim(alloc: Global, cursor: &mut Cursor, mark: Marker) -> Result<Tag, ScanError>
+fn scan_verbatim(alloc: Global, cursor: &mut Cursor, mark: Marker) -> Result<TagTexts, ScanError>
     requires { slice_index cursor.old.left 0 ≢ 0 }
     ensures value { Reads (verbatim cursor.old) result cursor.new }
     ensures travels { Travels cursor.old cursor.new }
@@ -94,7 +88,7 @@ fn scan_verbatim(alloc: Global, cursor: &mut Cursor, mark: Marker) -> Result<Tag
         return Err(ScanError::Syntax(mark, ScanInfo::S13));
     }
     cursor.skip();
-    Ok(Tag {
+    Ok(TagTexts {
         handle: Text::empty(),
         suffix,
     })
@@ -106,7 +100,7 @@ fn scan_with_handle(
     cursor: &mut Cursor,
     mark: Marker,
     name: &str,
-) -> Result<Tag, ScanError>
+) -> Result<TagTexts, ScanError>
     ensures value { Reads
         (with_handle (record { value = chars name.now; place = cursor.old })) result cursor.new }
     ensures travels { Travels cursor.old cursor.new }
@@ -115,21 +109,21 @@ fn scan_with_handle(
     cursor.skip();
     let handle = handle_of(alloc, name)?;
     let suffix = scan_some_uri(alloc, cursor, mark)?;
-    Ok(Tag { handle, suffix })
+    Ok(TagTexts { handle, suffix })
 }
 
 /// The tag of a suffix whose handle is `!`. That of none has the suffix `!`.
-fn local_tag(suffix: Text, sign: Text) -> Tag
+fn local_tag(suffix: Text, sign: Text) -> TagTexts
     requires { sign ≡ codes "!" }
     ensures { result ≡ local_tag suffix }
 {
     if is_nothing(suffix.as_str()) {
-        return Tag {
+        return TagTexts {
             handle: suffix,
             suffix: sign,
         };
     }
-    Tag {
+    TagTexts {
         handle: sign,
         suffix,
     }
@@ -141,7 +135,7 @@ fn scan_local(
     cursor: &mut Cursor,
     mark: Marker,
     head: &str,
-) -> Result<Tag, ScanError>
+) -> Result<TagTexts, ScanError>
     ensures value { (p : Place) → headed (chars head.now) (uri_from cursor.old) ≡ uri_from p
         → Reads (local p) result cursor.new }
     ensures travels { Travels cursor.old cursor.new }
@@ -153,7 +147,7 @@ fn scan_local(
 }
 
 /// Reads `suffix` or `handle!suffix`, after a `!`.
-fn scan_shorthand(alloc: Global, cursor: &mut Cursor, mark: Marker) -> Result<Tag, ScanError>
+fn scan_shorthand(alloc: Global, cursor: &mut Cursor, mark: Marker) -> Result<TagTexts, ScanError>
     ensures value { Reads (shorthand cursor.old) result cursor.new }
     ensures travels { Travels cursor.old cursor.new }
     ensures cause { IfErr result (λ e. IsRefusedBy (codes "!") mark e) }
@@ -166,7 +160,7 @@ fn scan_shorthand(alloc: Global, cursor: &mut Cursor, mark: Marker) -> Result<Ta
 }
 
 /// Reads a tag, whatever stands after it.
-fn scan_any_tag(alloc: Global, cursor: &mut Cursor, mark: Marker) -> Result<Tag, ScanError>
+fn scan_any_tag(alloc: Global, cursor: &mut Cursor, mark: Marker) -> Result<TagTexts, ScanError>
     requires { slice_index cursor.old.left 0 ≢ 0 }
     ensures value { Reads (any_tag cursor.old) result cursor.new }
     ensures travels { Travels cursor.old cursor.new }
@@ -181,7 +175,7 @@ fn scan_any_tag(alloc: Global, cursor: &mut Cursor, mark: Marker) -> Result<Tag,
 }
 
 /// Reads a tag.
-pub fn scan_tag(alloc: Global, cursor: &mut Cursor) -> Result<Tag, ScanError>
+pub fn scan_tag(alloc: Global, cursor: &mut Cursor) -> Result<TagTexts, ScanError>
     requires { slice_index cursor.old.left 0 ≡ 33 }
     ensures value { Reads (tag_from cursor.old) result cursor.new }
     ensures travels { Travels cursor.old cursor.new }

@@ -1,5 +1,6 @@
 //! Tokens: what a text is cut into.
 use crate::marker::Marker;
+use crate::tag::Tag;
 use snap_content::{Lent, Text};
 
 /// How the text is encoded.
@@ -28,7 +29,7 @@ pub enum TokenType<'a> {
     /// `%YAML`, with the two numbers of the version.
     VersionDirective(u32, u32),
     /// `%TAG`, with the handle and the prefix that it stands for. Both are empty at an unknown directive.
-    TagDirective(Text, Text),
+    TagDirective(Tag),
     DocumentStart,
     DocumentEnd,
     BlockSequenceStart,
@@ -45,7 +46,7 @@ pub enum TokenType<'a> {
     Alias(Text),
     Anchor(Text),
     /// The handle and what stands after it.
-    Tag(Text, Text),
+    Tag(Tag),
     Scalar(TScalarStyle, Lent<'a>),
 }
 

@@ -9,8 +9,8 @@ returns-in-Version-clause-value c =
     c.in_ok-unroll_indent.ensures.value c.in_ok-remove_simple_key.ensures.value.0 c.in_ok-remove_simple_key.ensures.value.1 c.allow_simple_key.ensures.value
     c.mark-mark.ensures (c.in_ok-major.ensures.travels.onward _ (here _)) c.in_ok-major.ensures.falls c.push_token.ensures.value
 
-pub returns-in-Tag-clause-value : goal.returns-in-Tag-clause-value
-returns-in-Tag-clause-value c =
-    does-directive (state_of c.args.self.now) _ _ _ _ _ (t.TagDirective _ _) _ _ tt
+pub returns-in_ok-tag-in-Tag-clause-value : goal.returns-in_ok-tag-in-Tag-clause-value
+returns-in_ok-tag-in-Tag-clause-value c =
+    does-directive (state_of c.args.self.now) _ _ _ _ _ (t.TagDirective _) _ _ tt
     c.in_ok-unroll_indent.ensures.value c.in_ok-remove_simple_key.ensures.value.0 c.in_ok-remove_simple_key.ensures.value.1 c.allow_simple_key.ensures.value
     c.mark-mark.ensures (c.in_ok-major.ensures.travels.onward _ (here _)) c.in_ok-major.ensures.falls c.push_token-in-Tag.ensures.value
