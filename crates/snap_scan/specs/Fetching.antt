@@ -169,6 +169,7 @@ plain_read None s = unreadable s
 plain_read (Some r) s =
     told s.place (pushed (at (mark_of s.place) (t.Scalar style.Plain r.text)) (record (saved s) { allowed = r.is_broken; place = r.place }))
 
+-- what a plain scalar is fetched as, and where the scanner is then
 abbrev pub plain : State → Outcome
 plain s =
     if is_key_owed s then refused (mark_of s.place) i.S2 else plain_read (plain_from (innermost s.columns) (in_flow s) s.place) s
@@ -179,6 +180,7 @@ quoted_read written None s = unreadable s
 quoted_read written (Some r) s =
     told s.place (pushed (at (mark_of s.place) (t.Scalar written r.text)) (record (saved s) { allowed = false; place = r.place; adjacent = r.place.index }))
 
+-- what a quoted scalar is fetched as, and where the scanner is then
 abbrev pub quoted : Quotes → State → Outcome
 quoted quotes s = if is_key_owed s then refused (mark_of s.place) i.S2 else quoted_read (style_of quotes) (quoted_from quotes s.place) s
 

@@ -13,6 +13,7 @@ use Rattle.snap_scan.specs.Keys.{Keys, no_keys, has_levels, is_required, still_f
 use Rattle.snap_scan.specs.declared.keys.SimpleKey.{SimpleKey}
 use Rattle.snap_scan.specs.declared.fetcher.Fetcher.{Fetcher}
 
+-- what a scanner remembers: its place, the tokens that are held back, and what is open there
 pub record State : Type 0 where
   pub place : Place
   -- the tokens that are held back
