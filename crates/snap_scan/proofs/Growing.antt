@@ -20,8 +20,8 @@ done-holds u new l some = let P : State → Type 0 = λ v. 1 ≤ length v.held i
 
 read-left : (kind : TokenKind) (u new : State) → Leaves (read kind u) new → 1 ≤ length new.held
 read-left kind u new r =
-    let long : length new.held ≡ length (u.held ++ at r.mark r.token ∷ []) = ap (λ (v : State). length v.held) r.leaves in
-    omega (arith, push-holds u.held (at r.mark r.token))
+    let long : length new.held ≡ length (u.held ++ at (mark_of u.place) r.token ∷ []) = ap (λ (v : State). length v.held) r.leaves in
+    omega (arith, push-holds u.held (at (mark_of u.place) r.token))
 
 read-holds : (kind : TokenKind) (s new : State) → Leaves (read_key kind s) new → 1 ≤ length new.held
 read-holds kind s new l = read-left kind _ new (unrefused (is_key_owed s) _ _ _ new l)

@@ -1,50 +1,30 @@
 -- What the reading of a token makes of a state.
-use Rattle.snap_scan.proofs.Prelude.{◌≡◌, ◌≤◌, ◌+◌, ℕ, Bool, true, false, List, [], ◌∷◌, Option, Some, None, Result, Ok, Err, length, sym, ap, arith, refl, ◌∙◌, if◌then◌else◌, MatchOption, Place, Later, here, next, skip_from, mark_of, Mark, Plain, plain_from, ReadsPlain, Quoted, ReadsQuoted, TokenType, TScalarStyle, ScanError, Syntax, OutOfMemory, S2, TokenKind, is_required, State, Gives, at, pushed, allowing, keyless, saved, unrolled, is_key_owed, in_flow, refused, read, IsTokenOf, Does, MayFail, IsExplained, closed, directive, read_key, plain, plain_read, quoted_read, block_read, Block, block_from, ReadsBlock, BlockScalar, innermost}
+use Rattle.snap_scan.proofs.Prelude.{◌≡◌, ◌≤◌, ◌+◌, ℕ, Bool, true, false, List, [], ◌∷◌, Option, Some, None, Result, Ok, Err, length, sym, ap, arith, refl, ◌∙◌, if◌then◌else◌, MatchOption, Place, Later, mark_of, Mark, Plain, plain_from, ReadsPlain, Quoted, ReadsQuoted, TokenType, TScalarStyle, ScanError, Syntax, OutOfMemory, S2, TokenKind, is_required, State, Gives, at, pushed, allowing, keyless, saved, unrolled, is_key_owed, in_flow, refused, read, IsTokenOf, Does, MayFail, IsExplained, closed, directive, read_key, plain, plain_read, quoted_read, block_read, Block, block_from, ReadsBlock, BlockScalar, innermost}
 use Rattle.snap_scan.proofs.Soundness.{either}
 use Rattle.snap_scan_tokens.specs.declared.plain.PlainScalar.{PlainScalar}
 use Rattle.snap_scan_tokens.specs.declared.token.TokenType.TheVariants as k
 use Rattle.snap_scan_tokens.specs.declared.token.TScalarStyle.TheVariants as style
 use Rattle.snap_scan.specs.declared.kind.TokenKind.TheVariants.{Directive}
 
-skip-index : (cs : List ℕ) (p : Place) → p.index ≤ (skip_from cs p).index
-skip-index [] p = omega arith
-skip-index (c ∷ cs) p = omega arith
-
--- going on does not lower the index
-pub later-index : (p q : Place) → Later p q → p.index ≤ q.index
-later-index _ _ (here p) = omega arith
-later-index _ _ (next p q l) = let before = later-index p q l in let on = skip-index q.left q in omega arith
-
 -- a token that was read is put after the held ones
 pub does-read : {T : Type 0} (kind : TokenKind) (s : State) (p : Place) (mark : Mark) (token : TokenType) (r : Result T ScanError) (new : State) → IsTokenOf kind token
-    → Later s.place p → length p.left + 1 ≤ length s.place.left → s.place.index ≤ mark.index → mark.index ≤ p.index
+    → mark ≡ mark_of s.place → Later s.place p → length p.left + 1 ≤ length s.place.left
     → Gives r new (pushed (at mark token) (record s { place = p })) → Does (read kind s) r new
-does-read kind s p mark token (Ok x) new is later further from until gives =
-    rw gives (record { mark = mark; token = token; is = is; later = later; further = further; from = from; until = until; leaves = refl })
-does-read kind s p mark token (Err OutOfMemory) new is later further from until gives = tt
-does-read kind s p mark token (Err (Syntax m i)) new is later further from until gives = absurd (cc)
+does-read kind s p mark token (Ok x) new is marks later further gives =
+    rw gives (record { token = token; is = is; later = later; further = further; leaves = ap (λ (m : Mark). pushed (at m token) (record s { place = p })) marks })
+does-read kind s p mark token (Err OutOfMemory) new is marks later further gives = tt
+does-read kind s p mark token (Err (Syntax m i)) new is marks later further gives = absurd (cc)
 
--- the same of a token that may be a simple key, whose mark is known
-pub does-read-key : {T : Type 0} (kind : TokenKind) (s t u : State) (p : Place) (mark : Mark) (token : TokenType) (r : Result T ScanError) (new : State) → IsTokenOf kind token
-    → is_key_owed s ≡ false → t ≡ saved s → u ≡ allowing false t
-    → Later u.place p → length p.left + 1 ≤ length u.place.left → u.place.index ≤ mark.index → mark.index ≤ p.index
-    → Gives r new (pushed (at mark token) (record u { place = p })) → Does (read_key kind s) r new
-does-read-key kind s t u p mark token r new is free saved_is allowed_is later further from until gives =
-    let same : u ≡ allowing false (saved s) = allowed_is ∙ ap (λ (v : State). allowing false v) saved_is in
-    let reads = does-read kind u p mark token r new is later further from until gives in
-    rw free (rw same at reads)
-
--- the same where the token's mark is the place
+-- the same of a token that may be a simple key
 pub does-read-here : {T : Type 0} (kind : TokenKind) (s t u : State) (p : Place) (mark : Mark) (token : TokenType) (r : Result T ScanError) (new : State) → IsTokenOf kind token
     → is_key_owed s ≡ false → t ≡ saved s → u ≡ allowing false t → mark ≡ mark_of s.place
     → Later u.place p → length p.left + 1 ≤ length u.place.left
     → Gives r new (pushed (at mark token) (record u { place = p })) → Does (read_key kind s) r new
 does-read-here kind s t u p mark token r new is free saved_is allowed_is marks later further gives =
     let same : u ≡ allowing false (saved s) = allowed_is ∙ ap (λ (v : State). allowing false v) saved_is in
-    let starts : u.place.index ≡ s.place.index = ap (λ (v : State). v.place.index) same in
-    let index : mark.index ≡ s.place.index = ap (λ (m : Mark). m.index) marks in
-    let on = later-index u.place p later in
-    does-read-key kind s t u p mark token r new is free saved_is allowed_is later further (omega arith) (omega arith) gives
+    let starts : mark ≡ mark_of u.place = marks ∙ sym (ap (λ (v : State). mark_of v.place) same) in
+    let reads = does-read kind u p mark token r new is starts later further gives in
+    rw free (rw same at reads)
 
 -- a directive, after which all blocks are closed
 pub does-directive : {T : Type 0} (s t u v : State) (p : Place) (mark : Mark) (token : TokenType) (r : Result T ScanError) (new : State) → IsTokenOf Directive token
@@ -53,11 +33,9 @@ pub does-directive : {T : Type 0} (s t u v : State) (p : Place) (mark : Mark) (t
     → Gives r new (pushed (at mark token) (record v { place = p })) → Does (directive s) r new
 does-directive s t u v p mark token r new is unrolled_is free removed_is allowed_is marks later further gives =
     let same : v ≡ closed s = allowed_is ∙ ap (λ (w : State). allowing false w) (removed_is ∙ ap (λ (w : State). keyless w) unrolled_is) in
-    let index : mark.index ≡ v.place.index = ap (λ (m : Mark). m.index) marks in
-    let on = later-index v.place p later in
     let keys : t.keys ≡ s.keys = ap (λ (w : State). w.keys) unrolled_is ∙ either (λ v. v.keys ≡ s.keys) (in_flow s) s _ refl refl in
     let unowed : is_required s.keys.key ≡ false = cc in
-    let reads = does-read Directive v p mark token r new is later further (omega arith) (omega arith) gives in
+    let reads = does-read Directive v p mark token r new is marks later further gives in
     rw unowed (rw same at reads)
 
 -- a plain scalar is put after the held tokens

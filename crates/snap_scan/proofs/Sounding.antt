@@ -60,11 +60,9 @@ read-fits source d kind s token is first of = absurd of
 sound-read : {ahead : Bool} → (source : List ℕ) (d : ℕ) (kind : TokenKind) (u new : State) → IsSoundFrom false ahead source d u → ((token : TokenType) → IsTokenOf kind token → IsFit source token)
     → IsRead kind u new → IsSound ahead source new
 sound-read source d kind u new is fits r =
-    let there = in-later source (length u.keys.outer) u.place new.place r.later is.place in
     let fit = fits r.token r.is in
-    let until = r.until in
-    left-open source _ new (sound-pushed source 1 (at r.mark r.token) (record u { place = new.place }) (sound-further source d new.place u r.later r.further is)
-    (record { signs = fit.signs; mark = omega (arith, in-source source (length u.keys.outer) new.place there, until); key = fit.no_key r.mark }) fit.no_start fit.no_end) r.leaves
+    left-open source _ new (sound-pushed source 1 (at (mark_of u.place) r.token) (record u { place = new.place }) (sound-further source d new.place u r.later r.further is)
+    (shown-at source (length u.keys.outer) u.place r.token is.place fit.signs (fit.no_key (mark_of u.place))) fit.no_start fit.no_end) r.leaves
 
 sound-flow-start : {ahead : Bool} → (source : List ℕ) (kind : TokenType) (s : State) → IsSoundFrom false ahead source 1 s → is_among (codes "[{") (slice_index s.place.left 0) ≡ true → slice_index s.place.left 0 ≢ 0
     → IsFit source kind → IsSoundFrom false ahead source 1 (let u = saved s in sign kind true (record u { keys = deeper u.keys }))

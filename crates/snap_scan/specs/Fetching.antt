@@ -44,16 +44,13 @@ IsTokenOf k.Anchor (t.Anchor _) = Unit {0}
 IsTokenOf k.Tag (t.Tag _) = Unit {0}
 IsTokenOf _ _ = ⊥
 
--- a reader went on from the state s, and its token was put after the held ones
+-- a reader went on from the state s, and its token, whose mark is the place where it began, was put after the held ones
 pub record IsRead (kind : TokenKind) (s new : State) : Type 0 where
-  pub mark : Mark
   pub token : TokenType
   pub is : IsTokenOf kind token
   pub later : Later s.place new.place
   pub further : length new.place.left + 1 ≤ length s.place.left
-  pub from : s.place.index ≤ mark.index
-  pub until : mark.index ≤ new.place.index
-  pub leaves : new ≡ record (pushed (at mark token) s) { place = new.place }
+  pub leaves : new ≡ record (pushed (at (mark_of s.place) token) s) { place = new.place }
 
 -- a reader went on from a place, and left the state u
 pub record IsTold (p : Place) (u new : State) : Type 0 where
@@ -61,6 +58,7 @@ pub record IsTold (p : Place) (u new : State) : Type 0 where
   pub later : Later p new.place
   pub further : length new.place.left + 1 ≤ length p.left
 
+-- the state that a fetch leaves
 abbrev pub Leaves : Outcome → State → Type 0
 Leaves (done u) new = new ≡ u
 Leaves (told p u) new = IsTold p u new
