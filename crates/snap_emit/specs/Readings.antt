@@ -28,6 +28,7 @@ abbrev pub is_kept_number : Event → Bool
 is_kept_number (e.Scalar text style id tag) = has_number_text (scalar_value text style tag)
 is_kept_number _ = false
 
+-- whether a number that is kept as its text is among these events
 abbrev pub is_kept_among : List Event → Bool
 is_kept_among events = list_any is_kept_number events
 

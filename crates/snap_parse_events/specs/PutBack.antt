@@ -70,6 +70,7 @@ abbrev pub is_pair_end : State → Bool
 is_pair_end s.FlowSequenceEntryMappingEnd = true
 is_pair_end _ = false
 
+-- whether the end of a dict that is one pair of a list comes next
 abbrev pub is_pair_end_at : Stage → Bool
 is_pair_end_at (g.Open y) = is_pair_end y
 is_pair_end_at _ = false
@@ -84,6 +85,7 @@ begins_node s.FlowSequenceEntryMappingKey = true
 begins_node s.FlowMappingFirstKey = true
 begins_node _ = false
 
+-- whether the first token that is taken next may be an anchor or a tag of its event
 abbrev pub begins_node_at : Stage → Bool
 begins_node_at (g.Open y) = begins_node y
 begins_node_at _ = false
