@@ -30,7 +30,6 @@ pub use Rattle.snap_scan.specs.State.{State, at, pushed, keyless, saved, unrolle
 pub use Rattle.snap_scan.specs.declared.keys.SimpleKey.{SimpleKey}
 pub use Rattle.snap_scan.specs.declared.kind.TokenKind.{TokenKind}
 pub use Rattle.snap_scan_tokens.specs.Characters.{is_flow_sign, is_blank_or_end, is_alpha, is_blank, is_break, is_digit}
-pub use Rattle.snap_scan_tokens.specs.Mark.{Mark}
 pub use Rattle.snap_scan_tokens.specs.Place.{Place, mark_of, before_nul, forced}
 pub use Rattle.snap_scan_tokens.specs.Plain.{plain_from, plain, ends_plain}
 pub use Rattle.snap_scan_tokens.specs.Quoted.{Quoted, double_from}

@@ -1,5 +1,6 @@
 -- Where a scanner stands between the pieces of a JSON text, and what it fetches there.
-use Rattle.snap_parse_laws_json.proofs.Prelude.{◌≡◌, ℕ, List, [], ◌∷◌, ◌++◌, Bool, true, false, refl, ap, ◌∙◌, append-nil, Some, None, Option, map, length, length-map, ◌&&◌, slice_index, if◌then◌else◌, list_any, Mark, Place, mark_of, Token, kind_step, Keys, fresh, is_past, is_overdue, is_required, any_overdue, still_fresh, has_levels, kind_of, left_by, fetched, State, unrolled, stale, in_flow, SimpleKey, stops_at, to_next-stops, or_parts, and_left}
+use Rattle.snap_parse_laws_json.proofs.Prelude.{◌≡◌, ℕ, List, [], ◌∷◌, ◌++◌, Bool, true, false, refl, ap, ◌∙◌, append-nil, Some, None, Option, map, length, length-map, slice_index, if◌then◌else◌, list_any, Place, mark_of, Token, kind_step, Keys, fresh, is_past, is_overdue, is_required, any_overdue, still_fresh, has_levels, kind_of, left_by, fetched, State, unrolled, stale, in_flow, SimpleKey, stops_at, to_next-stops, or_parts, and_left}
+use Rattle.snap_scan_tokens.specs.Mark.{Mark}
 use Rattle.snap_parse_laws.proofs.Pieces.{fetch-settled}
 
 -- a state outside blocks, with these possible keys

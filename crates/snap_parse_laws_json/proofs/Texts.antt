@@ -1,5 +1,5 @@
 -- A JSON text owes its tokens.
-use Rattle.snap_parse_laws_json.proofs.Prelude.{◌≡◌, ℕ, List, [], ◌∷◌, ◌++◌, true, false, not, refl, sym, ap, ◌∙◌, subst, arith, append-nil, Some, None, Option, map, nat_tests, map-append, nat_le, Plain, Mark, Place, mark_of, before_nul, forced, Token, Utf8, TokenType, stream_end, Keys, no_keys, is_required, still_fresh, fetched, left_by, none_more, one_more, type_of, Owes, State, start_state, at, pushed, allowing, keyless, text_at, has_refused, Condensed, here, steps-append, without-nul, levels, has_long, is_bounded, json_tokens, json_stream_tokens, and_parts, not_true}
+use Rattle.snap_parse_laws_json.proofs.Prelude.{◌≡◌, ℕ, List, [], ◌∷◌, ◌++◌, true, false, not, refl, sym, ap, ◌∙◌, subst, arith, append-nil, Some, None, Option, map, nat_tests, map-append, nat_le, Plain, Place, mark_of, before_nul, forced, Token, Utf8, TokenType, stream_end, Keys, no_keys, is_required, still_fresh, fetched, left_by, none_more, one_more, type_of, Owes, State, start_state, at, pushed, allowing, keyless, text_at, has_refused, Condensed, here, steps-append, without-nul, levels, has_long, is_bounded, json_tokens, json_stream_tokens, and_parts, not_true}
 use Rattle.snap_scan_tokens.specs.declared.token.TokenType.TheVariants as t
 use Rattle.snap_scan.specs.Scan.{start_scan}
 use Rattle.snap_parse_laws_json.proofs.Nuls.{no-nul}
