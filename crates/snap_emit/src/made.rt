@@ -1,16 +1,15 @@
 //! What a node is as a tree.
 ghost use Rattle.std.specs.Prelude.{◌≡◌, true, IfOk, is_some, option_map, Some};
-ghost use Rattle.std.specs.Str.{chars};
 ghost use Rattle.snap_content.specs.Plain.{content_of};
 ghost use Rattle.snap_content.specs.View.{tree};
 ghost use Rattle.snap_yaml.specs.View.{value_of};
-ghost use Rattle.snap_parse.specs.Documents.{plain_value, scalar_value};
+ghost use Rattle.snap_parse.specs.Documents.{scalar_value};
 ghost use Rattle.snap_emit.specs.Built.{reading, seen, is_word_value};
 ghost use Rattle.snap_emit.specs.PlainRead.{number_read};
 
 use crate::whole::{is_whole, signed_content, whole_number};
 use snap_content::{Content, Items, Lent, OutOfMemory, Pairs, Text};
-use snap_parse::{TScalarStyle, Tag, Yaml};
+use snap_parse::{TScalarStyle, Tag, Yaml, plain_value};
 use std::alloc::Global;
 
 /// What a node is, before a tree is made of it where it is put: a tree is large, and this goes through several hands.
@@ -123,16 +122,6 @@ fn number_content(text: Text) -> Content
     }
 }
 
-/// The value of a plain scalar.
-fn plain(alloc: Global, text: &str, tag: Option<Tag>) -> Result<Yaml, OutOfMemory>
-    ensures { IfOk result (λ made. value_of made ≡ plain_value (chars text.now) tag) }
-{
-    match tag {
-        None => Yaml::from_str(alloc, text),
-        Some(tag) => Yaml::tagged(alloc, tag.handle.as_str(), tag.suffix.as_str(), text),
-    }
-}
-
 /// What a scalar is. A text that is held already becomes its text, and a borrowed one is copied once.
 pub(crate) fn scalar(
     alloc: Global,
@@ -143,7 +132,7 @@ pub(crate) fn scalar(
     ensures { IfOk result (λ made. seen made ≡ reading (scalar_value text.entry style tag)) }
 {
     match style {
-        TScalarStyle::Plain => Ok(Made::of_word(plain(alloc, text.as_str(), tag)?)),
+        TScalarStyle::Plain => Ok(Made::of_word(plain_value(alloc, text.as_str(), tag)?)),
         _ => Ok(Made::Text(text.into_text(alloc)?)),
     }
 }

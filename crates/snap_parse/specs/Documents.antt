@@ -8,6 +8,7 @@ use Rattle.snap_yaml.specs.Value.{Value, string, array, hash, bad_value, values_
 use Rattle.snap_yaml.specs.Readers.{is_bad}
 use Rattle.snap_yaml.specs.Typing.{typed_yaml, tagged}
 
+-- what a plain scalar is, by its tag where it has one
 abbrev pub plain_value : List ℕ → Option Tag → Value
 plain_value text None = typed_yaml text
 plain_value text (Some tag) = tagged tag.handle tag.suffix text

@@ -11,6 +11,7 @@ mod scalar;
 
 pub use load::YamlLoader;
 pub use loader::Documents;
+pub use scalar::plain_value;
 pub use snap_parse_events::{
     Event, EventReceiver, LoadError, MarkedEventReceiver, ParseResult, Parser, Tag,
 };

@@ -10,8 +10,8 @@ use snap_scan_tokens::TScalarStyle;
 use snap_yaml::Yaml;
 use std::alloc::Global;
 
-/// The value of a plain scalar.
-fn plain(alloc: Global, text: &str, tag: Option<Tag>) -> Result<Yaml, OutOfMemory>
+/// The value of a plain scalar, by its tag where it has one. The one error is out of memory.
+pub fn plain_value(alloc: Global, text: &str, tag: Option<Tag>) -> Result<Yaml, OutOfMemory>
     ensures { IfOk result (λ made. value_of made ≡ plain_value (chars text.now) tag) }
 {
     match tag {
@@ -30,7 +30,7 @@ pub(crate) fn scalar(
     ensures { IfOk result (λ made. value_of made ≡ scalar_value text.entry style tag) }
 {
     match style {
-        TScalarStyle::Plain => plain(alloc, text.as_str(), tag),
+        TScalarStyle::Plain => plain_value(alloc, text.as_str(), tag),
         _ => Ok(Yaml::String(text.into_text(alloc)?)),
     }
 }
