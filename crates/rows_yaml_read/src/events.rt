@@ -6,8 +6,8 @@ ghost use Rattle.snap_parse_events.specs.Parsing.{events_left};
 use crate::marks::{add_mark, add_refusal, add_style};
 use rows::add_text_column;
 use snap_content::{OutOfMemory, Text};
-use snap_parse_events::{Event, Parser, Tag};
-use snap_scan_tokens::Marker;
+use snap_parse_events::{Event, Parser};
+use snap_scan_tokens::{Marker, Tag};
 use std::alloc::Global;
 
 /// A line for each event, `MARK NAME` and its fields, up to StreamEnd; or `! MARK CODE` where the text is refused.
@@ -89,8 +89,8 @@ fn add_tag(alloc: Global, lines: &mut Text, tag: &Option<Tag>) -> Result<(), Out
     match tag {
         None => Ok(()),
         Some(tag) => {
-            add_text_column(alloc, lines, tag.handle.as_str())?;
-            add_text_column(alloc, lines, tag.suffix.as_str())
+            add_text_column(alloc, lines, tag.handle().as_str())?;
+            add_text_column(alloc, lines, tag.suffix().as_str())
         }
     }
 }

@@ -7,7 +7,7 @@ use Rattle.snap_yaml.specs.Readers.{is_bad}
 use Rattle.snap_yaml.specs.Typing.{integer_or, integer_of, prefixed_number, is_real_text, typed_yaml, typed_word, typed_as, typed_bool, typed_int, typed_float, typed_null, tagged}
 use Rattle.snap_print.specs.Typed.{is_null_word}
 use Rattle.std.specs.Str.{bytes_eq}
-use Rattle.snap_parse_events.specs.declared.event.Tag.{Tag}
+use Rattle.snap_scan_tokens.specs.declared.tag.Tag.{Tag}
 use Rattle.snap_parse.specs.Documents.{plain_value}
 use Rattle.snap_parse_events.specs.declared.event.Event.{Event}
 use Rattle.snap_parse_events.specs.declared.event.Event.TheVariants as e

@@ -9,7 +9,7 @@ use Rattle.snap_print.specs.Typed.{number_in, has_64_bits, has_128_bits, is_null
 use Rattle.snap_content.proofs.PlainMade.{plain_made}
 use Rattle.snap_scan_tokens.specs.declared.token.TScalarStyle.{TScalarStyle}
 use Rattle.snap_scan_tokens.specs.declared.token.TScalarStyle.TheVariants as style
-use Rattle.snap_parse_events.specs.declared.event.Tag.{Tag}
+use Rattle.snap_scan_tokens.specs.declared.tag.Tag.{Tag}
 use Rattle.snap_parse_events.specs.Nodes.{Node, alias, scalar, list, dict, Nodes, no_nodes, node, Pairs, no_pairs, pair}
 use Rattle.snap_yaml.specs.Readers.{is_bad}
 use Rattle.snap_yaml.specs.Typing.{is_integer_in, integer_of, is_digits_in, behind_zero, prefixed_number, is_real_text, integer_or, typed_word, typed_yaml, typed_bool, typed_int, typed_float, typed_null, typed_as}

@@ -1,8 +1,8 @@
 -- The values of documents, from their nodes.
 use Rattle.std.specs.Prelude.{ℕ, List, [], ◌∷◌, Option, None, Some, unwrap_or, if◌then◌else◌}
+use Rattle.snap_scan_tokens.specs.declared.tag.Tag.{Tag}
 use Rattle.snap_scan_tokens.specs.declared.token.TScalarStyle.{TScalarStyle}
 use Rattle.snap_scan_tokens.specs.declared.token.TScalarStyle.TheVariants as style
-use Rattle.snap_parse_events.specs.declared.event.Tag.{Tag}
 use Rattle.snap_parse_events.specs.Nodes.{Node, alias, scalar, list, dict, Nodes, no_nodes, node, Pairs, no_pairs, pair}
 use Rattle.snap_yaml.specs.Value.{Value, string, array, hash, bad_value, values_of, pairs_of}
 use Rattle.snap_yaml.specs.Readers.{is_bad}

@@ -13,7 +13,7 @@ pub use load::YamlLoader;
 pub use loader::Documents;
 pub use scalar::plain_value;
 pub use snap_parse_events::{
-    Event, EventReceiver, LoadError, MarkedEventReceiver, ParseResult, Parser, Tag,
+    Event, EventReceiver, LoadError, MarkedEventReceiver, ParseResult, Parser,
 };
-pub use snap_scan_tokens::{Marker, ScanError, ScanInfo, TScalarStyle};
+pub use snap_scan_tokens::{Marker, ScanError, ScanInfo, TScalarStyle, Tag};
 pub use snap_yaml::{Array, Hash, Yaml, YamlIter};

@@ -5,8 +5,7 @@ ghost use Rattle.snap_parse.specs.Documents.{plain_value, scalar_value};
 ghost use Rattle.snap_yaml.specs.View.{value_of};
 
 use snap_content::{Lent, OutOfMemory};
-use snap_parse_events::Tag;
-use snap_scan_tokens::TScalarStyle;
+use snap_scan_tokens::{TScalarStyle, Tag};
 use snap_yaml::Yaml;
 use std::alloc::Global;
 
@@ -16,7 +15,7 @@ pub fn plain_value(alloc: Global, text: &str, tag: Option<Tag>) -> Result<Yaml, 
 {
     match tag {
         None => Yaml::from_str(alloc, text),
-        Some(tag) => Yaml::tagged(alloc, tag.handle.as_str(), tag.suffix.as_str(), text),
+        Some(tag) => Yaml::tagged(alloc, tag.handle().as_str(), tag.suffix().as_str(), text),
     }
 }
 

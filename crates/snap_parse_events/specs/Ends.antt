@@ -7,7 +7,7 @@ use Rattle.snap_parse_events.specs.declared.state.Ends.TheVariants as n
 
 abbrev pub ends_document : TokenType → Bool
 ends_document (k.VersionDirective a b) = true
-ends_document (k.TagDirective a b) = true
+ends_document (k.TagDirective tag) = true
 ends_document k.DocumentStart = true
 ends_document k.DocumentEnd = true
 ends_document k.StreamEnd = true
@@ -62,5 +62,5 @@ is_document_end _ = false
 
 abbrev pub is_directive : TokenType → Bool
 is_directive (k.VersionDirective a b) = true
-is_directive (k.TagDirective a b) = true
+is_directive (k.TagDirective tag) = true
 is_directive _ = false

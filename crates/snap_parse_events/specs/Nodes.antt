@@ -1,7 +1,7 @@
 -- Documents as trees, with anchors and aliases, and their events.
 use Rattle.std.specs.Prelude.{ℕ, List, [], ◌∷◌, Option}
 use Rattle.snap_scan_tokens.specs.declared.token.TScalarStyle.{TScalarStyle}
-use Rattle.snap_parse_events.specs.declared.event.Tag.{Tag}
+use Rattle.snap_scan_tokens.specs.declared.tag.Tag.{Tag}
 use Rattle.snap_parse_events.specs.declared.event.Event.{Event}
 use Rattle.snap_parse_events.specs.declared.event.Event.TheVariants as e
 

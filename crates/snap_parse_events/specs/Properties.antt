@@ -1,12 +1,12 @@
 -- What anchors and tags do to the event of a node.
 use Rattle.std.specs.Prelude.{◌≡◌, ℕ, Bool, true, false, if◌then◌else◌, codes, Option}
 use Rattle.std.specs.Str.{chars}
+use Rattle.snap_scan_tokens.specs.declared.tag.Tag.{Tag}
 use Rattle.snap_scan_tokens.specs.declared.token.TokenType.{TokenType}
 use Rattle.snap_scan_tokens.specs.declared.token.TokenType.TheVariants as k
 use Rattle.snap_scan_tokens.specs.declared.token.TScalarStyle.TheVariants as style
 use Rattle.snap_parse_events.specs.declared.event.Event.{Event}
 use Rattle.snap_parse_events.specs.declared.event.Event.TheVariants as e
-use Rattle.snap_parse_events.specs.declared.event.Tag.{Tag}
 use Rattle.snap_parse_events.specs.declared.state.Context.{Context}
 use Rattle.snap_parse_events.specs.Context.{takes_blocks, takes_indentless}
 
@@ -42,7 +42,7 @@ HasTag tag _ = ⊥
 abbrev pub is_property : TokenType → Bool
 is_property (k.Alias name) = true
 is_property (k.Anchor name) = true
-is_property (k.Tag handle suffix) = true
+is_property (k.Tag tag) = true
 is_property _ = false
 
 abbrev pub is_anchor : TokenType → Bool
@@ -50,5 +50,5 @@ is_anchor (k.Anchor name) = true
 is_anchor _ = false
 
 abbrev pub is_tag : TokenType → Bool
-is_tag (k.Tag handle suffix) = true
+is_tag (k.Tag tag) = true
 is_tag _ = false

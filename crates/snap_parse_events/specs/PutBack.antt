@@ -2,6 +2,7 @@
 use Rattle.std.specs.Prelude.{◌≡◌, ℕ, List, Bool, true, false, Some, Result, IfOk}
 use Rattle.snap_scan_tokens.specs.Mark.{Mark}
 use Rattle.snap_scan_tokens.specs.declared.info.ScanError.{ScanError}
+use Rattle.snap_scan_tokens.specs.declared.tag.Tag.{Tag}
 use Rattle.snap_scan_tokens.specs.declared.token.Token.{Token}
 use Rattle.snap_scan_tokens.specs.declared.token.TokenType.{TokenType}
 use Rattle.snap_scan_tokens.specs.declared.token.TokenType.TheVariants as k
@@ -17,7 +18,7 @@ use Rattle.snap_parse_events.specs.Properties.{HasAnchor, HasTag}
 -- an anchor or a tag, which stands before its node
 abbrev pub is_prefix : TokenType → Bool
 is_prefix (k.Anchor name) = true
-is_prefix (k.Tag handle suffix) = true
+is_prefix (k.Tag tag) = true
 is_prefix _ = false
 
 abbrev pub is_entry : TokenType → Bool
@@ -97,8 +98,7 @@ MarkedBy suffices r old = (token : Token) → old.held ≡ Some token → suffic
 -- where a tag was put back, the event has it
 abbrev pub TaggedBy : Result (Event × Mark) ScanError → Tokens → Type 0
 TaggedBy r old =
-    (token : Token) (handle suffix : List ℕ) → old.held ≡ Some token → token.1 ≡ k.Tag handle suffix
-    → IfOk r (λ given. HasTag (Some (record { handle = handle; suffix = suffix })) given.0)
+    (token : Token) (tag : Tag) → old.held ≡ Some token → token.1 ≡ k.Tag tag → IfOk r (λ given. HasTag (Some tag) given.0)
 
 -- where an anchor was put back, the event has this number
 abbrev pub AnchoredBy : ℕ → Result (Event × Mark) ScanError → Tokens → Type 0

@@ -1,13 +1,6 @@
 //! Events: what a parser makes of tokens.
-use snap_content::{Lent, Text};
-use snap_scan_tokens::TScalarStyle;
-
-/// A tag as it is written: its handle, as `!!`, and what stands after it.
-#[derive(Debug, Drop, PartialEq, Eq)]
-pub struct Tag {
-    pub handle: Text,
-    pub suffix: Text,
-}
+use snap_content::Lent;
+use snap_scan_tokens::{TScalarStyle, Tag};
 
 /// What a parser gives. The numbers are those of anchors, from 1, and 0 at a node without one.
 #[derive(Debug, Drop, PartialEq, Eq)]

@@ -22,6 +22,6 @@ mod state;
 mod tokens;
 
 pub use error::LoadError;
-pub use event::{Event, Tag};
+pub use event::Event;
 pub use parser::{ParseResult, Parser};
 pub use receiver::{EventReceiver, MarkedEventReceiver};

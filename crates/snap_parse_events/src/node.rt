@@ -4,15 +4,16 @@ ghost use Rattle.snap_scan.specs.Sound.{IsFounded};
 ghost use Rattle.snap_parse_events.specs.Feed.{tokens_left, Took};
 ghost use Rattle.snap_parse_events.specs.Names.{Names, Naming, id_of, IsAnchored, Registers};
 
-use crate::event::{Event, Tag};
+use crate::event::Event;
 use crate::machine::{Machine, ParseResult};
 use crate::state::{Context, Ends, Stage, State};
 use snap_content::{Lent, Text};
-use snap_scan_tokens::{Marker, ScanError, ScanInfo, TScalarStyle, Token, TokenType};
+use snap_scan_tokens::{Marker, ScanError, ScanInfo, TScalarStyle, Tag, Token, TokenType};
 
 impl<'a> Machine<'a> {
     ghost use Rattle.snap_parse_events.specs.PutBack.{is_prefix, AnchoredBy, MarkedBy, TaggedBy};
     ghost use Rattle.snap_parse_events.specs.Ends.{ends_at};
+    ghost use Rattle.snap_scan_tokens.specs.declared.tag.Tag.{Tag as TagSeen};
     ghost use Rattle.snap_scan_tokens.specs.declared.token.TokenType.{TokenType as Kind};
     ghost use Rattle.snap_parse_events.specs.Context.{takes_indentless};
     ghost use Rattle.snap_parse_events.specs.Properties.{content_event, empty_text, is_anchor, is_property, is_tag, HasAnchor, HasTag};
@@ -69,8 +70,8 @@ impl<'a> Machine<'a> {
             → IfOk result (λ given. HasAnchor self.old.anchors.next given.0) }
         ensures named { (name : List ℕ) → token.entry.1 ≡ Kind.Anchor name
             → OnOk result (Registers name self.old.anchors self.new.anchors) }
-        ensures tag { (handle suffix : List ℕ) → token.entry.1 ≡ Kind.Tag handle suffix → IfOk
-            result (λ given. HasTag (Some (record { handle = handle; suffix = suffix })) given.0) }
+        ensures tag { (tag : TagSeen) → token.entry.1 ≡ Kind.Tag tag
+            → IfOk result (λ given. HasTag (Some tag) given.0) }
         ensures content { is_property token.entry.1 ≡ false → IfOk result (λ given.
             given.0 ≡ content_event context 0 None token.entry.1) }
         ensures mark { is_prefix token.entry.1 ≡ false
@@ -83,9 +84,9 @@ impl<'a> Machine<'a> {
                 let token = self.tokens.take()?;
                 self.parse_anchored(token, anchor, context, behind)
             }
-            Token(_, TokenType::Tag(handle, suffix)) => {
+            Token(_, TokenType::Tag(tag)) => {
                 let token = self.tokens.take()?;
-                self.parse_tagged(token, Tag { handle, suffix }, context, behind)
+                self.parse_tagged(token, tag, context, behind)
             }
             token => self.parse_content(token, 0, None, context, behind),
         }
@@ -134,17 +135,17 @@ impl<'a> Machine<'a> {
             → StaysSound source result self.new.tokens (spot_of self.new) }
         ensures kept { self.new.anchors ≡ self.old.anchors }
         ensures anchor { IfOk result (λ given. HasAnchor anchor given.0) }
-        ensures tag { (handle suffix : List ℕ) → token.entry.1 ≡ Kind.Tag handle suffix → IfOk
-            result (λ given. HasTag (Some (record { handle = handle; suffix = suffix })) given.0) }
+        ensures tag { (tag : TagSeen) → token.entry.1 ≡ Kind.Tag tag
+            → IfOk result (λ given. HasTag (Some tag) given.0) }
         ensures content { is_tag token.entry.1 ≡ false → IfOk result (λ given.
             given.0 ≡ content_event context anchor None token.entry.1) }
         ensures mark { is_tag token.entry.1 ≡ false
             → IfOk result (λ given. given.1 ≡ token.entry.0) }
     {
         match token {
-            Token(_, TokenType::Tag(handle, suffix)) => {
+            Token(_, TokenType::Tag(tag)) => {
                 let token = self.tokens.take()?;
-                let tag = Some(Tag { handle, suffix });
+                let tag = Some(tag);
                 self.parse_content(token, anchor, tag, context, behind)
             }
             token => self.parse_content(token, anchor, None, context, behind),
@@ -301,7 +302,7 @@ impl<'a> Machine<'a> {
         ensures twin { Follows (filled_step ends context behind self.old.outer.items)
             result self.old self.new }
         ensures mark { MarkedBy (λ t. is_prefix t ≡ false) result self.old.tokens }
-        ensures tagged { ((handle suffix : List ℕ) → ends_at ends (Kind.Tag handle suffix) ≡ false)
+        ensures tagged { ((tag : TagSeen) → ends_at ends (Kind.Tag tag) ≡ false)
             → TaggedBy result self.old.tokens }
         ensures anchored { ((name : List ℕ) → ends_at ends (Kind.Anchor name) ≡ false)
             → AnchoredBy self.old.anchors.next result self.old.tokens }
