@@ -6,9 +6,10 @@ use Rattle.snap_scan_tokens.specs.declared.quoted.Quotes.{Quotes}
 use Rattle.snap_scan_tokens.specs.declared.token.TScalarStyle.{TScalarStyle}
 use Rattle.snap_scan_tokens.specs.declared.token.TScalarStyle.TheVariants as style
 use Rattle.snap_scan_tokens.specs.declared.token.TokenType.TheVariants as t
-use Rattle.snap_scan.specs.Fetching.{told, plain, plain_read, quoted, quoted_read}
+use Rattle.snap_scan.specs.Fetching.{Leaves, told, plain, plain_read, quoted, quoted_read, read, read_key}
 use Rattle.snap_scan.specs.Owed.{left_by}
-use Rattle.snap_scan.specs.State.{inserted, is_innermost, is_key_owed}
+use Rattle.snap_scan.specs.State.{allowing, inserted, is_innermost, is_key_owed}
+use Rattle.snap_scan.specs.declared.kind.TokenKind.{TokenKind}
 use Rattle.snap_parse_laws.proofs.Keys.{insert-at}
 use Rattle.snap_parse_laws.specs.KeyPlaces.{NamesLast, MayStart, StandsBefore}
 
@@ -50,6 +51,17 @@ plain-named s u p key allowed is possible = plain-read s u p key (is_key_owed s)
 
 pub quoted-named : (quotes : Quotes) (s u : State) (p : Place) (key : SimpleKey) → s.allowed ≡ true → quoted quotes s ≡ told p u → u.keys.key ≡ Some key → NamesLast key u.held
 quoted-named quotes s u p key allowed is possible = quoted-read s u p key (style_of quotes) (is_key_owed s) (quoted_from quotes s.place) allowed is possible
+
+read-left : (kind : TokenKind) (s u : State) (key : SimpleKey) (b : Bool) → s.allowed ≡ true
+    → Leaves (if b then refused (mark_of s.place) i.S2 else read kind (allowing false (saved s))) u → u.keys.key ≡ Some key → NamesLast key u.held
+read-left kind s u key true allowed left possible = absurd left
+read-left kind s u key false allowed left possible =
+    let token = at (mark_of s.place) left.token in
+    let some : State → Option State = λ v. Some v in
+    last-named s (record (pushed token (allowing false (saved s))) { place = u.place }) u token key (ap some (sym left.leaves)) refl refl refl allowed possible
+
+pub read-named : (kind : TokenKind) (s u : State) (key : SimpleKey) → s.allowed ≡ true → Leaves (read_key kind s) u → u.keys.key ≡ Some key → NamesLast key u.held
+read-named kind s u key allowed left possible = read-left kind s u key (is_key_owed s) allowed left possible
 
 stands : (key : SimpleKey) (before starts : List Token) (token : Token) (behind : List Token) (v : Token) (held : List Token) → MayStart starts
     → held ≡ before ++ (starts ++ at key.mark t.Key ∷ token ∷ behind) → StandsBefore key before token (held ++ v ∷ [])

@@ -6,9 +6,10 @@ ghost use Rattle.snap_print.specs.Lines.{document_of};
 ghost use Rattle.snap_scan_tokens.specs.Place.{before_nul, Place};
 ghost use Rattle.snap_scan_tokens.specs.declared.quoted.Quotes.{Quotes};
 ghost use Rattle.snap_scan_tokens.specs.declared.token.Token.{Token};
-ghost use Rattle.snap_scan.specs.Fetching.{plain, quoted, told, value_of_key};
+ghost use Rattle.snap_scan.specs.Fetching.{Leaves, plain, quoted, read_key, told, value_of_key};
 ghost use Rattle.snap_scan.specs.State.{State};
 ghost use Rattle.snap_scan.specs.declared.keys.SimpleKey.{SimpleKey};
+ghost use Rattle.snap_scan.specs.declared.kind.TokenKind.{TokenKind};
 ghost use Rattle.snap_scan.specs.Owed.{Owes};
 ghost use Rattle.snap_scan.specs.Scan.{start_scan};
 ghost use Rattle.snap_parse_laws.specs.Endings.{ends_in_block};
@@ -47,13 +48,16 @@ pub const fn free_layouts_owe_their_tokens()
         → Owes (start_scan (before_nul (document_text d))).state (document_with (layout_tokens d.tree)) }
 {}
 
-/// Where a simple key may begin, the possible key that a plain or a quoted scalar leaves names that scalar's token, and has its mark.
+/// Where a simple key may begin, the possible key that a plain or a quoted scalar, an alias, an anchor or a tag leaves names the token
+/// that was put, and has its mark.
 pub const fn possible_keys_are_their_tokens()
     ensures plain { (s u : State) (p : Place) (key : SimpleKey) → s.allowed ≡ true
         → plain s ≡ told p u → u.keys.key ≡ Some key → NamesLast key u.held }
     ensures quoted { (quotes : Quotes) (s u : State) (p : Place) (key : SimpleKey)
         → s.allowed ≡ true → quoted quotes s ≡ told p u → u.keys.key ≡ Some key
         → NamesLast key u.held }
+    ensures read { (kind : TokenKind) (s u : State) (key : SimpleKey) → s.allowed ≡ true
+        → Leaves (read_key kind s) u → u.keys.key ≡ Some key → NamesLast key u.held }
 {}
 
 /// At the `:` of a possible key, Key is put right before the token that it names, at the key's mark.
