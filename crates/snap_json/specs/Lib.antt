@@ -4,4 +4,5 @@ pub mod JsonPlain
 pub mod JsonText
 pub mod Written
 pub mod Walked
+pub mod Within
 pub mod OneLine

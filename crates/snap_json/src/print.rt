@@ -1,6 +1,8 @@
 //! The JSON text of a tree.
 ghost use Rattle.std.specs.Prelude.{◌≡◌, IfOk, OnOk, IsErrOf, true, false};
 ghost use Rattle.snap_content.specs.View.{tree};
+ghost use Rattle.snap_print.specs.Readable.{IsWithin};
+ghost use Rattle.snap_json.specs.JsonPlain.{json_plain};
 ghost use Rattle.snap_json.specs.JsonText.{json_text, json_refuses, compact_text};
 ghost use Rattle.snap_json.specs.declared.error.JsonError.TheVariants.{JsonKey};
 ghost use Rattle.snap_json.specs.declared.format.Format.TheVariants.{Condensed, Pretty};
@@ -18,6 +20,7 @@ const COMPACT_MAX_CHARS: usize = 120;
 fn text_in(alloc: Global, format: Format, value: &Content) -> Result<Text, JsonError>
     ensures value { IfOk result (λ text. text ≡ json_text format (tree value.now)) }
     ensures accepted { OnOk result (json_refuses (tree value.now) ≡ false) }
+    ensures within { OnOk result (IsWithin (json_plain (tree value.now))) }
     ensures refused { IsErrOf result JsonKey → json_refuses (tree value.now) ≡ true }
 {
     let mut text = Text::empty();
@@ -29,6 +32,7 @@ fn text_in(alloc: Global, format: Format, value: &Content) -> Result<Text, JsonE
 pub fn to_string(alloc: Global, value: &Content) -> Result<Text, JsonError>
     ensures value { IfOk result (λ text. text ≡ json_text Condensed (tree value.now)) }
     ensures accepted { OnOk result (json_refuses (tree value.now) ≡ false) }
+    ensures within { OnOk result (IsWithin (json_plain (tree value.now))) }
     ensures refused { IsErrOf result JsonKey → json_refuses (tree value.now) ≡ true }
 {
     text_in(alloc, Format::Condensed, value)
@@ -38,6 +42,7 @@ pub fn to_string(alloc: Global, value: &Content) -> Result<Text, JsonError>
 pub fn to_string_compact(alloc: Global, value: &Content) -> Result<Text, JsonError>
     ensures value { IfOk result (λ text. text ≡ compact_text (tree value.now)) }
     ensures accepted { OnOk result (json_refuses (tree value.now) ≡ false) }
+    ensures within { OnOk result (IsWithin (json_plain (tree value.now))) }
     ensures refused { IsErrOf result JsonKey → json_refuses (tree value.now) ≡ true }
 {
     let line = text_in(alloc, Format::SingleLine, value)?;
@@ -51,6 +56,7 @@ pub fn to_string_compact(alloc: Global, value: &Content) -> Result<Text, JsonErr
 pub fn to_string_pretty(alloc: Global, value: &Content) -> Result<Text, JsonError>
     ensures value { IfOk result (λ text. text ≡ json_text Pretty (tree value.now)) }
     ensures accepted { OnOk result (json_refuses (tree value.now) ≡ false) }
+    ensures within { OnOk result (IsWithin (json_plain (tree value.now))) }
     ensures refused { IsErrOf result JsonKey → json_refuses (tree value.now) ≡ true }
 {
     text_in(alloc, Format::Pretty, value)

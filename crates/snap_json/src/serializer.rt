@@ -2,6 +2,8 @@
 ghost use Rattle.std.specs.Prelude.{◌≡◌, ◌++◌, [], OnOk, OnErr, IsErrOf, true, false};
 ghost use Rattle.snap_content.specs.View.{tree};
 ghost use Rattle.snap_print.specs.Begun.{IsBegun};
+ghost use Rattle.snap_print.specs.Readable.{IsWithin};
+ghost use Rattle.snap_json.specs.JsonPlain.{json_plain};
 ghost use Rattle.snap_json.specs.JsonText.{json_text, json_refuses};
 ghost use Rattle.snap_json.specs.Written.{before_first_refusal};
 ghost use Rattle.snap_json.specs.declared.error.JsonError.TheVariants.{JsonKey};
@@ -45,6 +47,7 @@ impl Serializer {
     pub fn serialize(&mut self, value: &Content) -> Result<(), JsonError>
         ensures ok { OnOk result (self.new ≡ self.old ++ json_text Condensed (tree value.now)) }
         ensures accepted { OnOk result (json_refuses (tree value.now) ≡ false) }
+        ensures within { OnOk result (IsWithin (json_plain (tree value.now))) }
         ensures begun { OnErr result (IsBegun self.old self.new (before_first_refusal Condensed (tree value.now))) }
         ensures refused { IsErrOf result JsonKey → json_refuses (tree value.now) ≡ true }
         ensures up_to_key { IsErrOf result JsonKey → self.new ≡ self.old ++ before_first_refusal Condensed (tree value.now) }

@@ -1,5 +1,7 @@
 //! The walk that writes a tree: each piece goes straight into the text.
-ghost use Rattle.std.specs.Prelude.{◌+◌};
+ghost use Rattle.std.specs.Prelude.{◌+◌, OnOk};
+ghost use Rattle.std.specs.List.{All};
+ghost use Rattle.snap_json.specs.Within.{IsKeptWithin, IsPairWithin, IsFieldWithin, IsByteWithin};
 ghost use Rattle.snap_json.specs.Walked.{value_written, bytes_written, item_list_written, pair_list_written, field_list_written, variant_opening, variant_written};
 ghost use Rattle.snap_json.specs.Written.{Wrote};
 
@@ -7,7 +9,7 @@ use crate::error::JsonError;
 use crate::format::Format;
 use crate::keys::{write_key, write_name};
 use crate::layout::{deeper, write_closing, write_comma, write_opening};
-use crate::numbers::write_number;
+use crate::numbers::{write_byte, write_natural, write_signed, write_unsigned, write_wide};
 use crate::strings::{write_character, write_string};
 use crate::words::write_word;
 use snap_content::{Content, Text};
@@ -22,21 +24,22 @@ pub fn write_value(
     column: usize,
     value: &Content,
 ) -> Result<(), JsonError>
-    ensures { Wrote result out.old out.new (value_written format column value.now) }
+    ensures wrote { Wrote result out.old out.new (value_written format column value.now) }
+    ensures within { OnOk result (IsKeptWithin value.now) }
 {
     match value {
         Content::Bool(true) => write_word(out, alloc, "true"),
         Content::Bool(false) => write_word(out, alloc, "false"),
-        Content::U8(number) => write_number(out, alloc, *number),
-        Content::U16(number) => write_number(out, alloc, *number),
-        Content::U32(number) => write_number(out, alloc, *number),
-        Content::U64(number) => write_number(out, alloc, *number),
-        Content::U128(number) => write_number(out, alloc, *number),
-        Content::I8(number) => write_number(out, alloc, *number),
-        Content::I16(number) => write_number(out, alloc, *number),
-        Content::I32(number) => write_number(out, alloc, *number),
-        Content::I64(number) => write_number(out, alloc, *number),
-        Content::I128(number) => write_number(out, alloc, *number),
+        Content::U8(number) => write_byte(out, alloc, *number),
+        Content::U16(number) => write_unsigned(out, alloc, u64::from(*number)),
+        Content::U32(number) => write_unsigned(out, alloc, u64::from(*number)),
+        Content::U64(number) => write_unsigned(out, alloc, *number),
+        Content::U128(number) => write_natural(out, alloc, *number),
+        Content::I8(number) => write_signed(out, alloc, i64::from(*number)),
+        Content::I16(number) => write_signed(out, alloc, i64::from(*number)),
+        Content::I32(number) => write_signed(out, alloc, i64::from(*number)),
+        Content::I64(number) => write_signed(out, alloc, *number),
+        Content::I128(number) => write_wide(out, alloc, *number),
         Content::Char(value) => write_character(out, alloc, *value),
         Content::String(text) => write_string(out, alloc, text.as_str()),
         Content::Bytes(bytes) => write_bytes(out, alloc, format, column, bytes.as_slice()),
@@ -71,17 +74,18 @@ fn write_bytes(
     column: usize,
     bytes: &[u8],
 ) -> Result<(), JsonError>
-    ensures { Wrote result out.old out.new (bytes_written format column bytes.now) }
+    ensures wrote { Wrote result out.old out.new (bytes_written format column bytes.now) }
+    ensures within { OnOk result (All IsByteWithin bytes.now) }
 {
     let Some((first, rest)) = bytes.split_first() else {
         return write_word(out, alloc, "[]");
     };
     let inner = deeper(column)?;
     write_opening(out, alloc, format, inner, '[')?;
-    write_number(out, alloc, *first)?;
+    write_byte(out, alloc, *first)?;
     for byte in rest {
         write_comma(out, alloc, format, inner)?;
-        write_number(out, alloc, *byte)?;
+        write_byte(out, alloc, *byte)?;
     }
     write_closing(out, alloc, format, column, ']')
 }
@@ -95,7 +99,8 @@ fn write_items(
     column: usize,
     items: &[Content],
 ) -> Result<(), JsonError>
-    ensures { Wrote result out.old out.new (item_list_written format column items.now) }
+    ensures wrote { Wrote result out.old out.new (item_list_written format column items.now) }
+    ensures within { OnOk result (All IsKeptWithin items.now) }
 {
     let Some((first, rest)) = items.split_first() else {
         return write_word(out, alloc, "[]");
@@ -119,7 +124,8 @@ fn write_pairs(
     column: usize,
     pairs: &[(Content, Content)],
 ) -> Result<(), JsonError>
-    ensures { Wrote result out.old out.new (pair_list_written format column pairs.now) }
+    ensures wrote { Wrote result out.old out.new (pair_list_written format column pairs.now) }
+    ensures within { OnOk result (All IsPairWithin pairs.now) }
 {
     let Some(((key, value), rest)) = pairs.split_first() else {
         return write_word(out, alloc, "{}");
@@ -145,7 +151,8 @@ fn write_fields(
     column: usize,
     fields: &[(Text, Content)],
 ) -> Result<(), JsonError>
-    ensures { Wrote result out.old out.new (field_list_written format column fields.now) }
+    ensures wrote { Wrote result out.old out.new (field_list_written format column fields.now) }
+    ensures within { OnOk result (All IsFieldWithin fields.now) }
 {
     let Some(((name, value), rest)) = fields.split_first() else {
         return write_word(out, alloc, "{}");
@@ -185,9 +192,10 @@ fn write_newtype_variant(
     variant: &Text,
     value: &Content,
 ) -> Result<(), JsonError>
-    ensures { Wrote result out.old out.new
+    ensures wrote { Wrote result out.old out.new
         (variant_written format column (column + 2) variant.now
         (value_written format (column + 2) value.now)) }
+    ensures within { OnOk result (IsKeptWithin value.now) }
 {
     let inner = deeper(column)?;
     write_variant(out, alloc, format, inner, variant)?;
@@ -204,8 +212,9 @@ fn write_tuple_variant(
     variant: &Text,
     items: &[Content],
 ) -> Result<(), JsonError>
-    ensures { Wrote result out.old out.new
+    ensures wrote { Wrote result out.old out.new
         (variant_written format column (column + 2) variant.now (item_list_written format (column + 2) items.now)) }
+    ensures within { OnOk result (All IsKeptWithin items.now) }
 {
     let inner = deeper(column)?;
     write_variant(out, alloc, format, inner, variant)?;
@@ -222,8 +231,9 @@ fn write_struct_variant(
     variant: &Text,
     fields: &[(Text, Content)],
 ) -> Result<(), JsonError>
-    ensures { Wrote result out.old out.new
+    ensures wrote { Wrote result out.old out.new
         (variant_written format column (column + 2) variant.now (field_list_written format (column + 2) fields.now)) }
+    ensures within { OnOk result (All IsFieldWithin fields.now) }
 {
     let inner = deeper(column)?;
     write_variant(out, alloc, format, inner, variant)?;
