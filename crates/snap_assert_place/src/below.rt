@@ -4,10 +4,10 @@ ghost use Rattle.std.specs.Str.{chars};
 ghost use Rattle.snap_path.specs.Paths.{joined, relative_from, front_of, IsName};
 ghost use Rattle.snap_assert_place.specs.Below.{IsOfParts};
 
-use crate::file_path::{holds_slash, is_component};
+use crate::file_path::holds_slash;
 use snap_content::characters::{begins_with, is_same};
 use snap_content::{OutOfMemory, Text};
-use snap_path::{path_join, path_relative_from};
+use snap_path::{is_component, path_join, path_relative_from};
 use std::alloc::Global;
 
 /// Whether the text is one component.

@@ -12,7 +12,7 @@ use snap_str::cut::split_once;
 use std::alloc::Global;
 
 /// Whether the text between two slashes is a component: neither empty nor a dot.
-fn is_component(part: &str) -> bool
+pub fn is_component(part: &str) -> bool
     ensures { result ≡ is_component (chars part.now) }
 {
     match split_first(part) {

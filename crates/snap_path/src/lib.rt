@@ -10,5 +10,6 @@ mod components;
 pub mod names;
 pub mod paths;
 
+pub use components::{is_component, next_component};
 pub use names::{names_of_path, path_name};
 pub use paths::{path_front, path_join, path_parent, path_relative_from};

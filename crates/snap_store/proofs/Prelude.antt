@@ -23,7 +23,7 @@ pub use Rattle.snap_print.specs.Lines.{document_of, text_of, lines_of}
 pub use Rattle.snap_str.specs.Lines.{ended_lines, onto}
 pub use Rattle.snap_text.specs.Lines.{is_line_end, IsUnbroken}
 pub use Rattle.snap_store.specs.Fields.{binary_kind, kind_told, fields_told, kind_in, fields}
-pub use Rattle.snap_store.specs.FileSplit.{is_headed, headed_body, legacy_body, body_of, line_of, before_blank, behind_name, legacy_lines, legacy_field, is_end, joined_lines, lines_text, up_to_fence, past_fence, header_text, first_is_fence, file_text, FallsInto, past_blank, trimmed_front}
+pub use Rattle.snap_store.specs.FileSplit.{is_headed, headed_body, legacy_body, body_of, line_of, before_blank, behind_name, legacy_lines, legacy_field, is_end, joined_lines, lines_text, up_to_fence, past_fence, header_text, first_is_fence, file_text, FallsInto, past_blank}
 pub use Rattle.snap_store.specs.Header.{in_front, FieldsEnd, HasFields}
 pub use Rattle.snap_store.specs.Image.{file_of, saved_text, pending_path}
 pub use Rattle.snap_store.specs.Meta.{Meta, text_field, line_field, info_field, kind_fields, header_tree, without_line, empty_meta, legacy_meta}

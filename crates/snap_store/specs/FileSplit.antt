@@ -1,9 +1,9 @@
 -- How a snapshot file falls into its header and its body.
 use Rattle.std.specs.Prelude.{◌≡◌, ◌==◌, ◌&&◌, ℕ, List, [], ◌∷◌, ◌++◌, Bool, true, false, if◌then◌else◌, Option, None, Some, option_map, map, drop, codes}
 use Rattle.std.specs.Option.{option_or}
-use Rattle.std.specs.Char.{is_whitespace, to_ascii_lowercase}
+use Rattle.std.specs.Char.{to_ascii_lowercase}
 use Rattle.std.specs.List.{concat}
-use Rattle.std.specs.Str.{bytes_eq}
+use Rattle.std.specs.Str.{bytes_eq, skip_leading_whitespace}
 use Rattle.snap_content.specs.Plain.{Plain}
 use Rattle.snap_print.specs.Blocks.{Blocks}
 use Rattle.snap_print.specs.Lines.{document_of, text_of}
@@ -84,10 +84,6 @@ past_blank (line ∷ lines) = if is_blank line then lines else past_blank lines
 abbrev pub legacy_body : List ℕ → List ℕ
 legacy_body text = joined_lines (past_blank (legacy_lines text))
 
-abbrev pub trimmed_front : List ℕ → List ℕ
-trimmed_front [] = []
-trimmed_front (c ∷ cs) = if is_whitespace c then trimmed_front cs else c ∷ cs
-
 -- what stands after the name and a colon, where the line begins with them; case does not count in ASCII
 abbrev pub behind_name : List ℕ → List ℕ → Option (List ℕ)
 behind_name name [] = None
@@ -95,7 +91,7 @@ behind_name [] (c ∷ cs) = if c == 58 then Some cs else None
 behind_name (n ∷ name) (c ∷ cs) = if to_ascii_lowercase c == n then behind_name name cs else None
 
 abbrev pub value_of : List ℕ → List ℕ
-value_of text = trimmed (trimmed_front text)
+value_of text = trimmed (skip_leading_whitespace text)
 
 -- the value of the last of the lines that name the field, which is written in small letters
 abbrev pub legacy_field : List ℕ → List (List ℕ) → Option (List ℕ)

@@ -3,7 +3,7 @@
 ghost use Rattle.std.specs.Prelude.{◌≡◌, [], drop, IfOk, map, option_map};
 ghost use Rattle.std.specs.Str.{chars};
 ghost use Rattle.snap_str.specs.Lines.{ended_lines};
-ghost use Rattle.snap_store.specs.FileSplit.{line_of, is_blank, before_blank, past_blank, trimmed_front, behind_name, value_of, legacy_lines, legacy_body, legacy_field};
+ghost use Rattle.snap_store.specs.FileSplit.{line_of, is_blank, before_blank, past_blank, behind_name, value_of, legacy_lines, legacy_body, legacy_field};
 ghost use Rattle.snap_store.specs.Meta.{legacy_meta};
 ghost use Rattle.snap_store.specs.Views.{meta_of};
 
@@ -12,6 +12,7 @@ use crate::split::{body_text, line_text};
 use snap_content::characters::{after_character, is_same, split_first};
 use snap_content::{OutOfMemory, Text};
 use snap_str::lines::next_ended_line;
+use snap_str::trim::trim_start;
 use snap_text::normal::trimmed_text;
 use std::alloc::Global;
 
@@ -101,7 +102,7 @@ fn field_value<'a>(line: &'a str, name: &str) -> Option<&'a str>
 {
     match behind_name(line, name) {
         None => None,
-        Some(value) => Some(trimmed_text(trimmed_front(value))),
+        Some(value) => Some(trimmed_text(trim_start(value))),
     }
 }
 
@@ -121,18 +122,4 @@ fn behind_name<'a>(line: &'a str, name: &str) -> Option<&'a str>
         letters = others;
     }
     after_character(rest, ':')
-}
-
-/// The text without the white space in front of it.
-fn trimmed_front(text: &str) -> &str
-    ensures { chars result.now ≡ trimmed_front (chars text.now) }
-{
-    let mut rest = text;
-    while let Some((first, more)) = split_first(rest) {
-        if !first.is_whitespace() {
-            return rest;
-        }
-        rest = more;
-    }
-    rest
 }

@@ -1,46 +1,15 @@
 //! A path without the components of another that stand at its front.
-ghost use Rattle.std.specs.Prelude.{◌≡◌, ◌<◌, [], ◌∷◌, List, ℕ, None, Some, length, IfOk, IfSome, MatchOption, option_map};
+ghost use Rattle.std.specs.Prelude.{◌≡◌, ◌∷◌, List, ℕ, None, Some, IfOk, MatchOption, option_map};
 ghost use Rattle.std.specs.Str.{bytes_eq, chars};
-ghost use Rattle.snap_path.specs.Paths.{is_component, components, slashed, apart};
+ghost use Rattle.snap_path.specs.Paths.{components, slashed, apart};
 ghost use Rattle.snap_store.specs.Relative.{left_below, path_within, source_within};
 ghost use Rattle.snap_store.specs.Views.{meta_of};
 
 use crate::metadata::MetaData;
-use snap_content::characters::{begins_with, split_first};
+use snap_content::characters::begins_with;
 use snap_content::{OutOfMemory, Text};
-use snap_path::{path_join, path_relative_from};
-use snap_str::cut::split_once;
+use snap_path::{next_component, path_join, path_relative_from};
 use std::alloc::Global;
-
-/// Whether the text between two slashes is a component: neither empty nor a dot.
-fn is_component(part: &str) -> bool
-    ensures { result ≡ is_component (chars part.now) }
-{
-    match split_first(part) {
-        None => false,
-        Some((first, rest)) => first != '.' || split_first(rest).is_some(),
-    }
-}
-
-/// The first component, and what stands after it; none exactly where there is no component.
-fn next_component(path: &str) -> Option<(&str, &str)>
-    ensures component { MatchOption result (components (chars path.now) ≡ [])
-        (λ p. components (chars path.now) ≡ chars p.0.now ∷ components (chars p.1.now)) }
-    ensures shorter { IfSome result (λ p. length (chars p.1.now) < length (chars path.now)) }
-{
-    let mut rest = path;
-    while let Some((part, next)) = split_once(rest, '/') {
-        if is_component(part) {
-            return Some((part, next));
-        }
-        rest = next;
-    }
-    if is_component(rest) {
-        Some((rest, ""))
-    } else {
-        None
-    }
-}
 
 /// Whether both are the same component.
 fn is_same(part: &str, other: &str) -> bool
