@@ -1,5 +1,5 @@
 -- The words that the proofs of this crate speak in: those of the library, of the crates below, and of its own definitions.
-pub use Rattle.std.proofs.Common.{◌≡◌, ℕ, List, [], ◌∷◌, ◌++◌, Bool, true, false, cond, refl, sym, ap, ◌∙◌, subst, ◌==◌, Some, append_assoc, codes, ◌||◌, length, unwrap_or}
+pub use Rattle.std.proofs.Common.{◌≡◌, ℕ, List, [], ◌∷◌, ◌++◌, Bool, true, false, cond, refl, sym, ap, ◌∙◌, subst, ◌==◌, Some, append_assoc, codes, ◌||◌, length, unwrap_or, inl, inr}
 pub use Rattle.std.proofs.lemmas.List.Elements.{All-append}
 pub use Rattle.std.proofs.lemmas.Result.{IfOk-weaker}
 pub use Rattle.std.specs.List.{filter, flat_map}
@@ -16,4 +16,5 @@ pub use Rattle.snap_assert_place.specs.SnapshotPath.{file_prefix, flat_name, fil
 pub use Rattle.std.proofs.Common.{Option, None}
 pub use Rattle.std.specs.Prelude.{is_some}
 pub use Rattle.snap_path.specs.Names.{past_mark}
+pub use Rattle.snap_str.specs.Cut.{IsLastPart}
 pub use Rattle.snap_assert_place.specs.Names.{past_colons, holds_colons, last_name}
