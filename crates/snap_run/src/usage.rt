@@ -35,6 +35,9 @@ REQUESTS are YAML documents on standard input, each headed by ---, with the keys
   file           its source file, seen from WORKSPACE
   line           its line in that file, a whole number
   name           the name of the snapshot
+  function       in its place: the path of the test, as a::b::test_c, which gives
+                 the name c, and a second value of it c-2
+  suffix         may be left out: a text that comes after the name, as name@suffix
   expr           the expression that the value came of
   value          the value, any tree
   redactions     may be left out: a list of maps, each with at, and put or sort
@@ -42,6 +45,8 @@ REQUESTS are YAML documents on standard input, each headed by ---, with the keys
     put          what stands there in place of the value
     sort         true: the list that stands there is put in order
   sort           may be left out; true: maps are sorted by their keys
+Between a document with the one pair duplicates: begin and one with
+duplicates: end a name may be used again, for an equal value.
 A document with a float or with an alias, as *a, is no request: hand floats over
 as texts, and have no aliases written (PyYAML: ignore_aliases; js-yaml: noRefs),
 or hand over JSON.
@@ -53,6 +58,8 @@ Exit status:
   1  some values are pending or rejected
   2  wrong words
   3  a document is no request
+  4  a request was refused: names clash, a value differs in a block of duplicates,
+     a test in documentation has no name, or its numbers are used up
   5  a file could not be read or written
   6  the input could not be read
   7  the answers could not be written
