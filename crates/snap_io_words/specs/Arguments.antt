@@ -21,3 +21,10 @@ words_after_name (name ∷ words) = words
 -- the words are the arguments after the program's name, where all arguments are texts
 abbrev pub words_given : Option (List (List ℕ)) → Option (List (List ℕ))
 words_given arguments = option_map words_after_name arguments
+
+-- the texts of some words need memory; and so may the arguments themselves, where they are not given
+abbrev pub NeedsMemory : Option (List (List ℕ)) → Type 0
+NeedsMemory None = Unit {0}
+NeedsMemory (Some []) = ⊥
+NeedsMemory (Some (name ∷ [])) = ⊥
+NeedsMemory (Some (name ∷ word ∷ words)) = Unit {0}

@@ -4,7 +4,7 @@ use Rattle.snap_explain.proofs.command.explain_arguments.Goals as goal
 
 pub returns-in-Ok-Some : goal.returns-in-Ok-Some
 returns-in-Ok-Some g c =
-    let words = rw c.in-Ok-Some.field-0-is at c.in-Ok-Some.ensures in
+    let words = rw c.in-Ok-Some.field-0-is at c.in-Ok-Some.ensures.given in
     subst (λ given. RunOfArguments given c.explain.result (g.S.Source.left c.args.source.now) (g.S.Source.left c.explain.new.source)
     (g.K.Sink.written c.args.sink.now) (g.K.Sink.written c.explain.new.sink))
     (ap Some c.deref.ensures.value ∙ words)

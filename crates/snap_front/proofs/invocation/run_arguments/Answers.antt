@@ -4,7 +4,7 @@ use Rattle.snap_front.proofs.invocation.run_arguments.Goals as goal
 
 pub returns-in-Ok-Some : goal.returns-in-Ok-Some
 returns-in-Ok-Some g c =
-    let words = rw c.in-Ok-Some.field-0-is at c.in-Ok-Some.ensures in
+    let words = rw c.in-Ok-Some.field-0-is at c.in-Ok-Some.ensures.given in
     subst (λ given. RunOfArguments given c.front_program.result (g.S.Source.left c.args.source.now) (g.S.Source.left c.front_program.new.source)
     (g.K.Sink.written c.args.sink.now) (g.K.Sink.written c.front_program.new.sink))
     (ap Some c.deref.ensures.value ∙ words)
