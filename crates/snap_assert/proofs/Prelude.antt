@@ -49,5 +49,5 @@ pub use Rattle.snap_assert.specs.Session.{empty_session, SessionView}
 pub use Rattle.snap_assert.specs.Steps.{Asked, verdict_of, is_failure, is_slashless, is_stray, pending_path, cleared, written, passed_files, step, stray_front, asked_as}
 pub use Rattle.snap_assert.specs.Strays.{AllStray, AreStrays}
 pub use Rattle.snap_assert.specs.declared.error.AssertError.{AssertError}
-pub use Rattle.snap_assert.specs.declared.look.Judged.{Judged}
+pub use Rattle.snap_assert.specs.declared.judge.Judged.{Judged}
 pub use Rattle.snap_assert.specs.declared.prepare.Prepared.{Prepared}

@@ -26,7 +26,7 @@ use Rattle.snap_assert.specs.declared.error.AssertError.TheVariants.{FileIo, Out
 use Rattle.snap_assert.specs.declared.outcome.Warning.{Warning}
 use Rattle.snap_assert.specs.declared.outcome.Warning.TheVariants.{Unreadable}
 use Rattle.snap_assert.specs.declared.prepare.Prepared.{Prepared}
-use Rattle.snap_assert.specs.declared.look.Judged.{Judged}
+use Rattle.snap_assert.specs.declared.judge.Judged.{Judged}
 use Rattle.snap_assert.specs.declared.look.Seen.{Seen}
 
 -- the paths, and the new snapshot with the tree's text

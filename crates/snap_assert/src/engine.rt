@@ -20,8 +20,9 @@ ghost use Rattle.snap_assert.specs.Steps.{Asked, asked_as, cleared, step, verdic
 ghost use Rattle.snap_assert.specs.declared.error.AssertError.{AssertError};
 
 use crate::error::AssertError;
+use crate::judge::Judged;
 use crate::kept::keep;
-use crate::look::{Judged, look_and_clear};
+use crate::look::look_and_clear;
 use crate::names::take_name;
 use crate::outcome::{Outcome, Verdict};
 use crate::prepare::{Prepared, prepare};

@@ -1,13 +1,14 @@
 //! One assertion over a store: what it leaves and answers is one stated step. The clauses of `assert_content` say so.
 //!
 //! In the order in which data flows: `session` (what is remembered), `names` (the name that is taken), `kept` (what an open block keeps),
-//! `duplicates` (a block round a closure), `prepare`, `strays` and `look` (what is there), `settle` and `removal` (what is left), `engine`
+//! `duplicates` (a block round a closure), `prepare`, `judge`, `strays` and `look` (what is there), `settle` and `removal` (what is left), `engine`
 //! (one assertion), `outcome` and `error` (its answer), `laws`.
 #![tactic(auto)]
 
 pub mod duplicates;
 pub mod engine;
 pub mod error;
+mod judge;
 mod kept;
 pub mod laws;
 mod look;

@@ -1,5 +1,5 @@
 use Rattle.snap_assert.proofs.Looking.{judge_read, judge_refused, all_judged, refused_at}
-use Rattle.snap_assert.proofs.look.judge.Goals as goal
+use Rattle.snap_assert.proofs.judge.judge.Goals as goal
 
 pub returns-in_ok-judged-in-Ok-clause-judged : goal.returns-in_ok-judged-in-Ok-clause-judged
 returns-in_ok-judged-in-Ok-clause-judged g c = λ asked prepared m told.
