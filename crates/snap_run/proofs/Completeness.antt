@@ -1,5 +1,5 @@
 -- A run without faults over spelled requests ends well.
-use Rattle.snap_run.proofs.Prelude.{◌≡◌, ℕ, List, [], ◌∷◌, ◌++◌, length, ◌+◌, inl, inr, sym, ap, ◌∙◌, true, subst, arith, Rose, Outside, RequestView, Spells, RunWords, SessionView, empty_session, is_open, asserts, ends, Answer, requests_of, is_taken, remembered_by, remembered_after, ReadsAs, Reads, Ran, StopsAt, status_at, RunsTo, AreSpelled, IsSteady, EndsWell, DocumentError, Status, AllPassed, SomeFailed, BadWords, BadRequest, Refused, ReadFault, OutOfMemory, InputTooLong}
+use Rattle.snap_run.proofs.Prelude.{◌≡◌, ℕ, List, [], ◌∷◌, ◌++◌, length, ◌+◌, inl, inr, sym, ap, ◌∙◌, subst, arith, Rose, Outside, RequestView, RunWords, SessionView, empty_session, asserts, requests_of, is_taken, remembered_by, remembered_after, Reads, StopsAt, status_at, RunsTo, AreSpelled, IsSteady, EndsWell, DocumentError, Status, AllPassed, SomeFailed, BadWords, BadRequest, Refused, ReadFault, OutOfMemory, InputTooLong}
 use Rattle.std.specs.Prelude.{refl, is_ok}
 use Rattle.snap_run_requests.proofs.Requesting.{only_spelled}
 use Rattle.snap_run.specs.Status.{SpellsTaken, one_more}

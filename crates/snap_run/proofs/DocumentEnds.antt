@@ -1,5 +1,5 @@
 -- What one document leaves.
-use Rattle.snap_run.proofs.Prelude.{◌≡◌, ◌⊎◌, ◌&&◌, not, inl, inr, Bool, true, false, ℕ, List, [], ◌∷◌, ◌++◌, map, Option, Some, refl, sym, ap, ◌∙◌, subst, Result, Ok, Err, encode_utf8_all, append-nil, get, Rose, Files, outside, HoldsFront, verdict_of, is_failure, step, SessionView, is_open, opened, closed, AssertionView, RequestView, asserts, begins, ends, Spells, ReadsAs, RunWords, place_by, settings_by, printed_by, assertion_by, asked_by, line_text, line_by, course_line, course_files, MayPass, KeptBy, IsOwn, FaultIsOwn, is_written, may_change, words_of, Ran, RanOne, StopsAt, AssertionStops, IsInWork, FileFails, IsRefusedWith, LineFails, IsMade, OfAssertion, name_in, path_in, CountedIf, is_store_fault, DocumentError, Outcome, Runner}
+use Rattle.snap_run.proofs.Prelude.{◌≡◌, ◌⊎◌, ◌&&◌, not, inl, inr, Bool, true, false, ℕ, List, ◌++◌, map, Option, Some, refl, sym, ap, ◌∙◌, subst, Result, Ok, Err, encode_utf8_all, append-nil, Files, outside, HoldsFront, verdict_of, is_failure, step, SessionView, is_open, opened, closed, AssertionView, RequestView, asserts, begins, ends, Spells, ReadsAs, RunWords, place_by, settings_by, printed_by, assertion_by, line_text, line_by, course_line, course_files, MayPass, KeptBy, FaultIsOwn, is_written, may_change, words_of, RanOne, StopsAt, AssertionStops, IsInWork, IsRefusedWith, LineFails, IsMade, name_in, path_in, CountedIf, is_store_fault, DocumentError, Outcome, Runner}
 use Rattle.std.specs.Result.{IfErr, IsErrAnd, is_ok}
 use Rattle.snap_content.specs.Tree.{Tree}
 use Rattle.snap_print.specs.Blocks.{blocks_if}
@@ -11,9 +11,8 @@ use Rattle.snap_assert_settings.specs.Settings.{SettingsView, settings_of, redac
 use Rattle.snap_assert_settings.specs.declared.settings.Settings.{Settings}
 use Rattle.snap_assert_settings.proofs.PlainRedactions.{plain_prints}
 use Rattle.snap_assert_place.specs.Place.{PlaceView}
-use Rattle.snap_assert.specs.Judging.{May}
 use Rattle.snap_assert.specs.Assertions.{Assertion, assertion_of}
-use Rattle.snap_assert.specs.Courses.{course_of, session_after}
+use Rattle.snap_assert.specs.Courses.{session_after}
 use Rattle.snap_assert.proofs.Keeping.{kept_same}
 use Rattle.snap_assert.specs.Names.{Named, name_step}
 use Rattle.snap_assert_place.specs.SnapshotPath.{path_of}

@@ -1,5 +1,5 @@
 -- What the program's run comes to.
-use Rattle.snap_run.proofs.Prelude.{◌≡◌, ◌≤◌, ◌+◌, ℕ, Bool, true, false, List, Option, None, Some, refl, sym, ap, ◌∙◌, subst, inl, inr, length, arith, Outside, RunWords, words_mean, documents, words_of, empty_session, Stopped, RunCause, Ended, RunsTo, RunsBy, RunsFrom, LengthCause, CountedIf, says_read_fault, says_write_fault, says_file_fault, AreSpelled, IsSteady, EndsWell, status_at, DocumentError, Runner, Status, AllPassed, SomeFailed, BadWords, BadRequest, Refused, ReadFault, OutOfMemory, InputTooLong}
+use Rattle.snap_run.proofs.Prelude.{◌≡◌, ◌≤◌, ◌+◌, ℕ, Bool, true, false, List, [], Option, None, Some, refl, sym, ap, ◌∙◌, subst, inl, inr, length, arith, Outside, RunWords, words_mean, documents, words_of, SessionView, empty_session, Stopped, IsRunOf, RunCause, Ended, RunsTo, RunsBy, RunsFrom, LengthCause, CountedIf, says_read_fault, says_write_fault, says_file_fault, AreSpelled, IsSteady, EndsWell, status_at, DocumentError, Runner, Status, AllPassed, SomeFailed, BadWords, BadRequest, Refused, ReadFault, OutOfMemory, InputTooLong}
 use Rattle.snap_io_streams.specs.Streams.{TakesExactly}
 use Rattle.snap_run.specs.declared.document_error.DocumentError.TheVariants as error
 use Rattle.snap_run.specs.declared.status.Status.TheVariants.{FileIo, WriteFault}
@@ -25,6 +25,10 @@ pub too_long : (words : Option RunWords) (left : Option (List ℕ)) (o : Outside
 too_long None left o = before_all InputTooLong None left o o (λ docs. (refl, refl))
 too_long (Some said) left o = before_all InputTooLong (Some said) left o o (λ docs. (refl, refl))
 
+-- arguments that are no texts are wrong words
+pub no_texts : (left : Option (List ℕ)) (o : Outside) → IsRunOf [] BadWords left o o
+no_texts left o = record { words_cause = (refl, refl); told = λ text asked. absurd (cc asked); runs = λ none. bad_words None left o }
+
 said_is : (words : Option RunWords) (runner : Runner) (said : RunWords) → words ≡ Some said → words_of runner ≡ said → words ≡ Some (words_of runner)
 said_is words runner said is same = is ∙ ap Some (sym same)
 
@@ -38,16 +42,17 @@ ended_runs true said docs a b e = e
 ended_runs false said docs a b e = e
 
 -- the run came to its end
-pub finished : (fails found : Bool) (words : Option RunWords) (runner : Runner) (said : RunWords) (bytes : List ℕ) (left : Option (List ℕ)) (a b : Outside)
-    → found ≡ fails → words ≡ Some said → words_of runner ≡ said → ((xs : List ℕ) → left ≡ Some xs → bytes ≡ xs)
-    → Ended found (words_of runner) (documents bytes) empty_session a b
+pub finished : (fails found : Bool) (words : Option RunWords) (runner : Runner) (said : RunWords) (bytes : List ℕ) (left : Option (List ℕ)) (s : SessionView) (a b : Outside)
+    → s ≡ empty_session → found ≡ fails → words ≡ Some said → words_of runner ≡ said → ((xs : List ℕ) → left ≡ Some xs → bytes ≡ xs)
+    → Ended found (words_of runner) (documents bytes) s a b
     → RunsFrom (ended_status fails) words left a b
-finished fails found words runner said bytes left a b found_is is same told ended =
+finished fails found words runner said bytes left s a b new found_is is same told ended =
     let Runs : Option RunWords → Type 0 = λ o. RunsFrom (ended_status fails) o left a b in
     subst Runs (sym (said_is words runner said is same)) (record {
       input = bytes;
       told = told;
-      runs = ended_runs fails (words_of runner) (documents bytes) a b (subst (λ so. Ended so (words_of runner) (documents bytes) empty_session a b) found_is ended);
+      runs = ended_runs fails (words_of runner) (documents bytes) a b (subst (λ so. Ended so (words_of runner) (documents bytes) empty_session a b) found_is
+          (subst (λ k. Ended found (words_of runner) (documents bytes) k a b) new ended));
     })
 
 -- what holds of each status that tells of a document, holds of the status at which a run stopped
@@ -63,11 +68,12 @@ of_stopped P status words docs a b s bad refused file write memory = subst P (sy
     of_error n error.OutOfMemory = memory
 
 -- the run stopped at a document
-pub stopped : (status : Status) (words : Option RunWords) (runner : Runner) (said : RunWords) (bytes : List ℕ) (left : Option (List ℕ)) (a b : Outside)
-    → words ≡ Some said → words_of runner ≡ said → ((xs : List ℕ) → left ≡ Some xs → bytes ≡ xs)
-    → Stopped status (words_of runner) (documents bytes) empty_session a b
+pub stopped : (status : Status) (words : Option RunWords) (runner : Runner) (said : RunWords) (bytes : List ℕ) (left : Option (List ℕ)) (z : SessionView) (a b : Outside)
+    → z ≡ empty_session → words ≡ Some said → words_of runner ≡ said → ((xs : List ℕ) → left ≡ Some xs → bytes ≡ xs)
+    → Stopped status (words_of runner) (documents bytes) z a b
     → RunsFrom status words left a b
-stopped status words runner said bytes left a b is same told s =
+stopped status words runner said bytes left z a b new is same told stop =
+    let s = subst (λ k. Stopped status (words_of runner) (documents bytes) k a b) new stop in
     let Runs : Option RunWords → Type 0 = λ o. RunsFrom status o left a b in
     let To : Status → Type 0 = λ x. Stopped x (words_of runner) (documents bytes) empty_session a b → RunsTo x (words_of runner) (documents bytes) a b in
     subst Runs (sym (said_is words runner said is same)) (record {

@@ -1,5 +1,5 @@
 -- What a whole run keeps.
-use Rattle.snap_run.proofs.Prelude.{◌≡◌, inl, inr, ℕ, false, Bool, List, [], ◌∷◌, ◌++◌, Option, None, Some, Result, Ok, Err, refl, sym, ◌∙◌, ap, subst, get, Files, Outside, Answer, RunWords, place_by, assertion_by, asked_by, requests_of, remembered_by, remembered_after, course_files, step, step_by, files_after, documents, Keeps, IsKeptOrGone, is_written, may_change, SessionView, empty_session, AssertionView, RequestView, asserts, begins, ends, ReadsAs, Reads, Ran, Stopped, StopsAt, IsInWork, LineFails, name_in, path_in, RunsTo, RunsBy, RunsFrom, DocumentError, Status, step_keeps, gone_after, Update}
+use Rattle.snap_run.proofs.Prelude.{◌≡◌, inl, inr, ℕ, false, Bool, List, [], ◌∷◌, ◌++◌, Option, None, Some, Result, Ok, Err, refl, sym, ◌∙◌, ap, subst, get, Files, Outside, Answer, RunWords, place_by, assertion_by, asked_by, requests_of, remembered_by, remembered_after, course_files, step, step_by, files_after, documents, IsKeptOrGone, is_written, may_change, SessionView, empty_session, AssertionView, RequestView, asserts, begins, ends, ReadsAs, Reads, Ran, Stopped, StopsAt, IsInWork, LineFails, name_in, path_in, RunsTo, RunsBy, RunsFrom, DocumentError, Status, step_keeps, gone_after, Update}
 use Rattle.snap_content.proofs.Booleans.{some_same}
 use Rattle.snap_assert.specs.Assertions.{key_under, new_contents}
 use Rattle.snap_assert.specs.Blocks.{keep_step}

@@ -5,5 +5,4 @@ pub mod Runs
 pub mod RunKept
 pub mod Status
 pub mod Describe
-pub mod Arguments
 pub mod Program

@@ -8,6 +8,11 @@ use Rattle.snap_run.specs.Status.{WordsCause, IsTold, RunsFrom, IsSteady}
 use Rattle.snap_run.specs.declared.status.Status.{Status}
 use Rattle.snap_run.specs.declared.status.Status.TheVariants.{AllPassed, SomeFailed, BadRequest, Refused, FileIo, OutOfMemory}
 
+-- the words of a command line, and none where some argument is no text
+abbrev pub words_or_none : Option (List (List ℕ)) → List (List ℕ)
+words_or_none None = []
+words_or_none (Some words) = words
+
 -- what a status says to standard error: nothing where all was answered, and else a line
 abbrev pub message : Status → List ℕ
 message AllPassed = []

@@ -2,15 +2,15 @@
 ghost use Rattle.std.specs.Prelude.{◌≡◌, ◌⊎◌, ◌++◌, ◌∷◌, [], true, IfOk, MatchOption};
 ghost use Rattle.snap_io.specs.Outside.{outside};
 ghost use Rattle.snap_run.specs.Describe.{code_of, description};
-ghost use Rattle.snap_run.specs.Arguments.{arguments_of, words_given};
-ghost use Rattle.snap_run.specs.Program.{IsSaid, IsRunOf, IsNotBegun, Ends, message, tells_document};
+ghost use Rattle.snap_io_words.specs.Arguments.{arguments_of, words_given};
+ghost use Rattle.snap_run.specs.Program.{IsSaid, IsRunOf, IsNotBegun, Ends, message, tells_document, words_or_none};
 
-use crate::arguments::words_in;
 use crate::running::run;
 use crate::status::Status;
 use snap_content::{OutOfMemory, Text};
 use snap_io::{Sink, Source, Store};
 use snap_io_streams::write_all;
+use snap_io_words::words_in;
 use std::alloc::Global;
 use std::env::Args;
 use std::io;
@@ -63,7 +63,7 @@ pub fn conclude<E: Sink>(alloc: Global, status: &Status, errors: &mut E) -> u8
     status.code()
 }
 
-/// The status of the run that the arguments ask for.
+/// The status of the run that the arguments ask for. Arguments that are no texts are wrong words.
 fn run_arguments<S: Source, K: Sink, F: Store>(
     alloc: Global,
     arguments: io::Result<Args<Global>>,
@@ -71,14 +71,15 @@ fn run_arguments<S: Source, K: Sink, F: Store>(
     sink: &mut K,
     store: &mut F,
 ) -> Status
-    ensures { IsRunOf (words_given (arguments_of arguments)) result (S.left source.old)
+    ensures { IsRunOf (words_or_none (words_given (arguments_of arguments))) result (S.left source.old)
         (outside (F.files store.old) (K.written sink.old))
         (outside (F.files store.new) (K.written sink.new))
         ⊎ IsNotBegun result (outside (F.files store.old) (K.written sink.old))
         (outside (F.files store.new) (K.written sink.new)) }
 {
     match words_in(alloc, arguments) {
-        Ok(words) => run(alloc, &words, source, sink, store),
+        Ok(Some(words)) => run(alloc, &words, source, sink, store),
+        Ok(None) => Status::BadWords,
         Err(_) => Status::OutOfMemory,
     }
 }
@@ -93,7 +94,8 @@ pub fn program<S: Source, K: Sink, E: Sink, F: Store>(
     errors: &mut E,
     store: &mut F,
 ) -> u8
-    ensures { Ends result (words_given (arguments_of arguments)) (S.left source.old)
+    ensures { Ends result (words_or_none (words_given (arguments_of arguments)))
+        (S.left source.old)
         (outside (F.files store.old) (K.written sink.old))
         (outside (F.files store.new) (K.written sink.new))
         (E.faults errors.old) (E.faults errors.new) (E.written errors.old) (E.written errors.new) }

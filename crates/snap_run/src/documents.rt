@@ -4,7 +4,7 @@ ghost use Rattle.snap_io.specs.Causes.{Counted};
 ghost use Rattle.snap_io.specs.Outside.{outside};
 ghost use Rattle.snap_run_requests.specs.Cut.{documents};
 ghost use Rattle.snap_assert_place.specs.Place.{names_file, place_of};
-ghost use Rattle.snap_assert.specs.Session.{session_of, empty_session, opened, closed, is_open};
+ghost use Rattle.snap_assert.specs.Session.{session_of, opened, closed, is_open};
 ghost use Rattle.snap_run.specs.Runner.{IsReady, words_of};
 ghost use Rattle.snap_run.specs.Answers.{line_text, place_at};
 ghost use Rattle.snap_run.specs.Status.{Ended, says_file_fault, says_write_fault};
@@ -221,12 +221,12 @@ pub fn run_documents<K: Sink, F: Store>(
 ) -> Result<bool, Status>
     requires ready { IsReady runner.now }
     requires short { length input.now < 2 ^ 63 }
-    requires fresh { session_of session.old ≡ empty_session }
     ensures finished { IfOk result (λ fails. Ended fails (words_of runner.now) (documents input.now)
-        empty_session (outside (F.files store.old) (K.written sink.old))
+        (session_of session.old) (outside (F.files store.old) (K.written sink.old))
         (outside (F.files store.new) (K.written sink.new))) }
     ensures stopped { IfErr result (λ status. Stopped status (words_of runner.now)
-        (documents input.now) empty_session (outside (F.files store.old) (K.written sink.old))
+        (documents input.now) (session_of session.old)
+        (outside (F.files store.old) (K.written sink.old))
         (outside (F.files store.new) (K.written sink.new))) }
     ensures store_count { Counted says_file_fault (F.faults store.old) (F.faults store.new) result }
     ensures sink_count { Counted says_write_fault (K.faults sink.old) (K.faults sink.new) result }

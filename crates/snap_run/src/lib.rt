@@ -2,12 +2,11 @@
 //! Until the first refusal, what a run leaves and says is that of one stated step for each request in turn:
 //! the clauses of `run` say so.
 //!
-//! In the order in which data flows: `arguments` and `words` (the command line), `runner`, `documents` and `document_error`
+//! In the order in which data flows: `words` (the command line), `runner`, `documents` and `document_error`
 //! (each request in turn, and why one stops the run), `running` (the whole run), `status` and `usage` (what is said of it, and
 //! of the program), `command` (the run that the arguments ask for, what standard error is told, and the exit status), `laws`.
 #![tactic(auto)]
 
-mod arguments;
 pub mod command;
 mod document_error;
 mod documents;

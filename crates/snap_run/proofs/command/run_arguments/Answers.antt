@@ -1,9 +1,12 @@
-use Rattle.snap_run.proofs.Prelude.{◌∙◌, inl, subst, IsRunOf, outside}
+use Rattle.snap_run.proofs.Prelude.{◌∙◌, ap, Some, inl, subst, IsRunOf, outside}
+use Rattle.snap_run.specs.Program.{words_or_none}
+use Rattle.snap_run.proofs.RunEnds.{no_texts}
 use Rattle.snap_run.proofs.command.run_arguments.Goals as goal
 
-pub returns-in-Ok : goal.returns-in-Ok
-returns-in-Ok g c =
-    inl (subst (λ words. IsRunOf words c.run.result (g.S.Source.left c.args.source.now) (outside (g.F.Store.files c.args.store.now) (g.K.Sink.written c.args.sink.now))
+pub returns-in-Ok-Some : goal.returns-in-Ok-Some
+returns-in-Ok-Some g c =
+    let words = rw c.in-Ok-Some.field-0-is at c.in-Ok-Some.ensures.given in
+    inl (subst (λ given. IsRunOf (words_or_none given) c.run.result (g.S.Source.left c.args.source.now) (outside (g.F.Store.files c.args.store.now) (g.K.Sink.written c.args.sink.now))
     (outside (g.F.Store.files c.run.new.store) (g.K.Sink.written c.run.new.sink)))
-    (c.deref.ensures.value ∙ c.in-Ok.ensures.given)
+    (ap Some c.deref.ensures.value ∙ words)
     (record { words_cause = c.run.ensures.words; told = c.run.ensures.told; runs = c.run.ensures.runs }))

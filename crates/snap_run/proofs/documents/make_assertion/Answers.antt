@@ -1,4 +1,4 @@
-use Rattle.snap_run.proofs.Prelude.{refl, sym, ap, ◌∙◌, Some, words_of}
+use Rattle.snap_run.proofs.Prelude.{refl, ap, ◌∙◌, Some, words_of}
 use Rattle.std.proofs.lemmas.Result.{err_from_is_err_and}
 use Rattle.std.specs.Option.{option_copied}
 use Rattle.snap_store.specs.Meta.{shown_text}

@@ -1,4 +1,4 @@
-use Rattle.snap_run.proofs.Prelude.{refl, sym, ◌∙◌, ap, encode_utf8_all, encodes-chars, words_of}
+use Rattle.snap_run.proofs.Prelude.{sym, ◌∙◌, ap, encode_utf8_all, encodes-chars, words_of}
 use Rattle.std.proofs.lemmas.Result.{err_from_is_err_and}
 use Rattle.snap_run_requests.specs.RequestOf.{assertion_of}
 use Rattle.snap_run.proofs.DocumentEnds.{document_ran, line_fails, no_line, assertion_stops}

@@ -1,4 +1,4 @@
-use Rattle.snap_run.proofs.Prelude.{◌≡◌, refl, sym, ap, ◌∙◌, subst, Err, RequestView, ReadsAs, words_of}
+use Rattle.snap_run.proofs.Prelude.{ap, ◌∙◌, subst, Err, ReadsAs, words_of}
 use Rattle.std.proofs.lemmas.Result.{IfOk-weaker, err_from_is_err_and}
 use Rattle.snap_run_requests.specs.RequestOf.{request_of}
 use Rattle.snap_run.proofs.DocumentEnds.{unread_stops, block_begins, block_ends, none_ends, memory_stops, err_weaker}

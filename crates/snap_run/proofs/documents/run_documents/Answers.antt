@@ -1,9 +1,9 @@
 use Rattle.snap_run.proofs.Prelude.{refl, ◌∙◌, arith}
-use Rattle.snap_run.proofs.Stepping.{begins_run, ends_run, goes_on, stops, first_is}
+use Rattle.snap_run.proofs.Stepping.{begins_run, goes_on, stops, first_is}
 use Rattle.snap_run.proofs.documents.run_documents.Goals as goal
 
 pub loop-rest-init : goal.loop-rest-init
-loop-rest-init g c = record { run = begins_run _ _ _ _ _ c.requires.fresh; few = omega arith; store_count = refl; sink_count = refl }
+loop-rest-init g c = record { run = begins_run _ _ _ _ _ refl; few = omega arith; store_count = refl; sink_count = refl }
 
 pub loop-rest-preserved : goal.loop-rest-preserved
 loop-rest-preserved g c = record {

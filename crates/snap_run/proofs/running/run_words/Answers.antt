@@ -19,15 +19,15 @@ returns-in-Err-OutOfMemory-clause-runs g c = no_memory _ _ _
 
 pub returns-in-Ok-false-clause-runs : goal.returns-in-Ok-false-clause-runs
 returns-in-Ok-false-clause-runs g c =
-    finished false _ _ c.in-Ok-new.runner _ c.deref.result.now _ _ _ c.in-Ok-false.field-0-test c.in-Some.ensures c.in-Ok-new.ensures.words
+    finished false _ _ c.in-Ok-new.runner _ c.deref.result.now _ _ _ _ c.new-session.ensures c.in-Ok-false.field-0-test c.in-Some.ensures c.in-Ok-new.ensures.words
     (λ xs e. c.deref.ensures.value ∙ c.in-Ok.ensures.all xs e) c.in-Ok-false.ensures.finished
 
 pub returns-in-Ok-true-clause-runs : goal.returns-in-Ok-true-clause-runs
 returns-in-Ok-true-clause-runs g c =
-    finished true _ _ c.in-Ok-new.runner _ c.deref.result.now _ _ _ c.in-Ok-true.field-0-test c.in-Some.ensures c.in-Ok-new.ensures.words
+    finished true _ _ c.in-Ok-new.runner _ c.deref.result.now _ _ _ _ c.new-session.ensures c.in-Ok-true.field-0-test c.in-Some.ensures c.in-Ok-new.ensures.words
     (λ xs e. c.deref.ensures.value ∙ c.in-Ok.ensures.all xs e) c.in-Ok-true.ensures.finished
 
 pub returns-clause-runs : goal.returns-clause-runs
 returns-clause-runs g c =
-    stopped _ _ c.in-Ok-new.runner _ c.deref.result.now _ _ _ c.in-Some.ensures c.in-Ok-new.ensures.words
+    stopped _ _ c.in-Ok-new.runner _ c.deref.result.now _ _ _ _ c.new-session.ensures c.in-Some.ensures c.in-Ok-new.ensures.words
     (λ xs e. c.deref.ensures.value ∙ c.in-Ok.ensures.all xs e) c.in-Err.ensures.stopped
