@@ -4,6 +4,7 @@ mod Saved
 mod Judgements
 mod StrayPaths
 mod Removals
+mod Covering
 pub mod Keeping
 mod ApprovedPaths
 mod Looking

@@ -1,5 +1,5 @@
 -- The words that the proofs of this crate speak in: those of the library, of the crates below, and of its own definitions.
-pub use Rattle.std.proofs.Common.{◌≡◌, ◌&&◌, Bool, not, Option, Some, Ok, refl, sym, ap, ℕ, false, cond, ◌||◌, List, [], ◌∷◌, ◌++◌, None, ◌∙◌, eq-eqb, codes, subst, append_assoc, ◌↔◌, inl, inr, IsTrue, true, ◌<◌, ◌+◌, length, take, drop, get_or, Result, Err, ◌≢◌, ◌≤◌, ◌==◌, map, arith, length-append, IsPermutation}
+pub use Rattle.std.proofs.Common.{◌≡◌, ◌⊎◌, ◌&&◌, Bool, not, Option, Some, Ok, refl, sym, ap, ℕ, false, cond, ◌||◌, List, [], ◌∷◌, ◌++◌, None, ◌∙◌, eq-eqb, codes, subst, append_assoc, ◌↔◌, inl, inr, IsTrue, true, ◌<◌, ◌+◌, length, take, drop, get_or, Result, Err, ◌≢◌, ◌≤◌, ◌==◌, map, arith, length-append, IsPermutation}
 pub use Rattle.std.proofs.lemmas.Bool.{false_from_ne_true, or_right}
 pub use Rattle.std.proofs.lemmas.List.{take_more, take-append-drop, take_all}
 pub use Rattle.std.proofs.lemmas.Result.{IfOk-weaker, on_ok_weaker}
@@ -15,7 +15,7 @@ pub use Rattle.snap_content.specs.declared.error.Error.{Error}
 pub use Rattle.snap_content.specs.declared.error.Error.TheVariants.{FailedParsingYaml, UnexpectedDataType, MissingField, FileIo, FloatText, JsonKey, NotText, NoFile, OutOfMemory}
 pub use Rattle.snap_io.specs.Files.{Files, SameBut, MayBeGone}
 pub use Rattle.snap_path.specs.Names.{past_mark}
-pub use Rattle.snap_path.specs.Paths.{joined, parent_of, front_of, name_of, IsName}
+pub use Rattle.snap_path.specs.Paths.{joined, parent_of, front_of, name_of, last_of, components, is_absolute, path_of_parts, IsName}
 pub use Rattle.snap_assert_place.specs.Place.{holds_slash, place_of}
 pub use Rattle.snap_print.specs.Blocks.{Blocks, off, blocks_if}
 pub use Rattle.snap_print.specs.Lines.{text_of, document_of}
@@ -42,6 +42,7 @@ pub use Rattle.snap_assert.specs.Assertions.{Assertion, asked_under, key_under, 
 pub use Rattle.snap_assert_settings.specs.declared.config.Config.{Config}
 pub use Rattle.snap_assert.specs.Judging.{BodyAgrees, HasTextHeader, HasBinaryHeader, IsLegacyFile, IsUnread, May, IsSavedFor}
 pub use Rattle.snap_assert.specs.Kept.{is_written, may_change, Keeps, IsKeptOrGone, is_none, is_waiting, NamesOnly, KeptBy, IsWrittenAlone, IsTakenAlone, IsOwn, FaultIsOwn, FaultIsAt, NamesOwn}
+pub use Rattle.snap_assert.specs.Listed.{Covers, CoversAt, IsCovered, IsCoveredAt, IsKnown, MayWait, WaitsStill}
 pub use Rattle.snap_assert.specs.Outcomes.{IsAnswered, IsDone, AreWarnings, PassWarns, IsHeadedFile, IsNotUnderstood, SpeakOfOne, said_if, said}
 pub use Rattle.snap_assert.specs.Prepared.{IsPrepared, IsSettled, IsJudged, TextsMatch, TextsDiffer, OlderAs, NoPass, RefusedEnd, IsCompared}
 pub use Rattle.snap_assert.specs.Removed.{remove_each, is_among, FaultIsAmong}

@@ -1,7 +1,8 @@
 -- Why an assertion comes to no answer, in turn: the name, the files, the block, and the files once more.
-use Rattle.snap_assert.proofs.Prelude.{◌≡◌, inl, inr, ℕ, List, Option, None, Some, Result, Ok, Err, refl, sym, ap, ◌∙◌, subst, Files, cleared, Assertion, asked_under, key_under, new_contents, SessionView, Update, AssertError, FaultIsOwn, IsAnswered, IsDone, Config}
-use Rattle.std.specs.Result.{IfErr, IsErrAnd, OnOk}
+use Rattle.snap_assert.proofs.Prelude.{◌≡◌, ◌⊎◌, inl, inr, ℕ, List, Option, None, Some, Result, Ok, Err, refl, sym, ap, ◌∙◌, subst, Files, cleared, Assertion, asked_under, key_under, new_contents, SessionView, Update, AssertError, FaultIsOwn, IsAnswered, IsDone, Config}
+use Rattle.std.specs.Result.{IfErr, OnOk}
 use Rattle.std.specs.Prelude.{IfOk}
+use Rattle.snap_content.specs.Tree.{Tree}
 use Rattle.snap_io.specs.Outside.{Becomes}
 use Rattle.snap_assert_place.specs.SnapshotPath.{path_of}
 use Rattle.snap_assert.specs.Blocks.{keep_step}
@@ -110,7 +111,7 @@ settled_stops A step s s' before now (Ok value) is h = tt
 settled_stops A step s s' before now (Err error) is h = kept_stops A step s s' before now error is h
 
 -- no name is taken
-pub name_stops : (a : Assertion) (files files' : Option Files) (s s' : SessionView) (error : AssertError) → RefusedAs error (name_step a.settings a.place a.given s) → s' ≡ s → files' ≡ files → IsStopped a error files files' s s'
+pub name_stops : (a : Assertion) (files files' : Option Files) (s s' : SessionView) (error : AssertError) → RefusedAs error (name_step a.settings a.place a.given s) → s' ≡ s → Becomes files files' (λ m. m) → IsStopped a error files files' s s'
 name_stops a files files' s s' refusal.OutOfMemory h same unchanged = inl same
 name_stops a files files' s s' (refusal.FileIo named) h same unchanged = absurd h
 name_stops a files files' s s' refusal.NameClash h same unchanged = record {
@@ -118,49 +119,49 @@ name_stops a files files' s s' refusal.NameClash h same unchanged = record {
   course_is = ap (named_course a s) h;
   error_is = refl;
   remembered = same;
-  stands = λ m told. unchanged ∙ told;
+  stands = unchanged;
 }
 name_stops a files files' s s' refusal.DoctestNeedsName h same unchanged = record {
   refused = record { error = refusal.DoctestNeedsName; session = s; taken = None };
   course_is = ap (named_course a s) h;
   error_is = refl;
   remembered = same;
-  stands = λ m told. unchanged ∙ told;
+  stands = unchanged;
 }
 name_stops a files files' s s' (refusal.DuplicateDiffers key kept new) h same unchanged = record {
   refused = record { error = (refusal.DuplicateDiffers key kept new); session = s; taken = None };
   course_is = ap (named_course a s) h;
   error_is = refl;
   remembered = same;
-  stands = λ m told. unchanged ∙ told;
+  stands = unchanged;
 }
 name_stops a files files' s s' refusal.NamesExhausted h same unchanged = record {
   refused = record { error = refusal.NamesExhausted; session = s; taken = None };
   course_is = ap (named_course a s) h;
   error_is = refl;
   remembered = same;
-  stands = λ m told. unchanged ∙ told;
+  stands = unchanged;
 }
 name_stops a files files' s s' refusal.InlineDuplicate h same unchanged = record {
   refused = record { error = refusal.InlineDuplicate; session = s; taken = None };
   course_is = ap (named_course a s) h;
   error_is = refl;
   remembered = same;
-  stands = λ m told. unchanged ∙ told;
+  stands = unchanged;
 }
 name_stops a files files' s s' refusal.BadExtension h same unchanged = record {
   refused = record { error = refusal.BadExtension; session = s; taken = None };
   course_is = ap (named_course a s) h;
   error_is = refl;
   remembered = same;
-  stands = λ m told. unchanged ∙ told;
+  stands = unchanged;
 }
 name_stops a files files' s s' refusal.JsonKey h same unchanged = record {
   refused = record { error = refusal.JsonKey; session = s; taken = None };
   course_is = ap (named_course a s) h;
   error_is = refl;
   remembered = same;
-  stands = λ m told. unchanged ∙ told;
+  stands = unchanged;
 }
 
 -- once the name is taken, what is remembered may be that of the name or of the whole course
@@ -238,11 +239,6 @@ answered config a outcome files files' s t s' name is kept done = record {
 pub one_named : (step : Result Named AssertError) (a b : Named) → step ≡ Ok a → step ≡ Ok b → a ≡ b
 one_named step a b is also = cc
 
--- out of memory
-pub memory_stops : {T : Type 0} → (A : Type 0) (step : Result SessionView AssertError) (s : SessionView) (result : Result T AssertError) → IsErrAnd result (λ e. e ≡ refusal.OutOfMemory) → IfErr result (λ e. KeepStops A step s s e)
-memory_stops A step s (Ok value) is = tt
-memory_stops A step s (Err error) is = subst (λ e. KeepStops A step s s e) (sym is) (inl refl)
-
 pub err_weaker : {T : Type 0} → {P Q : AssertError → Type 0} → (result : Result T AssertError) → ((e : AssertError) → P e → Q e) → IfErr result P → IfErr result Q
 err_weaker (Ok value) f h = tt
 err_weaker (Err error) f h = f error h
@@ -255,3 +251,8 @@ done_and_kept (Err error) f p k = tt
 -- a name that is taken is not refused
 pub not_both : {P : Type 0} → (step : Result Named AssertError) (named : Named) (error : AssertError) → step ≡ Ok named → step ≡ Err error → P
 not_both step named error is also = absurd (cc)
+
+-- what stands of some printed tree, by what is known
+pub stops_by : {U : Type 0} → {P K Q : Tree → Type 0} → ((t : Tree) → K t → Q t) → U ⊎ ((t : Tree) × P t × K t) → U ⊎ ((t : Tree) × P t × Q t)
+stops_by f (inl u) = inl u
+stops_by f (inr x) = inr (x.0, x.1, f x.0 x.2)

@@ -1,5 +1,5 @@
 -- Files removed one by one, and all at once.
-use Rattle.snap_assert.proofs.Prelude.{◌≡◌, ◌≢◌, ℕ, ◌+◌, ◌<◌, ◌≤◌, Bool, true, false, not, cond, ◌||◌, ◌&&◌, List, [], ◌∷◌, ◌++◌, length, take, get_or, Option, None, Some, refl, sym, ◌∙◌, ap, is_some, take_more, take_all, bytes_eq-Decides, bytes_eq, list_any, get, insert, remove, get-insert, get-remove, get-retain_keys, same_map, slice_cmp-IsAntisymmetric, nat_cmp-IsAntisymmetric, Files, remove_each, is_stray, cleared, AreStrays}
+use Rattle.snap_assert.proofs.Prelude.{◌≡◌, ◌≢◌, ℕ, ◌+◌, ◌<◌, ◌≤◌, Bool, true, false, not, cond, ◌||◌, ◌&&◌, List, [], ◌∷◌, ◌++◌, length, take, get_or, Option, None, Some, refl, sym, ◌∙◌, ap, is_some, take_more, take_all, bytes_eq-Decides, bytes_eq, list_any, get, insert, remove, get-insert, get-remove, get-retain_keys, same_map, slice_cmp-IsAntisymmetric, nat_cmp-IsAntisymmetric, Files, remove_each, is_among, is_stray, cleared, AreStrays}
 use Rattle.std.proofs.lemmas.Cmp.{nat_list_cmp_total}
 use Rattle.std.proofs.lemmas.Map.Text.{is_eq-slice_cmp}
 
@@ -32,14 +32,13 @@ get-remove_each (p ∷ ps) m q =
     either false true o = refl
     either false false o = refl
 
-turned : (b : Bool) (o : Option (List ℕ)) → cond b None o ≡ cond (not b) o None
-turned true o = refl
-turned false o = refl
-
-told : (listed s : Bool) (o : Option (List ℕ)) → listed ≡ (s && is_some o) → cond listed None o ≡ cond s None o
-told listed true None e = ap (λ b. cond b None None) e
-told listed true (Some v) e = ap (λ b. cond b None (Some v)) e
-told listed false o e = ap (λ b. cond b None o) e
+-- where the strays cover what is there, to leave them out is to leave out all that is stray
+left_out : (among stray : Bool) (o : Option (List ℕ)) → (among ≡ true → stray ≡ true) → (stray ≡ true → is_some o ≡ true → among ≡ true) → cond among None o ≡ cond (not stray) o None
+left_out true true o all covers = refl
+left_out true false o all covers = let clash = all refl in cc clash
+left_out false true None all covers = refl
+left_out false true (Some v) all covers = let clash = covers refl refl in cc clash
+left_out false false o all covers = refl
 
 pub get-cleared : (path : List ℕ) (m : Files) (q : List ℕ) → get (cleared path m) q ≡ cond (not (is_stray path q)) (get m q) None
 get-cleared path m q = get-retain_keys m (λ x. not (is_stray path x)) q (λ x e. ap (λ x. not (is_stray path x)) (sym (slice_cmp-IsAntisymmetric nat_cmp-IsAntisymmetric q x e)))
@@ -47,8 +46,7 @@ get-cleared path m q = get-retain_keys m (λ x. not (is_stray path x)) q (λ x e
 -- to remove each stray path is to keep the others
 pub strays_gone : (path : List ℕ) (m : Files) (strays : List (List ℕ)) → AreStrays path m strays → remove_each strays m ≡ cleared path m
 strays_gone path m strays s = same_map nat_list_cmp_total (slice_cmp-IsAntisymmetric nat_cmp-IsAntisymmetric) _ _ (λ q.
-    get-remove_each strays m q ∙ told (list_any (bytes_eq q) strays) (is_stray path q) (get m q) (s.each q) ∙ turned (is_stray path q) (get m q)
-    ∙ sym (get-cleared path m q))
+    get-remove_each strays m q ∙ left_out (is_among strays q) (is_stray path q) (get m q) (s.all q) (s.covers q) ∙ sym (get-cleared path m q))
 
 pub insert_far : (m : Files) (k v q : List ℕ) → bytes_eq q k ≡ false → get (insert m k v) q ≡ get m q
 insert_far m k v q h = get-insert nat_list_cmp_total m k v q ∙ ap (λ b. cond b (Some v) (get m q)) (is_eq-slice_cmp q k ∙ h)

@@ -7,7 +7,8 @@ pub mod Kept
 pub mod Assertions
 pub mod Courses
 pub mod Outcomes
-pub mod Strays
-pub mod Prepared
 pub mod Removed
+pub mod Strays
+pub mod Listed
+pub mod Prepared
 pub mod Unsaved

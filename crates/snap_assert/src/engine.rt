@@ -1,11 +1,12 @@
 //! One assertion over a store.
-ghost use Rattle.std.specs.Prelude.{◌≡◌, ◌⊎◌, ◌&&◌, false, not, Ok, Err, Some, IsSome, IfOk, IfErr, OnOk, option_copied};
+ghost use Rattle.std.specs.Prelude.{◌≡◌, ◌⊎◌, ◌&&◌, false, not, Ok, Err, Some, Option, IsSome, IfOk, IfErr, OnOk, option_copied};
 ghost use Rattle.snap_content.specs.Tree.{Tree};
 ghost use Rattle.snap_content.specs.View.{tree};
 ghost use Rattle.snap_assert.specs.Outcomes.{IsDone, IsAnswered, IsStopped, IsUnprinted, AssertCause};
 ghost use Rattle.snap_assert.specs.Assertions.{assertion_of, key_under, new_contents};
 ghost use Rattle.snap_assert.specs.Blocks.{keep_step};
 ghost use Rattle.snap_assert.specs.Kept.{KeptBy, NamesOwn};
+ghost use Rattle.snap_assert.specs.Listed.{IsCovered, IsKnown, StaysCovered};
 ghost use Rattle.snap_assert.specs.Names.{Named, name_step};
 ghost use Rattle.snap_assert.specs.Session.{session_of};
 ghost use Rattle.snap_assert_settings.specs.Settings.{settings_of, PrintsAs};
@@ -22,6 +23,7 @@ ghost use Rattle.snap_assert.specs.declared.error.AssertError.{AssertError};
 use crate::error::AssertError;
 use crate::judge::Judged;
 use crate::kept::keep;
+use crate::listed::Listed;
 use crate::look::look_and_clear;
 use crate::names::take_name;
 use crate::outcome::{Outcome, Verdict};
@@ -96,6 +98,7 @@ fn keep_and_settle<S: Store>(
 fn assert_prepared<S: Store>(
     alloc: Global,
     session: &mut Session,
+    listed: &mut Listed,
     store: &mut S,
     config: &Config,
     place: &Place,
@@ -104,13 +107,17 @@ fn assert_prepared<S: Store>(
 ) -> Result<Judged, AssertError>
     requires { IsSome (text_in (contents_in prepared.now.snapshot)) }
     ensures settled { IfOk result (λ judged. (asked : Asked) → IsPrepared asked prepared.now
-        → Given (S.files store.old) (λ m. IsSettled config.now asked m judged (S.files store.new))) }
+        → Given (S.files store.old) (λ m. IsCovered m listed.old
+        → IsSettled config.now asked m judged (S.files store.new))) }
+    ensures covered { OnOk result ((asked : Asked) → IsPrepared asked prepared.now
+        → StaysCovered (S.files store.old) (S.files store.new) listed.old listed.new) }
     ensures remembered { OnOk result ((asked : Asked) → IsPrepared asked prepared.now
         → keep_step (key_under (place_of place.now) name.now) (new_contents asked)
         (session_of session.old)
         ≡ Ok (session_of session.new)) }
     ensures stopped { IfErr result (λ e. (asked : Asked) → IsPrepared asked prepared.now
-        → KeepStops (Becomes (S.files store.old) (S.files store.new) (cleared asked.path))
+        → (known : Option Files) → IsKnown known (S.files store.old) listed.old
+        → KeepStops (Becomes known (S.files store.new) (cleared asked.path))
         (keep_step (key_under (place_of place.now) name.now) (new_contents asked)
         (session_of session.old)) (session_of session.old) (session_of session.new) e) }
     ensures kept { (asked : Asked) → IsPrepared asked prepared.now
@@ -119,7 +126,7 @@ fn assert_prepared<S: Store>(
         → NamesOwn config.now.update asked.path result }
     ensures cause { AssertCause (S.faults store.old) (S.faults store.new) result }
 {
-    let judged = look_and_clear(alloc, store, prepared)?;
+    let judged = look_and_clear(alloc, listed, store, prepared)?;
     keep_and_settle(
         alloc,
         session,
@@ -137,6 +144,7 @@ fn assert_prepared<S: Store>(
 fn assert_named<S: Store>(
     alloc: Global,
     session: &mut Session,
+    listed: &mut Listed,
     store: &mut S,
     config: &Config,
     settings: &Settings,
@@ -144,15 +152,19 @@ fn assert_named<S: Store>(
     name: &Text,
     printed: &Content,
 ) -> Result<Outcome, AssertError>
-    ensures done { IfOk result (λ outcome. IsDone config.now
+    ensures done { IfOk result (λ outcome. (known : Option Files)
+        → IsKnown known (S.files store.old) listed.old → IsDone config.now
         (asked_as (blocks_if config.now.literal) (settings_of settings.now) (place_of place.now)
-        name.now (tree printed.now)) outcome (S.files store.old) (S.files store.new)) }
+        name.now (tree printed.now)) outcome known (S.files store.new)) }
+    ensures covered { OnOk result (StaysCovered (S.files store.old) (S.files store.new) listed.old
+        listed.new) }
     ensures remembered { OnOk result (keep_step (key_under (place_of place.now) name.now)
         (new_contents (asked_as (blocks_if config.now.literal) (settings_of settings.now)
         (place_of place.now) name.now (tree printed.now))) (session_of session.old)
         ≡ Ok (session_of session.new)) }
-    ensures stopped { IfErr result (λ e. KeepStops
-        (Becomes (S.files store.old) (S.files store.new)
+    ensures stopped { IfErr result (λ e. (known : Option Files)
+        → IsKnown known (S.files store.old) listed.old → KeepStops
+        (Becomes known (S.files store.new)
         (cleared (path_of (settings_of settings.now) (place_of place.now) name.now)))
         (keep_step (key_under (place_of place.now) name.now)
         (new_contents (asked_as (blocks_if config.now.literal) (settings_of settings.now)
@@ -166,7 +178,9 @@ fn assert_named<S: Store>(
     ensures cause { AssertCause (S.faults store.old) (S.faults store.new) result }
 {
     let prepared = prepare(alloc, settings, place, name, printed, config.literal)?;
-    let judged = assert_prepared(alloc, session, store, config, place, name, &prepared);
+    let judged = assert_prepared(
+        alloc, session, listed, store, config, place, name, &prepared,
+    );
     let path = prepared.into_path();
     let judged = judged?;
     let verdict = verdict(config.update, judged.passed);
@@ -182,6 +196,7 @@ fn assert_named<S: Store>(
 fn assert_printed<S: Store>(
     alloc: Global,
     session: &mut Session,
+    listed: &mut Listed,
     store: &mut S,
     config: &Config,
     settings: &Settings,
@@ -189,16 +204,18 @@ fn assert_printed<S: Store>(
     given: Option<&Text>,
     printed: &Content,
 ) -> Result<Outcome, AssertError>
-    ensures answered { IfOk result (λ outcome. IsAnswered config.now
+    ensures answered { IfOk result (λ outcome. (known : Option Files)
+        → IsKnown known (S.files store.old) listed.old → IsAnswered config.now
         (assertion_of (blocks_if config.now.literal) (settings_of settings.now)
         (place_of place.now) (option_copied given.entry) (tree printed.now)) outcome
-        (S.files store.old) (S.files store.new) (session_of session.old)
-        (session_of session.new)) }
-    ensures stopped { IfErr result (λ e. IsStopped
+        known (S.files store.new) (session_of session.old) (session_of session.new)) }
+    ensures stopped { IfErr result (λ e. (known : Option Files)
+        → IsKnown known (S.files store.old) listed.old → IsStopped
         (assertion_of (blocks_if config.now.literal) (settings_of settings.now)
         (place_of place.now) (option_copied given.entry) (tree printed.now)) e
-        (S.files store.old) (S.files store.new) (session_of session.old)
-        (session_of session.new)) }
+        known (S.files store.new) (session_of session.old) (session_of session.new)) }
+    ensures covered { OnOk result (StaysCovered (S.files store.old) (S.files store.new) listed.old
+        listed.new) }
     ensures kept { (named : Named) → name_step (settings_of settings.now) (place_of place.now)
         (option_copied given.entry) (session_of session.old) ≡ Ok named
         → KeptBy config.now.update
@@ -215,10 +232,70 @@ fn assert_printed<S: Store>(
 {
     let name = take_name(alloc, session, settings, place, given)?;
     let outcome = assert_named(
-        alloc, session, store, config, settings, place, &name, printed,
+        alloc, session, listed, store, config, settings, place, &name, printed,
     );
     drop(name);
     outcome
+}
+
+/// Asserts as `assert_content` does, for a caller that keeps what is known of the store from one assertion to the next: a folder that
+/// was listed is not listed again.
+///
+/// That serves where nothing but these calls changes the store's files in between. Where something else may, `assert_content` lists anew.
+/// After an error what is known is of no use: a caller that goes on begins with a new one.
+pub fn assert_listed<S: Store>(
+    alloc: Global,
+    session: &mut Session,
+    listed: &mut Listed,
+    store: &mut S,
+    config: &Config,
+    settings: &Settings,
+    place: &Place,
+    name: Option<&Text>,
+    content: Content,
+) -> Result<Outcome, AssertError>
+    requires loose { config.now.require_full_match ≡ false }
+    ensures answered { IfOk result (λ outcome. (printed : Tree)
+        × PrintsAs (λ v. (⟦<dyn Redactor as Redactor>⟧ v).allows) settings.now (tree content) printed
+        × ((known : Option Files) → IsKnown known (S.files store.old) listed.old
+        → IsAnswered config.now (assertion_of (blocks_if config.now.literal)
+        (settings_of settings.now) (place_of place.now) (option_copied name.entry) printed) outcome
+        known (S.files store.new) (session_of session.old) (session_of session.new))) }
+    ensures stopped { IfErr result (λ e. IsUnprinted e (session_of session.old)
+        (session_of session.new) ⊎ ((printed : Tree)
+        × PrintsAs (λ v. (⟦<dyn Redactor as Redactor>⟧ v).allows) settings.now (tree content) printed
+        × ((known : Option Files) → IsKnown known (S.files store.old) listed.old
+        → IsStopped (assertion_of (blocks_if config.now.literal) (settings_of settings.now)
+        (place_of place.now) (option_copied name.entry) printed) e
+        known (S.files store.new) (session_of session.old) (session_of session.new)))) }
+    // What is known of the store's folders goes on with the files of the step.
+    ensures covered { OnOk result (StaysCovered (S.files store.old) (S.files store.new) listed.old
+        listed.new) }
+    // Whatever is returned: no file is written but the one of the mode, so the approved one only in place.
+    ensures kept { (named : Named) → name_step (settings_of settings.now) (place_of place.now)
+        (option_copied name.entry) (session_of session.old) ≡ Ok named
+        → KeptBy config.now.update
+        (path_of (settings_of settings.now) (place_of place.now) named.name)
+        (S.files store.old) (S.files store.new) }
+    ensures named { (named : Named) → name_step (settings_of settings.now) (place_of place.now)
+        (option_copied name.entry) (session_of session.old) ≡ Ok named
+        → NamesOwn config.now.update
+        (path_of (settings_of settings.now) (place_of place.now) named.name) result }
+    ensures untouched { (error : AssertError) → name_step (settings_of settings.now)
+        (place_of place.now) (option_copied name.entry) (session_of session.old) ≡ Err error
+        → store.new ≡ store.old }
+    ensures cause { AssertCause (S.faults store.old) (S.faults store.new) result }
+{
+    match settings.printed_tree(alloc, content) {
+        Ok(printed) => {
+            let outcome = assert_printed(
+                alloc, session, listed, store, config, settings, place, name, &printed,
+            );
+            drop(printed);
+            outcome
+        }
+        Err(_) => Err(AssertError::OutOfMemory),
+    }
 }
 
 /// Asserts that the tree, redacted, is that of the snapshot of its name, by what the file of that holds.
@@ -266,14 +343,18 @@ pub fn assert_content<S: Store>(
         → store.new ≡ store.old }
     ensures cause { AssertCause (S.faults store.old) (S.faults store.new) result }
 {
-    match settings.printed_tree(alloc, content) {
-        Ok(printed) => {
-            let outcome = assert_printed(
-                alloc, session, store, config, settings, place, name, &printed,
-            );
-            drop(printed);
-            outcome
-        }
-        Err(_) => Err(AssertError::OutOfMemory),
-    }
+    let mut listed = Listed::new(alloc);
+    let outcome = assert_listed(
+        alloc,
+        session,
+        &mut listed,
+        store,
+        config,
+        settings,
+        place,
+        name,
+        content,
+    );
+    drop(listed);
+    outcome
 }

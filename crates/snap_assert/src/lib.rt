@@ -1,7 +1,7 @@
 //! One assertion over a store: what it leaves and answers is one stated step. The clauses of `assert_content` say so.
 //!
 //! In the order in which data flows: `session` (what is remembered), `names` (the name that is taken), `kept` (what an open block keeps),
-//! `duplicates` (a block round a closure), `prepare`, `judge`, `strays` and `look` (what is there), `settle` and `removal` (what is left), `engine`
+//! `duplicates` (a block round a closure), `prepare`, `judge`, `strays`, `listed` and `look` (what is there), `settle` and `removal` (what is left), `engine`
 //! (one assertion), `outcome` and `error` (its answer), `laws`.
 #![tactic(auto)]
 
@@ -11,6 +11,7 @@ pub mod error;
 mod judge;
 mod kept;
 pub mod laws;
+pub mod listed;
 mod look;
 mod names;
 pub mod outcome;
@@ -21,8 +22,9 @@ mod settle;
 mod strays;
 
 pub use duplicates::with_allow_duplicates;
-pub use engine::assert_content;
+pub use engine::{assert_content, assert_listed};
 pub use error::{AssertError, DuplicateKey};
+pub use listed::Listed;
 pub use outcome::{Outcome, Verdict, Warning, Warnings};
 pub use session::Session;
 pub use snap_assert_place::{BadPlace, Place};

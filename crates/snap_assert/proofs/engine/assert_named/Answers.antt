@@ -1,6 +1,5 @@
-use Rattle.snap_assert.proofs.Prelude.{refl}
+use Rattle.snap_assert.proofs.Prelude.{refl, inl}
 use Rattle.snap_assert.proofs.Answering.{done_by}
-use Rattle.snap_assert.proofs.Refusals.{memory_stops}
 use Rattle.snap_assert.proofs.Settling.{has_text, kept_unwritten, own_refused}
 use Rattle.std.proofs.lemmas.Result.{err_from_is_err_and}
 use Rattle.snap_assert.proofs.engine.assert_named.Goals as goal
@@ -9,7 +8,9 @@ pub assert_prepared-judged-requires : goal.assert_prepared-judged-requires
 assert_prepared-judged-requires g c = has_text _ c.in_ok-prepared.prepared c.in_ok-prepared.ensures
 
 pub returns-in_err-prepared-clause-stopped : goal.returns-in_err-prepared-clause-stopped
-returns-in_err-prepared-clause-stopped g c = memory_stops _ _ _ c.from_residual.result c.from_residual.ensures.1
+returns-in_err-prepared-clause-stopped g c =
+    let told = err_from_is_err_and c.from_residual.result c.from_residual.ensures.1 in
+    rw (told.1, told.2) (λ known held. inl refl)
 
 pub returns-in_err-prepared-clause-kept : goal.returns-in_err-prepared-clause-kept
 returns-in_err-prepared-clause-kept g c = kept_unwritten _ _ _ _ refl
@@ -31,6 +32,9 @@ returns-clause-kept g c = c.in_ok-judged.ensures.kept _ c.in_ok-prepared.ensures
 pub returns-clause-remembered : goal.returns-clause-remembered
 returns-clause-remembered g c = c.in_ok-judged.ensures.remembered _ c.in_ok-prepared.ensures
 
+pub returns-clause-covered : goal.returns-clause-covered
+returns-clause-covered g c = c.in_ok-judged.ensures.covered _ c.in_ok-prepared.ensures
+
 pub returns-clause-done : goal.returns-clause-done
-returns-clause-done g c =
-    rw c.into_path-path.ensures (done_by c.args.config.now _ c.in_ok-prepared.prepared c.in_ok-judged.judged _ _ _ _ c.in_ok-prepared.ensures c.verdict-verdict.ensures c.fails.ensures c.in_ok-judged.ensures.settled)
+returns-clause-done g c = λ known held.
+    rw c.into_path-path.ensures (done_by c.args.config.now _ c.in_ok-prepared.prepared c.in_ok-judged.judged _ _ _ _ known c.args.listed.now held c.in_ok-prepared.ensures c.verdict-verdict.ensures c.fails.ensures c.in_ok-judged.ensures.settled)

@@ -13,7 +13,7 @@ returns-in_err-name-clause-stopped g c =
     let told = err_from_is_err_and c.from_residual.result c.from_residual.ensures.1 in
     let a = assertion_of (blocks_if c.args.config.now.literal) (settings_of c.args.settings.now) (place_of c.args.place.now) (option_copied c.args.given) (tree c.args.printed.now) in
     let files = g.S.Store.files c.args.store.now in
-    rw (told.1, told.2) (name_stops a files files (session_of c.args.session.now) _ c.in_err-name.field-0.0 c.in_err-name.ensures.err c.in_err-name.ensures.same refl)
+    rw (told.1, told.2) (λ known held. name_stops a known files (session_of c.args.session.now) _ c.in_err-name.field-0.0 c.in_err-name.ensures.err c.in_err-name.ensures.same (λ m is. (held m is).0))
 
 pub returns-in_err-name-clause-kept : goal.returns-in_err-name-clause-kept
 returns-in_err-name-clause-kept g c = λ named is. kept_unwritten _ _ _ _ refl
@@ -30,15 +30,15 @@ returns-in_err-name-clause-cause g c =
 pub returns-clause-answered : goal.returns-clause-answered
 returns-clause-answered g c =
     let a = assertion_of (blocks_if c.args.config.now.literal) (settings_of c.args.settings.now) (place_of c.args.place.now) (option_copied c.args.given) (tree c.args.printed.now) in
-    done_and_kept c.assert_named-outcome.result (λ outcome done kept.
-    answered c.args.config.now a outcome (g.S.Store.files c.args.store.now) (g.S.Store.files c.assert_named-outcome.new.store) (session_of c.args.session.now) _ _ c.in_ok-name.name c.in_ok-name.ensures.ok kept done)
+    done_and_kept c.assert_named-outcome.result (λ outcome done kept known held.
+    answered c.args.config.now a outcome known (g.S.Store.files c.assert_named-outcome.new.store) (session_of c.args.session.now) _ _ c.in_ok-name.name c.in_ok-name.ensures.ok kept (done known held))
     c.assert_named-outcome.ensures.done c.assert_named-outcome.ensures.remembered
 
 pub returns-clause-stopped : goal.returns-clause-stopped
 returns-clause-stopped g c =
     let a = assertion_of (blocks_if c.args.config.now.literal) (settings_of c.args.settings.now) (place_of c.args.place.now) (option_copied c.args.given) (tree c.args.printed.now) in
-    err_weaker c.assert_named-outcome.result (λ error stops.
-    named_stops a (g.S.Store.files c.args.store.now) (g.S.Store.files c.assert_named-outcome.new.store) (session_of c.args.session.now) _ _ c.in_ok-name.name error c.in_ok-name.ensures.ok stops)
+    err_weaker c.assert_named-outcome.result (λ error stops known held.
+    named_stops a known (g.S.Store.files c.assert_named-outcome.new.store) (session_of c.args.session.now) _ _ c.in_ok-name.name error c.in_ok-name.ensures.ok (stops known held))
     c.assert_named-outcome.ensures.stopped
 
 pub returns-clause-kept : goal.returns-clause-kept

@@ -21,14 +21,15 @@ returns-in_err-strays-clause-cause g c =
     (call_cause _ _ _ c.args.prepared.now.folder c.in_err-strays.field-0.0 c.in_ok-judged.ensures.cause c.in_err-strays.ensures.error c.in_err-strays.ensures.cause)
 
 pub returns-clause-seen : goal.returns-clause-seen
-returns-clause-seen g c = λ asked prepared m told. record {
+returns-clause-seen g c = λ asked prepared m told covered. record {
   judged = c.in_ok-judged.ensures.judged asked prepared m told;
   strays = subst (λ path. AreStrays path m c.in_ok-strays.strays.items) prepared.path
       (c.in_ok-strays.ensures.strays (subst (λ path. IsFilePath path) (sym prepared.path) prepared.file_path) (prepared.folder ∙ ap parent_of (sym prepared.path))
-      m (c.in_ok-judged.ensures.same ∙ told));
+      m (c.in_ok-judged.ensures.same ∙ told) covered);
 }
 
 pub returns-clause-strays : goal.returns-clause-strays
-returns-clause-strays g c = λ asked prepared.
-    subst (λ path. AllStray path c.in_ok-strays.strays.items) prepared.path
-    (c.in_ok-strays.ensures.all (subst (λ path. IsFilePath path) (sym prepared.path) prepared.file_path) (prepared.folder ∙ ap parent_of (sym prepared.path)))
+returns-clause-strays g c = λ asked prepared. subst (λ path. AllStray path c.in_ok-strays.strays.items) prepared.path c.in_ok-strays.ensures.all
+
+pub returns-clause-covered : goal.returns-clause-covered
+returns-clause-covered g c = λ m told covered. c.in_ok-strays.ensures.covered m (c.in_ok-judged.ensures.same ∙ told) covered

@@ -1,4 +1,5 @@
-use Rattle.snap_assert.proofs.Prelude.{◌∙◌, sym, subst, AreStrays, AllStray}
+use Rattle.snap_assert.proofs.Prelude.{◌∙◌, sym, subst, AreStrays, AllStray, IsCoveredAt}
+use Rattle.snap_assert.proofs.Removals.{strays_gone}
 use Rattle.snap_assert.proofs.Settling.{cleared_is, kept_unwritten, kept_clearing, own_strays, own_refused}
 use Rattle.snap_assert.proofs.look.look_and_clear.Goals as goal
 
@@ -8,21 +9,27 @@ returns-in_err-seen-clause-kept g c = λ asked mode prepared. kept_unwritten mod
 pub returns-in_err-seen-clause-named : goal.returns-in_err-seen-clause-named
 returns-in_err-seen-clause-named g c = λ asked mode prepared. own_refused mode asked.path c.from_residual.result c.in_err-seen.field-0.0 c.from_residual.ensures.1 (c.in_err-seen.ensures.named asked mode prepared)
 
-pub returns-in_err-remove_files-clause-kept : goal.returns-in_err-remove_files-clause-kept
-returns-in_err-remove_files-clause-kept g c = λ asked mode prepared m told.
-    kept_clearing mode asked _ _ _ (subst (AllStray asked.path) (sym c.deref.ensures.value) (c.in_ok-seen.ensures.strays asked prepared)) c.in_err-remove_files.ensures.kept m (c.in_ok-seen.ensures.same ∙ told)
+pub returns-in_err-clear-clause-kept : goal.returns-in_err-clear-clause-kept
+returns-in_err-clear-clause-kept g c = λ asked mode prepared m told.
+    kept_clearing mode asked _ _ _ (subst (AllStray asked.path) (sym c.deref.ensures.value) (c.in_ok-seen.ensures.strays asked prepared)) c.in_err-clear.ensures.kept m (c.in_ok-seen.ensures.same ∙ told)
 
-pub returns-in_err-remove_files-clause-named : goal.returns-in_err-remove_files-clause-named
-returns-in_err-remove_files-clause-named g c = λ asked mode prepared. own_refused mode asked.path c.from_residual-in_err-remove_files.result c.in_err-remove_files.field-0.0 c.from_residual-in_err-remove_files.ensures.1
-    (own_strays mode asked.path _ c.in_err-remove_files.field-0.0 (subst (AllStray asked.path) (sym c.deref.ensures.value) (c.in_ok-seen.ensures.strays asked prepared)) c.in_err-remove_files.ensures.named)
+pub returns-in_err-clear-clause-named : goal.returns-in_err-clear-clause-named
+returns-in_err-clear-clause-named g c = λ asked mode prepared. own_refused mode asked.path c.from_residual-in_err-clear.result c.in_err-clear.field-0.0 c.from_residual-in_err-clear.ensures.1
+    (own_strays mode asked.path _ c.in_err-clear.field-0.0 (subst (AllStray asked.path) (sym c.deref.ensures.value) (c.in_ok-seen.ensures.strays asked prepared)) c.in_err-clear.ensures.named)
 
 pub returns-clause-kept : goal.returns-clause-kept
 returns-clause-kept g c = λ asked mode prepared m told.
-    kept_clearing mode asked _ _ _ (subst (AllStray asked.path) (sym c.deref.ensures.value) (c.in_ok-seen.ensures.strays asked prepared)) c.in_ok-remove_files.ensures.kept m (c.in_ok-seen.ensures.same ∙ told)
+    kept_clearing mode asked _ _ _ (subst (AllStray asked.path) (sym c.deref.ensures.value) (c.in_ok-seen.ensures.strays asked prepared)) c.in_ok-clear.ensures.kept m (c.in_ok-seen.ensures.same ∙ told)
 
 pub returns-clause-judged : goal.returns-clause-judged
-returns-clause-judged g c = λ asked prepared m told. (c.in_ok-seen.ensures.seen asked prepared m told).judged
+returns-clause-judged g c = λ asked prepared m told covered. (c.in_ok-seen.ensures.seen asked prepared m told covered).judged
 
 pub returns-clause-cleared : goal.returns-clause-cleared
-returns-clause-cleared g c = λ asked prepared m told.
-    cleared_is asked m _ _ _ (c.in_ok-seen.ensures.same ∙ told) (subst (AreStrays asked.path m) (sym c.deref.ensures.value) (c.in_ok-seen.ensures.seen asked prepared m told).strays) c.in_ok-remove_files.ensures.ok
+returns-clause-cleared g c = λ asked prepared m told covered.
+    cleared_is asked m _ _ _ (c.in_ok-seen.ensures.same ∙ told) (subst (AreStrays asked.path m) (sym c.deref.ensures.value) (c.in_ok-seen.ensures.seen asked prepared m told covered).strays) c.in_ok-clear.ensures.ok
+
+pub returns-clause-covered : goal.returns-clause-covered
+returns-clause-covered g c = λ asked prepared m told covered.
+    subst (λ n. IsCoveredAt asked.path n c.clear.new.listed)
+    (strays_gone asked.path m _ (subst (AreStrays asked.path m) (sym c.deref.ensures.value) (c.in_ok-seen.ensures.seen asked prepared m told covered).strays))
+    (c.in_ok-clear.ensures.covered asked prepared m (c.in_ok-seen.ensures.same ∙ told) (c.in_ok-seen.ensures.covered m told covered))

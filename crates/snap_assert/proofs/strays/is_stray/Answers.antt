@@ -1,6 +1,6 @@
 use Rattle.snap_assert.proofs.Prelude.{chars}
 use Rattle.snap_assert.proofs.StrayPaths.{no_longer, not_behind, not_new, behind_new}
-use Rattle.snap_assert.proofs.strays.is_stray_name.Goals as goal
+use Rattle.snap_assert.proofs.strays.is_stray.Goals as goal
 
 pub returns-then-name-file : goal.returns-then-name-file
 returns-then-name-file c = no_longer c.args.file.now c.args.name.now c.utf8.file c.utf8.name c.if-name-file.true
