@@ -1,6 +1,7 @@
 -- What one document leaves.
-use Rattle.snap_run.proofs.Prelude.{◌≡◌, ◌⊎◌, ◌&&◌, not, inl, inr, Bool, true, false, ℕ, List, ◌++◌, map, Option, Some, refl, sym, ap, ◌∙◌, subst, Result, Ok, Err, encode_utf8_all, append-nil, Files, outside, HoldsFront, verdict_of, is_failure, step, SessionView, is_open, opened, closed, AssertionView, RequestView, asserts, begins, ends, Spells, ReadsAs, RunWords, place_by, settings_by, printed_by, assertion_by, line_text, line_by, course_line, course_files, MayPass, KeptBy, FaultIsOwn, is_written, may_change, words_of, RanOne, StopsAt, AssertionStops, IsInWork, IsRefusedWith, LineFails, IsMade, name_in, path_in, CountedIf, is_store_fault, DocumentError, Outcome, Runner}
-use Rattle.std.specs.Result.{IfErr, IsErrAnd, is_ok}
+use Rattle.snap_run.proofs.Prelude.{◌≡◌, ◌⊎◌, ◌&&◌, not, inl, inr, Bool, true, false, ℕ, List, ◌++◌, map, Option, None, Some, refl, sym, ap, ◌∙◌, subst, Result, Ok, Err, encode_utf8_all, append-nil, Files, outside, HoldsFront, verdict_of, is_failure, step, SessionView, is_open, opened, closed, AssertionView, RequestView, asserts, begins, ends, Spells, ReadsAs, RunWords, place_by, settings_by, printed_by, assertion_by, line_text, line_by, course_line, course_files, MayPass, KeptBy, FaultIsOwn, is_written, may_change, words_of, RanOne, StopsAt, AssertionStops, IsInWork, IsRefusedWith, LineFails, IsMade, IsSeenFrom, name_in, path_in, CountedIf, is_store_fault, DocumentError, Outcome, Runner}
+use Rattle.std.specs.Result.{IfErr, OnOk, is_ok}
+use Rattle.snap_content.proofs.Booleans.{some_same}
 use Rattle.snap_content.specs.Tree.{Tree}
 use Rattle.snap_print.specs.Blocks.{blocks_if}
 use Rattle.snap_select.specs.Put.{Objects}
@@ -12,7 +13,9 @@ use Rattle.snap_assert_settings.specs.declared.settings.Settings.{Settings}
 use Rattle.snap_assert_settings.proofs.PlainRedactions.{plain_prints}
 use Rattle.snap_assert_place.specs.Place.{PlaceView}
 use Rattle.snap_assert.specs.Assertions.{Assertion, assertion_of}
-use Rattle.snap_assert.specs.Courses.{session_after}
+use Rattle.snap_assert.specs.Courses.{Course, Refused, course_of, named_course, cleared_at, session_after}
+use Rattle.snap_assert.specs.Listed.{IsCovered, IsKnown, StaysCovered}
+use Rattle.snap_assert.specs.declared.listed.Listed.{Listed}
 use Rattle.snap_assert.proofs.Keeping.{kept_same}
 use Rattle.snap_assert.specs.Names.{Named, name_step}
 use Rattle.snap_assert_place.specs.SnapshotPath.{path_of}
@@ -31,12 +34,6 @@ use Rattle.snap_assert.specs.declared.error.AssertError.TheVariants as refusal
 -- nothing was changed, so what no work may change is as before
 pub nothing_done : (words : RunWords) (a : AssertionView) (session : SessionView) (f g : Option Files) → g ≡ f → IsInWork words a session f g
 nothing_done words a session f g same = record { kept = λ named is m told. kept_same (is_written words.update (path_in words a named.name)) (may_change words.update (path_in words a named.name)) m g (same ∙ told); untouched = λ refused is. same }
-
--- memory was out before anything was changed
-pub memory_before : {T : Type 0} (words : RunWords) (a : AssertionView) (session : SessionView) (f : Option Files) (result : Result T DocumentError) → IsErrAnd result (λ e. e ≡ error.OutOfMemory)
-    → IfErr result (λ e. AssertionStops words e a session f f)
-memory_before words a session f (Ok value) is = tt
-memory_before words a session f (Err error) is = subst (λ e. AssertionStops words e a session f f) (sym is) (nothing_done words a session f f refl)
 
 -- what is printed with the redactions of a request is what the request prints
 pub printed_is : {X : Type 0} {P : X → Type 0} {Y : Type 0} {Q : Y → Type 0} {g : _} (objects : Objects X P) (settings : Settings X Y P Q g)
@@ -84,10 +81,22 @@ pub own_in : (settings : SettingsView) (place : PlaceView) (given : Option (List
 own_in settings place given words a session e new is named own = λ name so.
     subst (λ p. FaultIsOwn words.update p e) (path_is settings place words a name.name new is) (own name (name_is settings place given words a session new is named ∙ so))
 
+-- the same of the files that are known of the store, where a name is taken
+known_work : (words : RunWords) (a : AssertionView) (session : SessionView) (f known g : Option Files) → ((m : Files) → known ≡ Some m → f ≡ Some m) → ((refused : AssertError) → name_in words a session ≡ Err refused → ⊥)
+    → IsInWork words a session f g → IsInWork words a session known g
+known_work words a session f known g of_store taken work = record {
+  kept = λ named is m told. work.kept named is m (of_store m told);
+  untouched = λ refused is. absurd (taken refused is);
+}
+
+-- an assertion that goes on has a name
+goes_named : (words : RunWords) (a : AssertionView) (s : SessionView) (course : Course) → course_of (assertion_by words a) s ≡ Ok course → (refused : AssertError) → name_in words a s ≡ Err refused → ⊥
+goes_named words a s course is refused none = let clash = sym is ∙ ap (named_course (assertion_by words a) s) none in cc clash
+
 -- an assertion was answered
-pub made : (runner : Runner) (a : AssertionView) (assertion : Assertion) (outcome : Outcome) (s t : SessionView) (f g : Option Files) → assertion ≡ assertion_by (words_of runner) a
-    → IsAnswered runner.config assertion outcome f g s t → IsInWork (words_of runner) a s f g → IsMade (words_of runner) a outcome s t f g
-made runner a assertion outcome s t f g is x work =
+pub made : (runner : Runner) (a : AssertionView) (assertion : Assertion) (outcome : Outcome) (s t : SessionView) (real f g : Option Files) → assertion ≡ assertion_by (words_of runner) a
+    → ((m : Files) → f ≡ Some m → real ≡ Some m) → IsAnswered runner.config assertion outcome f g s t → IsInWork (words_of runner) a s real g → IsMade (words_of runner) a outcome s t f g
+made runner a assertion outcome s t real f g is of_store x work =
     let y : IsAnswered runner.config (assertion_by (words_of runner) a) outcome f g s t = subst (λ k. IsAnswered runner.config k outcome f g s t) is x in
     record {
       passed = y.done.passed;
@@ -99,30 +108,56 @@ made runner a assertion outcome s t f g is x work =
       path = y.done.path;
       allowed = y.done.allowed;
       stands = y.done.stands;
-      work = work;
+      work = known_work (words_of runner) a s real f g of_store (goes_named (words_of runner) a s y.course y.course_is) work;
     }
 
-refused_with : (words : RunWords) (a : AssertionView) (k : RefusalKind) (e : AssertError) (s t : SessionView) (f g : Option Files) → kind_of e ≡ Some k → IsInWork words a s f g
-    → IsRefusedAs (assertion_by words a) e f g s t → IsRefusedWith k words a s f g
-refused_with words a k e s t f g is work r = record { refused = r.refused; course_is = r.course_is; kind_is = ap kind_of r.error_is ∙ is; stands = r.stands; work = work }
+one_refused : (course : Result Course Refused) (x y : Refused) → course ≡ Err x → course ≡ Err y → x ≡ y
+one_refused course x y is also = cc
+
+-- what is remembered refuses it: a name before anything is changed, and a block when what waited is gone
+refused_by : (words : RunWords) (a : AssertionView) (k : RefusalKind) (e : AssertError) (s t : SessionView) (f known g : Option Files) (named : Result Named AssertError) → name_in words a s ≡ named → kind_of e ≡ Some k
+    → ((m : Files) → known ≡ Some m → f ≡ Some m) → IsInWork words a s f g → IsRefusedAs (assertion_by words a) e known g s t → IsSeenFrom f known (λ files. IsRefusedWith k words a s files g)
+refused_by words a k e s t f known g (Err refused) is kind of_store work r =
+    let unnamed : Refused = record { error = refused; session = s; taken = None } in
+    let same : r.refused ≡ unnamed = one_refused (course_of (assertion_by words a) s) r.refused unnamed r.course_is (ap (named_course (assertion_by words a) s) is) in
+    let before : r.refused.taken ≡ None = ap (λ x. x.taken) same in
+    inl (record {
+      refused = r.refused;
+      course_is = r.course_is;
+      kind_is = ap kind_of r.error_is ∙ kind;
+      stands = λ m told. work.untouched refused is ∙ told ∙ ap (λ found. Some (cleared_at (assertion_by words a) found m)) (sym before);
+      work = work;
+    })
+refused_by words a k e s t f known g (Ok named) is kind of_store work r = inr (record {
+  refused = r.refused;
+  course_is = r.course_is;
+  kind_is = ap kind_of r.error_is ∙ kind;
+  stands = r.stands;
+  work = known_work words a s f known g of_store (λ refused none. let clash = sym is ∙ none in cc clash) work;
+})
+
+refused_with : (words : RunWords) (a : AssertionView) (k : RefusalKind) (e : AssertError) (s t : SessionView) (f known g : Option Files) → kind_of e ≡ Some k → ((m : Files) → known ≡ Some m → f ≡ Some m)
+    → IsInWork words a s f g → IsRefusedAs (assertion_by words a) e known g s t → IsSeenFrom f known (λ files. IsRefusedWith k words a s files g)
+refused_with words a k e s t f known g is of_store work r = refused_by words a k e s t f known g (name_in words a s) refl is of_store work r
 
 -- an assertion is refused
-pub refused_stops : (words : RunWords) (a : AssertionView) (s t : SessionView) (f g : Option Files) (e : AssertError) → IsInWork words a s f g
+pub refused_stops : (words : RunWords) (a : AssertionView) (s t : SessionView) (f known g : Option Files) (e : AssertError) → ((m : Files) → known ≡ Some m → f ≡ Some m) → IsInWork words a s f g
     → ((name : Named) → name_in words a s ≡ Ok name → FaultIsOwn words.update (path_in words a name.name) e)
-    → IsUnprinted e s t ⊎ IsStopped (assertion_by words a) e f g s t → AssertionStops words (unanswered e) a s f g
-refused_stops words a s t f g (refusal.FileIo named) work own h = record { work = work; own = own }
-refused_stops words a s t f g refusal.OutOfMemory work own h = work
-refused_stops words a s t f g refusal.NameClash work own (inl u) = absurd (let clash = u.0 in cc clash)
-refused_stops words a s t f g refusal.NameClash work own (inr r) = refused_with words a kind.NameClash refusal.NameClash s t f g refl work r
-refused_stops words a s t f g refusal.DoctestNeedsName work own (inl u) = absurd (let clash = u.0 in cc clash)
-refused_stops words a s t f g refusal.DoctestNeedsName work own (inr r) = refused_with words a kind.DoctestNeedsName refusal.DoctestNeedsName s t f g refl work r
-refused_stops words a s t f g (refusal.DuplicateDiffers key kept new) work own (inl u) = absurd (let clash = u.0 in cc clash)
-refused_stops words a s t f g (refusal.DuplicateDiffers key kept new) work own (inr r) = refused_with words a kind.DuplicateDiffers (refusal.DuplicateDiffers key kept new) s t f g refl work r
-refused_stops words a s t f g refusal.NamesExhausted work own (inl u) = absurd (let clash = u.0 in cc clash)
-refused_stops words a s t f g refusal.NamesExhausted work own (inr r) = refused_with words a kind.NamesExhausted refusal.NamesExhausted s t f g refl work r
-refused_stops words a s t f g refusal.InlineDuplicate work own h = work
-refused_stops words a s t f g refusal.BadExtension work own h = work
-refused_stops words a s t f g refusal.JsonKey work own h = work
+    → IsUnprinted e s t ⊎ IsStopped (assertion_by words a) e known g s t → IsSeenFrom f known (λ files. AssertionStops words (unanswered e) a s files g)
+refused_stops words a s t f known g (refusal.FileIo named) of_store work own h = inl (record { work = work; own = own })
+refused_stops words a s t f known g refusal.OutOfMemory of_store work own h = inl work
+refused_stops words a s t f known g refusal.NameClash of_store work own (inl u) = absurd (let clash = u.0 in cc clash)
+refused_stops words a s t f known g refusal.NameClash of_store work own (inr r) = refused_with words a kind.NameClash refusal.NameClash s t f known g refl of_store work r
+refused_stops words a s t f known g refusal.DoctestNeedsName of_store work own (inl u) = absurd (let clash = u.0 in cc clash)
+refused_stops words a s t f known g refusal.DoctestNeedsName of_store work own (inr r) = refused_with words a kind.DoctestNeedsName refusal.DoctestNeedsName s t f known g refl of_store work r
+refused_stops words a s t f known g (refusal.DuplicateDiffers key kept new) of_store work own (inl u) = absurd (let clash = u.0 in cc clash)
+refused_stops words a s t f known g (refusal.DuplicateDiffers key kept new) of_store work own (inr r) =
+    refused_with words a kind.DuplicateDiffers (refusal.DuplicateDiffers key kept new) s t f known g refl of_store work r
+refused_stops words a s t f known g refusal.NamesExhausted of_store work own (inl u) = absurd (let clash = u.0 in cc clash)
+refused_stops words a s t f known g refusal.NamesExhausted of_store work own (inr r) = refused_with words a kind.NamesExhausted refusal.NamesExhausted s t f known g refl of_store work r
+refused_stops words a s t f known g refusal.InlineDuplicate of_store work own h = inl work
+refused_stops words a s t f known g refusal.BadExtension of_store work own h = inl work
+refused_stops words a s t f known g refusal.JsonKey of_store work own h = inl work
 
 pub refused_count : (before now : ℕ) (e : AssertError) → ErrorCause before now e → CountedIf (is_store_fault (unanswered e)) before now
 refused_count before now (refusal.FileIo named) cause = cause
@@ -136,13 +171,14 @@ refused_count before now refusal.BadExtension cause = cause
 refused_count before now refusal.JsonKey cause = cause
 
 -- what stands of an assertion whose printed tree is some tree
-pub stopped_by : {P : Tree → Type 0} → (words : RunWords) (a : AssertionView) (settings : SettingsView) (place : PlaceView) (given : Option (List ℕ)) (e : AssertError) (f g : Option Files) (s t : SessionView)
+pub stopped_by : {P : Tree → Type 0} → (words : RunWords) (a : AssertionView) (settings : SettingsView) (place : PlaceView) (given : Option (List ℕ)) (e : AssertError) (real f g : Option Files) (listed : Listed) (s t : SessionView)
     → settings ≡ settings_by a → place ≡ place_by words.workspace a → given ≡ a.name → ((out : Tree) → P out → out ≡ printed_by a)
-    → IsUnprinted e s t ⊎ ((printed : Tree) × P printed × IsStopped (assertion_of (blocks_if words.literal) settings place given printed) e f g s t)
+    → IsKnown f real listed
+    → IsUnprinted e s t ⊎ ((printed : Tree) × P printed × ((known : Option Files) → IsKnown known real listed → IsStopped (assertion_of (blocks_if words.literal) settings place given printed) e known g s t))
     → IsUnprinted e s t ⊎ IsStopped (assertion_by words a) e f g s t
-stopped_by words a settings place given e f g s t new is named prints (inl u) = inl u
-stopped_by words a settings place given e f g s t new is named prints (inr x) =
-    inr (subst (λ k. IsStopped k e f g s t) (assertion_is settings place given words a x.0 new is named (prints x.0 x.1)) x.2)
+stopped_by words a settings place given e real f g listed s t new is named prints held (inl u) = inl u
+stopped_by words a settings place given e real f g listed s t new is named prints held (inr x) =
+    inr (subst (λ k. IsStopped k e f g s t) (assertion_is settings place given words a x.0 new is named (prints x.0 x.1)) (x.2 f held))
 
 line_is : (words : RunWords) (a : AssertionView) (outcome : Outcome) (line bytes : List ℕ) (s t : SessionView) (f g : Option Files) (d : IsMade words a outcome s t f g)
     → line ≡ line_text outcome.verdict outcome.path → bytes ≡ encode_utf8_all line → bytes ≡ line_by words (asserts a) d.passed s
@@ -181,18 +217,23 @@ line_fails words a outcome line bytes s t f g w v d told encoded wrote document 
 }
 
 -- it was answered, and memory was out for its line
-pub no_line : (words : RunWords) (a : AssertionView) (outcome : Outcome) (s t : SessionView) (f g : Option Files) (w : Option (List ℕ)) → IsMade words a outcome s t f g
-    → (document : List ℕ) → ReadsAs document (asserts a) → StopsAt words error.OutOfMemory document s (outside f w) (outside g w)
-no_line words a outcome s t f g w d document reads = (refl, inr (record { assertion = a; reads = reads; is = d.work }))
+pub no_line : (words : RunWords) (a : AssertionView) (outcome : Outcome) (s t : SessionView) (real f g : Option Files) (w : Option (List ℕ)) → IsMade words a outcome s t f g
+    → (document : List ℕ) → ReadsAs document (asserts a) → IsSeenFrom real f (λ files. StopsAt words error.OutOfMemory document s (outside files w) (outside g w))
+no_line words a outcome s t real f g w d document reads = inr (refl, inr (record { assertion = a; reads = reads; is = d.work }))
 
 -- the assertion of a document comes to no answer
-pub assertion_stops : (words : RunWords) (a : AssertionView) (e : DocumentError) (s : SessionView) (f g : Option Files) (w : Option (List ℕ)) → AssertionStops words e a s f g
+stops_in : (words : RunWords) (a : AssertionView) (e : DocumentError) (s : SessionView) (f g : Option Files) (w : Option (List ℕ)) → AssertionStops words e a s f g
     → (document : List ℕ) → ReadsAs document (asserts a) → StopsAt words e document s (outside f w) (outside g w)
-assertion_stops words a error.NoRequest s f g w h document reads = absurd h
-assertion_stops words a (error.Refused k) s f g w h document reads = (refl, record { assertion = a; reads = reads; is = h })
-assertion_stops words a (error.FileIo named) s f g w h document reads = (refl, record { assertion = a; reads = reads; is = h })
-assertion_stops words a error.WriteFault s f g w h document reads = absurd h
-assertion_stops words a error.OutOfMemory s f g w h document reads = (refl, inr (record { assertion = a; reads = reads; is = h }))
+stops_in words a error.NoRequest s f g w h document reads = absurd h
+stops_in words a (error.Refused k) s f g w h document reads = (refl, record { assertion = a; reads = reads; is = h })
+stops_in words a (error.FileIo named) s f g w h document reads = (refl, record { assertion = a; reads = reads; is = h })
+stops_in words a error.WriteFault s f g w h document reads = absurd h
+stops_in words a error.OutOfMemory s f g w h document reads = (refl, inr (record { assertion = a; reads = reads; is = h }))
+
+pub assertion_stops : (words : RunWords) (a : AssertionView) (e : DocumentError) (s : SessionView) (real f g : Option Files) (w : Option (List ℕ)) → IsSeenFrom real f (λ files. AssertionStops words e a s files g)
+    → (document : List ℕ) → ReadsAs document (asserts a) → IsSeenFrom real f (λ files. StopsAt words e document s (outside files w) (outside g w))
+assertion_stops words a e s real f g w (inl h) document reads = inl (stops_in words a e s real g w h document reads)
+assertion_stops words a e s real f g w (inr h) document reads = inr (stops_in words a e s f g w h document reads)
 
 -- a document that is not read
 pub unread_stops : (words : RunWords) (document : List ℕ) (s : SessionView) (f : Option Files) (w : Option (List ℕ)) (refused : RequestError)
@@ -201,21 +242,21 @@ unread_stops words document s f w (request.NoRequest why) none = (refl, refl, λ
 unread_stops words document s f w request.OutOfMemory none = (refl, inl refl)
 
 -- a block begins
-pub block_begins : (words : RunWords) (document : List ℕ) (s t : SessionView) (f : Option Files) (w : Option (List ℕ)) (fails : Bool) → ReadsAs document begins → fails ≡ false → t ≡ opened s
-    → RanOne words document fails s t (outside f w) (outside f w)
-block_begins words document s t f w fails reads none same = record {
+pub block_begins : (words : RunWords) (document : List ℕ) (s t : SessionView) (f g : Option Files) (w : Option (List ℕ)) (fails : Bool) → ReadsAs document begins → fails ≡ false → t ≡ opened s
+    → ((m : Files) → f ≡ Some m → g ≡ Some m) → RanOne words document fails s t (outside f w) (outside g w)
+block_begins words document s t f g w fails reads none same of_store = record {
   answer = record { request = begins; passed = true };
   failing = sym none;
-  ran = record { reads = (reads, tt); taken = (refl, tt); remembered = same; allowed = λ m e. (tt, tt); stands = λ m e. e; lines = λ x e. e ∙ ap Some (sym (append-nil x)) };
+  ran = record { reads = (reads, tt); taken = (refl, tt); remembered = same; allowed = λ m e. (tt, tt); stands = of_store; lines = λ x e. e ∙ ap Some (sym (append-nil x)) };
 }
 
 -- a block ends
-pub block_ends : (words : RunWords) (document : List ℕ) (s t : SessionView) (f : Option Files) (w : Option (List ℕ)) (fails : Bool) → ReadsAs document ends → fails ≡ false → is_open s ≡ true → t ≡ closed s
-    → RanOne words document fails s t (outside f w) (outside f w)
-block_ends words document s t f w fails reads none is same = record {
+pub block_ends : (words : RunWords) (document : List ℕ) (s t : SessionView) (f g : Option Files) (w : Option (List ℕ)) (fails : Bool) → ReadsAs document ends → fails ≡ false → is_open s ≡ true → t ≡ closed s
+    → ((m : Files) → f ≡ Some m → g ≡ Some m) → RanOne words document fails s t (outside f w) (outside g w)
+block_ends words document s t f g w fails reads none is same of_store = record {
   answer = record { request = ends; passed = true };
   failing = sym none;
-  ran = record { reads = (reads, tt); taken = (is, tt); remembered = same; allowed = λ m e. (tt, tt); stands = λ m e. e; lines = λ x e. e ∙ ap Some (sym (append-nil x)) };
+  ran = record { reads = (reads, tt); taken = (is, tt); remembered = same; allowed = λ m e. (tt, tt); stands = of_store; lines = λ x e. e ∙ ap Some (sym (append-nil x)) };
 }
 
 -- a block ends where none is open
@@ -230,3 +271,11 @@ memory_stops words document s f w e is = subst (λ x. StopsAt words x document s
 pub err_weaker : {T : Type 0} → {P Q : DocumentError → Type 0} → (result : Result T DocumentError) → ((e : DocumentError) → P e → Q e) → IfErr result P → IfErr result Q
 err_weaker (Ok value) f h = tt
 err_weaker (Err e) f h = f e h
+
+-- where neither the files nor what is known of them change
+pub stays_same : (f : Option Files) (listed : Listed) → StaysCovered f f listed listed
+stays_same f listed m told covered n now = let same : m ≡ n = some_same m n (sym told ∙ now) in subst (λ k. IsCovered k listed) same covered
+
+pub on_ok : {T E : Type 0} → {P : Type 0} → (result : Result T E) → P → OnOk result P
+on_ok (Ok value) h = h
+on_ok (Err e) h = tt

@@ -1,5 +1,8 @@
 -- How a run over documents goes on from one to the next.
-use Rattle.snap_run.proofs.Prelude.{◌≡◌, ◌||◌, Bool, true, false, ℕ, ◌+◌, List, [], ◌∷◌, ◌++◌, length, take, drop, Some, refl, sym, ◌∙◌, ap, subst, arith, append_assoc, length-append, append-nil, Files, Outside, documents, RequestView, Reads, Answer, RunWords, SessionView, remembered_by, remembered_after, AreTaken, step_by, line_by, requests_of, AreAllowed, files_after, lines_of, answer_fails, some_fails, Ran, RanOne, Stopped, StopsAt, Ended, status_at, DocumentError, Status}
+use Rattle.snap_run.proofs.Prelude.{◌≡◌, ◌||◌, Bool, true, false, ℕ, ◌+◌, List, [], ◌∷◌, ◌++◌, length, take, drop, Option, None, Some, inl, inr, refl, sym, ◌∙◌, ap, subst, arith, append_assoc, length-append, append-nil, Files, Outside, outside, documents, RequestView, Reads, Answer, RunWords, SessionView, remembered_by, remembered_after, AreTaken, step_by, line_by, requests_of, AreAllowed, files_after, lines_of, answer_fails, some_fails, Ran, RanOne, Stopped, StopsAt, IsSeenFrom, Ended, status_at, DocumentError, Status}
+use Rattle.std.specs.Prelude.{option_map}
+use Rattle.snap_assert.specs.Listed.{IsCovered, IsKnown, StaysCovered}
+use Rattle.snap_assert.specs.declared.listed.Listed.{Listed}
 
 requests_of-append : (a b : List Answer) → requests_of (a ++ b) ≡ requests_of a ++ requests_of b
 requests_of-append [] b = refl
@@ -123,3 +126,66 @@ stops words all rest d later n fails e status s t x y z first r stop is = record
 
 pub first_is : (rest first later : List ℕ) (n : ℕ) → documents rest ≡ take n rest ∷ documents (drop n rest) → first ≡ take n rest → later ≡ drop n rest → documents rest ≡ first ∷ documents later
 first_is rest first later n cut front back = cut ∙ ap (λ t. t ∷ documents (drop n rest)) (sym front) ∙ ap (λ t. first ∷ documents t) (sym back)
+
+-- what is known of the files after a run: those of the steps, where the files were told before it
+abbrev pub known_after : RunWords → List Answer → SessionView → Option Files → Option Files
+known_after words answers s start = option_map (λ m. files_after words answers s m) start
+
+-- the same run, as it is seen from there
+pub known_run : (words : RunWords) (all : List (List ℕ)) (rest : List ℕ) (n : ℕ) (fails : Bool) (s t : SessionView) (x : Outside) (g : Option Files) (w : Option (List ℕ)) (r : IsRun words all rest n fails s t x (outside g w))
+    → IsRun words all rest n fails s t x (outside (known_after words r.answers s x.files) w)
+known_run words all rest n fails s t x g w r = record {
+  done = r.done;
+  answers = r.answers;
+  cut = r.cut;
+  number = r.number;
+  ran = record {
+    reads = r.ran.reads;
+    taken = r.ran.taken;
+    remembered = r.ran.remembered;
+    allowed = r.ran.allowed;
+    stands = λ m told. ap (option_map (λ m. files_after words r.answers s m)) told;
+    lines = r.ran.lines;
+  };
+  failing = r.failing;
+}
+
+-- where the files were told before the run, those that are told now are covered
+abbrev pub CoversNow : Option Files → Option Files → Listed → Type 0
+CoversNow start now listed = (m : Files) → start ≡ Some m → (n : Files) → now ≡ Some n → IsCovered n listed
+
+known_files : (start now : Option Files) (f : Files → Files) (listed : Listed) → ((m : Files) → start ≡ Some m → now ≡ Some (f m)) → CoversNow start now listed → IsKnown (option_map f start) now listed
+known_files None now f listed stands covered n is = absurd (cc is)
+known_files (Some m) now f listed stands covered n is = let told = stands m refl ∙ is in (told, covered m refl n told)
+
+pub known_now : (words : RunWords) (all : List (List ℕ)) (rest : List ℕ) (n : ℕ) (fails : Bool) (s t : SessionView) (start now : Option Files) (v w : Option (List ℕ)) (listed : Listed)
+    → (r : IsRun words all rest n fails s t (outside start v) (outside now w)) → CoversNow start now listed → IsKnown (known_after words r.answers s start) now listed
+known_now words all rest n fails s t start now v w listed r covered = known_files start now (λ m. files_after words r.answers s m) listed r.ran.stands covered
+
+pub covers_on : (words : RunWords) (all : List (List ℕ)) (rest : List ℕ) (n : ℕ) (fails : Bool) (s t : SessionView) (start now next : Option Files) (v w : Option (List ℕ)) (listed listed' : Listed)
+    → IsRun words all rest n fails s t (outside start v) (outside now w) → CoversNow start now listed → StaysCovered now next listed listed' → CoversNow start next listed'
+covers_on words all rest n fails s t start now next v w listed listed' r covered stays m told k is =
+    let here = r.ran.stands m told in stays (files_after words r.answers s m) here (covered m told (files_after words r.answers s m) here) k is
+
+-- a turn of the run
+pub goes_known : (words : RunWords) (all : List (List ℕ)) (rest d later : List ℕ) (n : ℕ) (fails failed : Bool) (s t u : SessionView) (start now : Option Files) (v w : Option (List ℕ)) (z : Outside) (listed : Listed)
+    → documents rest ≡ d ∷ documents later → IsRun words all rest n fails s t (outside start v) (outside now w) → CoversNow start now listed
+    → ((known : Option Files) → IsKnown known now listed → RanOne words d failed t u (outside known w) z) → IsRun words all later (n + 1) (fails || failed) s u (outside start v) z
+goes_known words all rest d later n fails failed s t u start now v w z listed first r covered ran =
+    goes_on words all rest d later n fails failed s t u (outside start v) (outside (known_after words r.answers s start) w) z first
+    (known_run words all rest n fails s t (outside start v) now w r)
+    (ran (known_after words r.answers s start) (known_now words all rest n fails s t start now v w listed r covered))
+
+stops_seen : (words : RunWords) (all : List (List ℕ)) (rest d later : List ℕ) (n : ℕ) (fails : Bool) (e : DocumentError) (status : Status) (s t : SessionView) (start now : Option Files) (v w : Option (List ℕ)) (z : Outside)
+    → documents rest ≡ d ∷ documents later → (r : IsRun words all rest n fails s t (outside start v) (outside now w))
+    → IsSeenFrom now (known_after words r.answers s start) (λ files. StopsAt words e d t (outside files w) z) → status ≡ status_at (n + 1) e → Stopped status words all s (outside start v) z
+stops_seen words all rest d later n fails e status s t start now v w z first r (inl stop) is = stops words all rest d later n fails e status s t (outside start v) (outside now w) z first r stop is
+stops_seen words all rest d later n fails e status s t start now v w z first r (inr stop) is =
+    stops words all rest d later n fails e status s t (outside start v) (outside (known_after words r.answers s start) w) z first (known_run words all rest n fails s t (outside start v) now w r) stop is
+
+pub stops_known : (words : RunWords) (all : List (List ℕ)) (rest d later : List ℕ) (n : ℕ) (fails : Bool) (e : DocumentError) (status : Status) (s t : SessionView) (start now : Option Files) (v w : Option (List ℕ)) (z : Outside) (listed : Listed)
+    → documents rest ≡ d ∷ documents later → IsRun words all rest n fails s t (outside start v) (outside now w) → CoversNow start now listed
+    → ((known : Option Files) → IsKnown known now listed → IsSeenFrom now known (λ files. StopsAt words e d t (outside files w) z)) → status ≡ status_at (n + 1) e → Stopped status words all s (outside start v) z
+stops_known words all rest d later n fails e status s t start now v w z listed first r covered seen is =
+    stops_seen words all rest d later n fails e status s t start now v w z first r
+    (seen (known_after words r.answers s start) (known_now words all rest n fails s t start now v w listed r covered)) is

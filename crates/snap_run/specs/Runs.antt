@@ -128,6 +128,10 @@ pub record Stopped (status : Status) (words : RunWords) (documents : List (List 
   pub ran : Ran words done answers session remembered before between
   pub stops : StopsAt words error document remembered between after
 
+-- this holds of the files of the store, or of those that are known of it
+abbrev pub IsSeenFrom : Option Files → Option Files → (Option Files → Type 0) → Type 0
+IsSeenFrom files known holds = holds files ⊎ holds known
+
 -- whether it is the store that failed
 abbrev pub is_store_fault : DocumentError → Bool
 is_store_fault (error.FileIo path) = true

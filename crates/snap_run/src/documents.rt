@@ -1,21 +1,24 @@
 //! One document, and many in turn.
-ghost use Rattle.std.specs.Prelude.{◌≡◌, ◌<◌, ◌≤◌, ◌^◌, List, ℕ, IfOk, IfErr, length, option_copied, true, false};
+ghost use Rattle.std.specs.Prelude.{◌≡◌, ◌<◌, ◌≤◌, ◌^◌, List, ℕ, Option, IfOk, IfErr, OnOk, length, option_copied, true, false};
 ghost use Rattle.snap_io.specs.Causes.{Counted};
+ghost use Rattle.snap_io.specs.Files.{Files};
 ghost use Rattle.snap_io.specs.Outside.{outside};
 ghost use Rattle.snap_run_requests.specs.Cut.{documents};
 ghost use Rattle.snap_assert_place.specs.Place.{names_file, place_of};
 ghost use Rattle.snap_assert.specs.Session.{session_of, opened, closed, is_open};
+ghost use Rattle.snap_assert.specs.Listed.{IsKnown, StaysCovered};
 ghost use Rattle.snap_run.specs.Runner.{IsReady, words_of};
 ghost use Rattle.snap_run.specs.Answers.{line_text, place_at};
 ghost use Rattle.snap_run.specs.Status.{Ended, says_file_fault, says_write_fault};
-ghost use Rattle.snap_run.specs.Runs.{RanOne, StopsAt, Stopped, IsMade, AssertionStops, is_store_fault, is_sink_fault};
+ghost use Rattle.snap_run.specs.Runs.{RanOne, StopsAt, Stopped, IsMade, AssertionStops, IsSeenFrom, is_store_fault, is_sink_fault};
 ghost use Rattle.snap_run_requests.specs.Requests.{ReadsAs, asserts};
 ghost use Rattle.snap_run_requests.specs.RequestOf.{assertion_of};
 
 use crate::document_error::DocumentError;
 use crate::runner::Runner;
 use crate::status::Status;
-use snap_assert::engine::assert_content;
+use snap_assert::engine::assert_listed;
+use snap_assert::listed::Listed;
 use snap_assert::outcome::{Outcome, Verdict};
 use snap_assert::session::Session;
 use snap_assert_place::place::Place;
@@ -76,15 +79,22 @@ fn make_assertion<F: Store>(
     alloc: Global,
     runner: &Runner,
     session: &mut Session,
+    listed: &mut Listed,
     assertion: Assertion,
     store: &mut F,
 ) -> Result<Outcome, DocumentError>
     requires ready { IsReady runner.now }
     requires of_file { names_file assertion.file ≡ true }
-    ensures ok { IfOk result (λ outcome. IsMade (words_of runner.now) (assertion_of assertion) outcome
-        (session_of session.old) (session_of session.new) (F.files store.old) (F.files store.new)) }
-    ensures err { IfErr result (λ error. AssertionStops (words_of runner.now) error
-        (assertion_of assertion) (session_of session.old) (F.files store.old) (F.files store.new)) }
+    ensures ok { IfOk result (λ outcome. (known : Option Files)
+        → IsKnown known (F.files store.old) listed.old
+        → IsMade (words_of runner.now) (assertion_of assertion) outcome
+        (session_of session.old) (session_of session.new) known (F.files store.new)) }
+    ensures err { IfErr result (λ error. (known : Option Files)
+        → IsKnown known (F.files store.old) listed.old
+        → IsSeenFrom (F.files store.old) known (λ files. AssertionStops (words_of runner.now) error
+        (assertion_of assertion) (session_of session.old) files (F.files store.new))) }
+    ensures covered { OnOk result (StaysCovered (F.files store.old) (F.files store.new) listed.old
+        listed.new) }
     ensures store_count { Counted is_store_fault (F.faults store.old) (F.faults store.new) result }
 {
     let Assertion {
@@ -109,9 +119,10 @@ fn make_assertion<F: Store>(
         drop(value);
         return Err(DocumentError::OutOfMemory);
     };
-    let outcome = assert_content(
+    let outcome = assert_listed(
         alloc,
         session,
+        listed,
         store,
         &runner.config,
         &settings,
@@ -130,26 +141,32 @@ fn run_assertion<K: Sink, F: Store>(
     alloc: Global,
     runner: &Runner,
     session: &mut Session,
+    listed: &mut Listed,
     assertion: Assertion,
     sink: &mut K,
     store: &mut F,
 ) -> Result<bool, DocumentError>
     requires ready { IsReady runner.now }
     requires of_file { names_file assertion.file ≡ true }
-    ensures ok { IfOk result (λ fails. (document : List ℕ)
+    ensures ok { IfOk result (λ fails. (document : List ℕ) (known : Option Files)
         → ReadsAs document (asserts (assertion_of assertion))
+        → IsKnown known (F.files store.old) listed.old
         → RanOne (words_of runner.now) document fails (session_of session.old)
-        (session_of session.new) (outside (F.files store.old) (K.written sink.old))
+        (session_of session.new) (outside known (K.written sink.old))
         (outside (F.files store.new) (K.written sink.new))) }
-    ensures err { IfErr result (λ error. (document : List ℕ)
+    ensures err { IfErr result (λ error. (document : List ℕ) (known : Option Files)
         → ReadsAs document (asserts (assertion_of assertion))
-        → StopsAt (words_of runner.now) error document (session_of session.old)
-        (outside (F.files store.old) (K.written sink.old))
-        (outside (F.files store.new) (K.written sink.new))) }
+        → IsKnown known (F.files store.old) listed.old
+        → IsSeenFrom (F.files store.old) known
+        (λ files. StopsAt (words_of runner.now) error document (session_of session.old)
+        (outside files (K.written sink.old))
+        (outside (F.files store.new) (K.written sink.new)))) }
+    ensures covered { OnOk result (StaysCovered (F.files store.old) (F.files store.new) listed.old
+        listed.new) }
     ensures store_count { Counted is_store_fault (F.faults store.old) (F.faults store.new) result }
     ensures sink_count { Counted is_sink_fault (K.faults sink.old) (K.faults sink.new) result }
 {
-    let outcome = make_assertion(alloc, runner, session, assertion, store)?;
+    let outcome = make_assertion(alloc, runner, session, listed, assertion, store)?;
     let line = line(alloc, outcome.verdict, &outcome.path)?;
     write_all(sink, line.as_str().as_bytes())?;
     Ok(outcome.fails)
@@ -185,32 +202,40 @@ fn run_document<K: Sink, F: Store>(
     alloc: Global,
     runner: &Runner,
     session: &mut Session,
+    listed: &mut Listed,
     document: &[u8],
     sink: &mut K,
     store: &mut F,
 ) -> Result<bool, DocumentError>
     requires ready { IsReady runner.now }
-    ensures ok { IfOk result (λ fails. RanOne (words_of runner.now) document.now fails
+    ensures ok { IfOk result (λ fails. (known : Option Files)
+        → IsKnown known (F.files store.old) listed.old
+        → RanOne (words_of runner.now) document.now fails
         (session_of session.old) (session_of session.new)
-        (outside (F.files store.old) (K.written sink.old))
+        (outside known (K.written sink.old))
         (outside (F.files store.new) (K.written sink.new))) }
-    ensures err { IfErr result (λ error. StopsAt (words_of runner.now) error document.now
-        (session_of session.old) (outside (F.files store.old) (K.written sink.old))
-        (outside (F.files store.new) (K.written sink.new))) }
+    ensures err { IfErr result (λ error. (known : Option Files)
+        → IsKnown known (F.files store.old) listed.old
+        → IsSeenFrom (F.files store.old) known
+        (λ files. StopsAt (words_of runner.now) error document.now
+        (session_of session.old) (outside files (K.written sink.old))
+        (outside (F.files store.new) (K.written sink.new)))) }
+    ensures covered { OnOk result (StaysCovered (F.files store.old) (F.files store.new) listed.old
+        listed.new) }
     ensures store_count { Counted is_store_fault (F.faults store.old) (F.faults store.new) result }
     ensures sink_count { Counted is_sink_fault (K.faults sink.old) (K.faults sink.new) result }
 {
     match read_request(alloc, document)? {
         Request::Assertion(assertion) => {
-            run_assertion(alloc, runner, session, assertion, sink, store)
+            run_assertion(alloc, runner, session, listed, assertion, sink, store)
         }
         Request::Begin => begin_block(session),
         Request::End => end_block(session),
     }
 }
 
-/// Runs the documents of an input in turn, up to the first that stops the run, with the status that tells of it.
-/// Whether some answer fails.
+/// Runs the documents of an input in turn, up to the first that stops the run, with the status that tells of it. Each folder is listed
+/// once. Whether some answer fails.
 pub fn run_documents<K: Sink, F: Store>(
     alloc: Global,
     runner: &Runner,
@@ -231,13 +256,14 @@ pub fn run_documents<K: Sink, F: Store>(
     ensures store_count { Counted says_file_fault (F.faults store.old) (F.faults store.new) result }
     ensures sink_count { Counted says_write_fault (K.faults sink.old) (K.faults sink.new) result }
 {
+    let mut listed = Listed::new(alloc);
     let mut rest = input;
     let mut document = 0u64;
     let mut fails = false;
     while !rest.is_empty() {
         let (first, later) = rest.split_at(first_document_end(rest));
         document += 1;
-        match run_document(alloc, runner, session, first, sink, store) {
+        match run_document(alloc, runner, session, &mut listed, first, sink, store) {
             Ok(failed) => fails |= failed,
             Err(error) => return Err(error.status_at(document)),
         }

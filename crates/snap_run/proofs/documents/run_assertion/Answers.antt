@@ -1,4 +1,4 @@
-use Rattle.snap_run.proofs.Prelude.{sym, ◌∙◌, ap, encode_utf8_all, encodes-chars, words_of}
+use Rattle.snap_run.proofs.Prelude.{inr, sym, ◌∙◌, ap, encode_utf8_all, encodes-chars, words_of}
 use Rattle.std.proofs.lemmas.Result.{err_from_is_err_and}
 use Rattle.snap_run_requests.specs.RequestOf.{assertion_of}
 use Rattle.snap_run.proofs.DocumentEnds.{document_ran, line_fails, no_line, assertion_stops}
@@ -7,21 +7,23 @@ use Rattle.snap_run.proofs.documents.run_assertion.Goals as goal
 pub returns-in_err-outcome-clause-err : goal.returns-in_err-outcome-clause-err
 returns-in_err-outcome-clause-err g c =
     let told = err_from_is_err_and c.from_residual.result c.from_residual.ensures.1 in
-    rw (told.1, told.2) (assertion_stops (words_of c.args.runner.now) (assertion_of c.args.assertion) c.in_err-outcome.field-0.0 _ _ _ _ c.in_err-outcome.ensures.err)
+    rw (told.1, told.2) (λ document known reads held.
+    assertion_stops (words_of c.args.runner.now) (assertion_of c.args.assertion) c.in_err-outcome.field-0.0 _ _ known _ _ (c.in_err-outcome.ensures.err known held) document reads)
 
 pub returns-in_err-line-clause-err : goal.returns-in_err-line-clause-err
 returns-in_err-line-clause-err g c =
     let told = err_from_is_err_and c.from_residual-in_err-line.result c.from_residual-in_err-line.ensures.1 in
-    rw (told.1, told.2) (no_line (words_of c.args.runner.now) (assertion_of c.args.assertion) c.in_ok-outcome.outcome _ _ _ _ _ c.in_ok-outcome.ensures.ok)
+    rw (told.1, told.2) (λ document known reads held.
+    no_line (words_of c.args.runner.now) (assertion_of c.args.assertion) c.in_ok-outcome.outcome _ _ _ known _ _ (c.in_ok-outcome.ensures.ok known held) document reads)
 
 pub returns-clause-ok : goal.returns-clause-ok
-returns-clause-ok g c =
-    document_ran (words_of c.args.runner.now) (assertion_of c.args.assertion) c.in_ok-outcome.outcome c.in_ok-line.line c.as_bytes.result.now _ _ _ _ _ _ c.in_ok-outcome.ensures.ok c.in_ok-line.ensures
-    (c.as_bytes.ensures.value ∙ sym (encodes-chars c.as_str.result.now c.as_str.utf8) ∙ ap encode_utf8_all c.as_str.ensures) c.in_ok-write_all.ensures.all
+returns-clause-ok g c = λ document known reads held.
+    document_ran (words_of c.args.runner.now) (assertion_of c.args.assertion) c.in_ok-outcome.outcome c.in_ok-line.line c.as_bytes.result.now _ _ known _ _ _ (c.in_ok-outcome.ensures.ok known held) c.in_ok-line.ensures
+    (c.as_bytes.ensures.value ∙ sym (encodes-chars c.as_str.result.now c.as_str.utf8) ∙ ap encode_utf8_all c.as_str.ensures) c.in_ok-write_all.ensures.all document reads
 
 pub returns-in_err-write_all-clause-err : goal.returns-in_err-write_all-clause-err
 returns-in_err-write_all-clause-err g c =
     let told = err_from_is_err_and c.from_residual-in_err-write_all.result c.from_residual-in_err-write_all.ensures.1 in
-    rw (told.1, told.2)
-    (line_fails (words_of c.args.runner.now) (assertion_of c.args.assertion) c.in_ok-outcome.outcome c.in_ok-line.line c.as_bytes.result.now _ _ _ _ _ _ c.in_ok-outcome.ensures.ok c.in_ok-line.ensures
-    (c.as_bytes.ensures.value ∙ sym (encodes-chars c.as_str.result.now c.as_str.utf8) ∙ ap encode_utf8_all c.as_str.ensures) c.in_err-write_all.ensures.part)
+    rw (told.1, told.2) (λ document known reads held. inr
+    (line_fails (words_of c.args.runner.now) (assertion_of c.args.assertion) c.in_ok-outcome.outcome c.in_ok-line.line c.as_bytes.result.now _ _ known _ _ _ (c.in_ok-outcome.ensures.ok known held) c.in_ok-line.ensures
+    (c.as_bytes.ensures.value ∙ sym (encodes-chars c.as_str.result.now c.as_str.utf8) ∙ ap encode_utf8_all c.as_str.ensures) c.in_err-write_all.ensures.part document reads))
