@@ -31,6 +31,7 @@ pub record CoversAt (path : List ℕ) (m : Files) (folders waiting : List (List 
   pub approved : MayWait waiting path
   pub pending : MayWait waiting (pending_path path)
 
+-- the same, by what is known
 abbrev pub IsCoveredAt : List ℕ → Files → Listed → Type 0
 IsCoveredAt path m listed = CoversAt path m listed.folders.keys listed.waiting.keys
 
