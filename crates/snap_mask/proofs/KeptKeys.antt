@@ -170,7 +170,7 @@ mutual
   pairs_within (t.pair key value rest) f = (key_within key f.0, (fine_within value f.1, pairs_within rest f.2))
 
 -- lists in order hold what they held
-abbrev Each : {X : Type 0} → (X → Type 0) → List X → Type 0
+abbrev pub Each : {X : Type 0} → (X → Type 0) → List X → Type 0
 Each P [] = Unit {0}
 Each P (x ∷ xs) = P x × Each P xs
 
@@ -182,7 +182,7 @@ each_put_in P cmp x (y ∷ ys) p h = by (is_lt (cmp y x)) (each_put_in P cmp x y
     by true later = (h.0, later)
     by false later = (p, h)
 
-each_ordered : {X : Type 0} (P : X → Type 0) (cmp : X → X → Ordering) (xs : List X) → Each P xs → Each P (ordered cmp xs)
+pub each_ordered : {X : Type 0} (P : X → Type 0) (cmp : X → X → Ordering) (xs : List X) → Each P xs → Each P (ordered cmp xs)
 each_ordered P cmp [] h = tt
 each_ordered P cmp (x ∷ xs) h = each_put_in P cmp x (ordered cmp xs) h.0 (each_ordered P cmp xs h.1)
 
@@ -248,7 +248,7 @@ text_put rule c (sorts is) k = (k.0, ap (λ put. put c) is ∙ ap in_order k.1)
 key_inside : (ss : Parts) (put : t.Tree → t.Tree) (path : List Step) (key : t.Tree) → IsText key → IsText (inside ss put path key)
 key_inside ss put path key k = (k.0, ap (inside ss put path) k.1)
 
-either : (P : t.Tree → Type 0) (b : Bool) (x y : t.Tree) → P x → P y → P (cond b x y)
+pub either : (P : t.Tree → Type 0) (b : Bool) (x y : t.Tree) → P x → P y → P (cond b x y)
 either P true x y p q = p
 either P false x y p q = q
 

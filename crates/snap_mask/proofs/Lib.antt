@@ -1,5 +1,6 @@
 mod Prelude
 pub mod KeptKeys
+pub mod Levels
 mod RulesRead
 mod Begun
 mod LinesRead

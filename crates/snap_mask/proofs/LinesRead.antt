@@ -1,5 +1,5 @@
 -- What a line is read as, or why it is not.
-use Rattle.snap_mask.proofs.Prelude.{◌≡◌, ◌≢◌, ℕ, List, Bool, true, false, Option, None, Some, refl, sym, ap, ◌∙◌, subst, some_same, Plain, content_of, Tree, IsWithin, IsUtf8, chars, Lacks, IsJsonOf, is_bounded, json_text, json_refuses, Condensed, ReplacementView, redacted_by, AreMasking, json_plain, beginning_in, beginning_of, IsJsonLine, IsNoJsonLine, IsValueOf, IsRecordOf, IsReadAgainAs, RefusesValue, RefusesFor, parse_stop, json_stop}
+use Rattle.snap_mask.proofs.Prelude.{◌≡◌, ◌≢◌, ◌≤◌, nat_le, not, arith, has_long, levels, and_parts, ℕ, List, Bool, true, false, Option, None, Some, refl, sym, ap, ◌∙◌, subst, some_same, Plain, content_of, Tree, IsWithin, IsUtf8, chars, Lacks, IsJsonOf, is_bounded, json_text, json_refuses, Condensed, ReplacementView, redacted_by, AreMasking, json_plain, beginning_in, beginning_of, IsJsonLine, IsNoJsonLine, IsValueOf, IsRecordOf, IsReadAgainAs, RefusesValue, RefusesFor, parse_stop, json_stop}
 use Rattle.std.specs.Prelude.{Err, IsErrOf}
 use Rattle.snap_content.specs.declared.error.Error.{Error}
 use Rattle.snap_content.specs.declared.error.Error.TheVariants as parse
@@ -11,6 +11,8 @@ use Rattle.snap_mask.specs.declared.record.RecordError.{RecordError}
 use Rattle.snap_mask.specs.declared.record.RecordError.TheVariants.{BadLine, FloatLine, JsonKey, OutOfMemory}
 use Rattle.snap_mask.proofs.Begun.{json_begins, json_lacks}
 use Rattle.snap_mask.proofs.KeptKeys.{kept_keys, kept_within}
+use Rattle.snap_mask.proofs.Levels.{rules_add_none, made_levels}
+use Rattle.std.proofs.lemmas.Bool.Decides.{nat_tests}
 
 -- a line that is no UTF-8, holds NUL, or begins as no JSON text does, is none
 pub no_utf8 : (line : List ℕ) → (IsUtf8 line → ⊥) → IsNoJsonLine line
@@ -88,10 +90,24 @@ pub is_refused_key : {T : Type 0} (e : JsonError) (masked : Tree) → (IsErrOf {
     → e ≡ json.JsonKey → json_refuses masked ≡ true
 is_refused_key e masked refuses is = refuses (ap Err is)
 
--- the record of a JSON text, where it is within the bounds, is one too
+-- a tree that is no deeper than one within the bounds, and has no long key, is within them too
+stays_bounded : (new old : Plain) → levels new ≤ levels old → is_bounded old ≡ true → has_long new ≡ false → is_bounded new ≡ true
+stays_bounded new old less bounded short =
+    let shallow : nat_le (levels old) 1023 ≡ true = (and_parts (nat_le (levels old) 1023) (not (has_long old)) bounded).0 in
+    let within : nat_le (levels new) 1023 ≡ true = grind (arith, nat_tests) in
+    rw (within, short) refl
+
+-- the record of a JSON text, where no key became long, is one too
 pub read_again : (rules : List ReplacementView) (t : Plain) (line given : List ℕ) → AreMasking rules → IsJsonLine t line → IsRecordOf rules line given
-    → is_bounded (json_plain (redacted_by rules (content_of t))) ≡ true → IsReadAgainAs (json_plain (redacted_by rules (content_of t))) given
-read_again rules t line given m j made bounded = record {
-  within = kept_within rules t m j.within j.json.0;
-  json = (kept_keys rules t m j.within j.json.0, bounded, made.is ∙ ap (λ v. json_text Condensed (redacted_by rules v)) (made.read.one t j));
-}
+    → has_long (json_plain (redacted_by rules (content_of t))) ≡ false → IsReadAgainAs (json_plain (redacted_by rules (content_of t))) given
+read_again rules t line given m j made short =
+    let less : levels (json_plain (redacted_by rules (content_of t))) ≤ levels t =
+      subst (λ n. levels (json_plain (redacted_by rules (content_of t))) ≤ n) (made_levels t) (rules_add_none rules (content_of t) m) in
+    record {
+      within = kept_within rules t m j.within j.json.0;
+      json = (
+        kept_keys rules t m j.within j.json.0,
+        stays_bounded (json_plain (redacted_by rules (content_of t))) t less j.json.1 short,
+        made.is ∙ ap (λ v. json_text Condensed (redacted_by rules v)) (made.read.one t j),
+      );
+    }

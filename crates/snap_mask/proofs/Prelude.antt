@@ -1,6 +1,6 @@
 -- The words that the proofs of this crate speak in: those of the library, of the crates below, and of its own definitions.
-pub use Rattle.std.proofs.Common.{◌≡◌, ◌≢◌, ◌==◌, ℕ, suc, ℤ, pos, negsuc, ◌+◌, ◌<◌, ◌≤◌, ◌%◌, ◌^◌, List, [], ◌∷◌, ◌++◌, Bool, true, false, ◌||◌, ◌&&◌, cond, nat_lt, nat_le, Option, Some, None, Result, Ok, Err, IfOk, length, take, refl, sym, ap, ◌∙◌, arith, append_assoc, append-nil, length-append, subst, inl, inr, ◌⊎◌, eq-eqb, encode_utf8_all, option_map, option_and_then, codes}
-pub use Rattle.std.proofs.lemmas.Bool.{or_from, ne_eqb}
+pub use Rattle.std.proofs.Common.{◌≡◌, max, not, ◌≢◌, ◌==◌, ℕ, suc, ℤ, pos, negsuc, ◌+◌, ◌<◌, ◌≤◌, ◌%◌, ◌^◌, List, [], ◌∷◌, ◌++◌, Bool, true, false, ◌||◌, ◌&&◌, cond, nat_lt, nat_le, Option, Some, None, Result, Ok, Err, IfOk, length, take, refl, sym, ap, ◌∙◌, arith, append_assoc, append-nil, length-append, subst, inl, inr, ◌⊎◌, eq-eqb, encode_utf8_all, option_map, option_and_then, codes}
+pub use Rattle.std.proofs.lemmas.Bool.{or_from, ne_eqb, and_parts}
 pub use Rattle.std.proofs.lemmas.Str.{encodes-chars}
 pub use Rattle.std.proofs.lemmas.Result.{err_from_is_err_and}
 pub use Rattle.std.specs.List.{list_any}
@@ -18,10 +18,10 @@ pub use Rattle.snap_io_lines.specs.declared.lines.LineEnd.{LineEnd}
 pub use Rattle.snap_io_lines.specs.declared.lines.LineEnd.TheVariants.{Ended, Last}
 pub use Rattle.snap_io_lines.specs.declared.lines.LineError.{LineError}
 pub use Rattle.snap_io_lines.specs.declared.lines.LineError.TheVariants.{Fault, LineTooLong, InputTooLong, OutOfMemory}
-pub use Rattle.snap_json.specs.JsonPlain.{json_plain, json_plains, json_pairs, key_plain, json_key}
+pub use Rattle.snap_json.specs.JsonPlain.{json_plain, json_plains, json_pairs, json_fields, key_plain, json_key}
 pub use Rattle.snap_json.specs.JsonText.{text_at, json_text, json_refuses, has_refused, items_refused, entries_refused, is_refused}
 pub use Rattle.snap_json.specs.declared.format.Format.TheVariants.{Condensed}
-pub use Rattle.snap_parse_laws_json.specs.Bounded.{IsJsonOf, is_bounded}
+pub use Rattle.snap_parse_laws_json.specs.Bounded.{IsJsonOf, is_bounded, has_long, levels, item_levels, entry_levels}
 pub use Rattle.snap_select.specs.Parts.{Parts}
 pub use Rattle.snap_select.specs.Put.{Objects}
 pub use Rattle.snap_select.specs.Selected.{selected}
