@@ -1,5 +1,5 @@
 -- A printed document is put again as what was printed.
-use Rattle.snap_front.proofs.Prelude.{◌≡◌, ℕ, Bool, true, false, cond, List, [], ◌∷◌, ◌++◌, Option, None, Some, option_map, refl, sym, ap, ◌∙◌, subst, append_assoc, concat, ended_lines, is_fence, Cut, with_line, at_fence, front_lines, texts_of, front_read, bytes_eq, inl}
+use Rattle.snap_front.proofs.Prelude.{◌≡◌, ℕ, Bool, true, false, cond, List, [], ◌∷◌, ◌++◌, Option, None, Some, option_map, refl, sym, ap, ◌∙◌, subst, append_assoc, IfOk, Result, Ok, Err, concat, ended_lines, is_fence, Cut, with_line, at_fence, front_lines, texts_of, front_read, bytes_eq, inl}
 use Rattle.std.proofs.lemmas.Slice.Eq.{bytes_eq-Decides}
 use Rattle.std.proofs.lemmas.Bool.{ne_eqb}
 use Rattle.std.specs.Prelude.{◌==◌, ◌&&◌, ◌||◌, codes, map}
@@ -7,7 +7,8 @@ use Rattle.std.specs.Char.{is_whitespace}
 use Rattle.std.specs.List.{flat_map, list_any}
 use Rattle.snap_content.specs.Front.{begins}
 use Rattle.snap_content.specs.Lines.{ended}
-use Rattle.snap_content.specs.Plain.{Plain, dict, Entries, plain, content_of}
+use Rattle.snap_content.specs.Plain.{Plain, dict, Entries, plain, pair_entries, content_of}
+use Rattle.snap_content.specs.Tree as t
 use Rattle.snap_content.proofs.Booleans.{or_left}
 use Rattle.snap_content.proofs.PlainMade.{plain_made}
 use Rattle.snap_print.specs.Blocks.{off}
@@ -19,7 +20,8 @@ use Rattle.snap_str.proofs.LineTexts.{ended-line}
 use Rattle.snap_text_literals.specs.Normal.{before_trimmed, trimmed}
 use Rattle.snap_front.specs.Commands.{ReplyView, puts, done}
 use Rattle.snap_front.specs.Documents.{Document, Docs, with_document}
-use Rattle.snap_front.specs.Heads.{printed_of}
+use Rattle.snap_front.specs.Heads.{is_map, printed_of}
+use Rattle.snap_front.specs.Kept.{IsPrintOf}
 use Rattle.snap_front.specs.Reading.{ReadsAs}
 use Rattle.snap_front.specs.Runs.{put_tree, PutEnd, PutText, Comes}
 use Rattle.snap_front.specs.Runs.PutEnd.{taken, refused}
@@ -106,3 +108,20 @@ put-again rows docs name body es after within comes =
     let text : front_read (printed_of (content_of (dict es)) body) ≡ Some (document_of off (dict es), body)
     = ap (λ (p : Plain). front_read (document_of off p ++ (codes "---\n" ++ body))) (plain_made (dict es)) ∙ printed-splits (dict es) body (rows (dict es) within) in
     again-end docs name body es after within (subst (λ o. PutText docs name o after) text comes)
+
+-- what is printed of a map
+pub print-of : (head : t.Tree) (body words : List ℕ) → is_map head ≡ true → words ≡ printed_of head body → IsWithin (plain head) → AreRows (lines_of off (plain head)) → IsPrintOf head body words
+print-of (t.map ps) body words m is within rows = record {
+  entries = pair_entries ps;
+  map_is = refl;
+  is = is;
+  again = λ docs name after comes.
+      again-end docs name body (pair_entries ps) after within
+      (subst (λ o. PutText docs name o after) (ap front_read is ∙ printed-splits (dict (pair_entries ps)) body rows) comes);
+}
+print-of head body words m is within rows = absurd (cc)
+
+pub print-of-ok : {E : Type 0} (r : Result (List ℕ) E) (head : t.Tree) (body : List ℕ) → is_map head ≡ true → IfOk r (λ text. text ≡ printed_of head body) → IfOk r (λ _. IsWithin (plain head))
+    → IfOk r (λ _. AreRows (lines_of off (plain head))) → IfOk r (λ text. IsPrintOf head body text)
+print-of-ok (Ok text) head body m is within rows = print-of head body text m is within rows
+print-of-ok (Err e) head body m is within rows = tt

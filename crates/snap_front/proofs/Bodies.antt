@@ -55,7 +55,7 @@ other_head name other head d docs is = by (bytes_eq other name) refl
         ∙ sym (ap (λ n. option_map (λ (x : Document). x.body) (document_in n docs)) (sym one) ∙ ap (option_map (λ (x : Document). x.body)) is)
     by false e = ap (option_map (λ (x : Document). x.body)) (there_still name other new docs e)
 
-told-docs : (tell : Document → ReplyView) (docs : Docs) (o : Option Document) → (told_of tell docs o).0 ≡ docs
+pub told-docs : (tell : Document → ReplyView) (docs : Docs) (o : Option Document) → (told_of tell docs o).0 ≡ docs
 told-docs tell docs None = refl
 told-docs tell docs (Some d) = refl
 
@@ -114,7 +114,7 @@ one-put docs name header body x y t reads (taken p may is) (taken q may' is') =
 one-put docs name header body x y t reads (taken p may is) (refused none is') = absurd (none t reads)
 one-put docs name header body x y t reads (refused none is) k = absurd (none t reads)
 
-one-text : (docs : Docs) (name : List ℕ) (o : Option (List ℕ × List ℕ)) (x y : Docs × ReplyView) → HeaderReads o → PutText docs name o x → PutText docs name o y → x ≡ y
+pub one-text : (docs : Docs) (name : List ℕ) (o : Option (List ℕ × List ℕ)) (x y : Docs × ReplyView) → HeaderReads o → PutText docs name o x → PutText docs name o y → x ≡ y
 one-text docs name None x y reads h k = h ∙ sym k
 one-text docs name (Some parts) x y reads h k = one-put docs name parts.0 parts.1 x y reads.0 reads.1 h k
 
@@ -125,7 +125,7 @@ first-read (sets name path v) cs h = h
 first-read (removes name path) cs h = h
 first-read (prints name) cs h = h
 
-one-comes : (docs : Docs) (c : CommandView) (cs : List CommandView) (x y : Docs × ReplyView) → AllRead (c ∷ cs) → Comes docs c x → Comes docs c y → x ≡ y
+pub one-comes : (docs : Docs) (c : CommandView) (cs : List CommandView) (x y : Docs × ReplyView) → AllRead (c ∷ cs) → Comes docs c x → Comes docs c y → x ≡ y
 one-comes docs (puts name words) cs x y reads h k = one-text docs name (front_read words) x y reads.0 h k
 one-comes docs (gets name path) cs x y reads h k = h ∙ sym k
 one-comes docs (sets name path v) cs x y reads h k = h ∙ sym k

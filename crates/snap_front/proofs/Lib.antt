@@ -5,9 +5,13 @@ mod Placed
 mod Taken
 mod Named
 mod Bodies
+mod Maps
 mod Putting
 mod OneDocument
+mod OneAnswer
 mod Again
+mod LastPut
+mod Unprinted
 mod Nulls
 mod Read
 mod Storing

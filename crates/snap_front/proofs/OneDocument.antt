@@ -1,15 +1,16 @@
 -- One document put, and one command on it.
-use Rattle.snap_front.proofs.Prelude.{◌≡◌, ℕ, Bool, true, false, cond, ◌⊎◌, List, [], ◌∷◌, Option, None, Some, refl, sym, ap, ◌∙◌, subst, front_read, get_tree, set_tree, steps_of, Step, Content, tree}
+use Rattle.snap_front.proofs.Prelude.{◌≡◌, ℕ, Bool, true, false, cond, ◌⊎◌, List, [], ◌∷◌, Option, None, Some, option_map, refl, sym, ap, ◌∙◌, subst, front_read, get_tree, set_tree, remove_tree, steps_of, Step, Content, tree}
 use Rattle.std.specs.Prelude.{◌&&◌, not, Result, Ok, Err, IfOk, IfErr, unwrap_or}
 use Rattle.std.specs.Str.{IsUtf8, chars}
 use Rattle.snap_content.specs.Tree as t
 use Rattle.snap_content.specs.Plain.{Plain, plain, content_of}
 use Rattle.snap_content.proofs.PlainMade.{plain_made}
-use Rattle.snap_front.specs.Commands.{CommandView, puts, gets, sets, removes, prints, ReplyView, done, given, printed, absent, not_map, reply_of, refusal_of}
+use Rattle.snap_front.specs.Commands.{CommandView, puts, gets, sets, removes, prints, ReplyView, done, given, printed, absent, not_map, root, reply_of, refusal_of}
 use Rattle.snap_front.specs.Documents.{Document, Docs, document_in, with_document}
-use Rattle.snap_front.specs.Front.{AreBytesOf, HasNoAnswer, IsAnswer, IsCommand, is_refusal, IsText, Gives, Refuses, IsTextAnswer, IsPrinted, IsGot, IsFormatted, HasHead, IsDone}
+use Rattle.snap_front.specs.Kept.{body_of, IsPrintOf}
+use Rattle.snap_front.specs.Front.{AreBytesOf, HasNoAnswer, IsAnswer, IsCommand, is_refusal, IsText, KeepsBody, Gives, Refuses, IsTextAnswer, IsPrinted, IsGot, IsFormatted, HasHead, IsDone}
 use Rattle.snap_front.specs.Front.Refuses.{at_document, at_command}
-use Rattle.snap_front.specs.Heads.{Changed, IsChanged, IsNoTree, IsNoMap, found, is_empty_path, is_map, set_or_refused, set_head, remove_head, printed_of}
+use Rattle.snap_front.specs.Heads.{Changed, IsChanged, IsNoTree, IsNoMap, found, is_empty_path, is_map, set_or_refused, set_head, removed_or_refused, remove_head, printed_of}
 use Rattle.snap_front.specs.Reading.{MayReadAs, IsReadOf}
 use Rattle.snap_front.specs.Runs.{Comes, changed_by}
 use Rattle.snap_front.specs.Wanted.{Wanted, to_get, to_set, to_remove, to_format, value_text, wanted_in, IsRequest}
@@ -20,6 +21,7 @@ use Rattle.snap_front.specs.declared.refusal.Refusal.TheVariants as u
 use Rattle.snap_front.specs.declared.reply.Reply.{Reply}
 use Rattle.snap_front.specs.declared.words.Request.{Request}
 use Rattle.snap_front.specs.declared.words.Request.TheVariants as q
+use Rattle.snap_front.proofs.Maps.{set-head-map, remove-head-map}
 use Rattle.snap_front.proofs.Putting.{put-done, put-refused}
 
 -- the one document
@@ -28,6 +30,9 @@ alone head body = ([], record { head = head; body = body }) ∷ []
 
 abbrev the_document : t.Tree → List ℕ → Document
 the_document head body = record { head = head; body = body }
+
+its-body : (text : List ℕ) (head : t.Tree) (body : List ℕ) → HasHead text head body → body_of text ≡ Some body
+its-body text head body h = ap (option_map (λ (parts : List ℕ × List ℕ). parts.1)) h.read
 
 put_alone : (text : List ℕ) (head : t.Tree) (body : List ℕ) → HasHead text head body → Comes [] (puts [] text) (alone head body, done)
 put_alone text head body h = put-done [] (alone head body) [] text h.header body head done h.entries (sym h.read) refl h.is h.may refl
@@ -43,8 +48,9 @@ changed-none head body c r e = sym (ap (changed_by (alone head body) [] (the_doc
 changed-answer : (wanted : Wanted) (text : List ℕ) (head : t.Tree) (body : List ℕ) (command : CommandView) (c : Changed) (result : Result (List ℕ) FrontError) → HasHead text head body → IsCommand wanted command
     → ((x : Docs × ReplyView) → x ≡ changed_by (alone head body) [] (the_document head body) c → Comes (alone head body) command x)
     → ((docs : Docs) (r : ReplyView) (out : List ℕ) → is_refusal r ≡ false → Comes docs (prints []) (docs, printed out) → IsText wanted docs r out)
+    → ((new : t.Tree) (out : List ℕ) → body_of text ≡ Some body → IsPrintOf new body out → KeepsBody wanted text out)
     → IsPrinted c body result → IsTextAnswer wanted text result
-changed-answer wanted text head body command c (Ok out) h is comes shows p = record {
+changed-answer wanted text head body command c (Ok out) h is comes shows keeps p = record {
   command = command;
   is = is;
   before = alone head body;
@@ -52,13 +58,14 @@ changed-answer wanted text head body command c (Ok out) h is comes shows p = rec
   docs = alone p.0 body;
   reply = c.1;
   ran = comes (alone p.0 body, c.1) (changed-new head body c p.0 p.1);
-  answer = shows (alone p.0 body) c.1 out p.2 (ap (λ (x : List ℕ). (alone p.0 body, printed x)) p.3);
+  answer = shows (alone p.0 body) c.1 out p.2 (ap (λ (x : List ℕ). (alone p.0 body, printed x)) p.3.is);
+  keeps = keeps p.0 out (its-body text head body h) p.3;
 }
-changed-answer wanted text head body command c (Err e.BadWords) h is comes shows p = absurd p
-changed-answer wanted text head body command c (Err e.NotText) h is comes shows p = absurd p
-changed-answer wanted text head body command c (Err (e.Refused reply)) h is comes shows p =
+changed-answer wanted text head body command c (Err e.BadWords) h is comes shows keeps p = absurd p
+changed-answer wanted text head body command c (Err e.NotText) h is comes shows keeps p = absurd p
+changed-answer wanted text head body command c (Err (e.Refused reply)) h is comes shows keeps p =
     at_command command (alone head body) is (put_alone text head body h) (comes (alone head body, reply_of reply) (changed-none head body c (reply_of reply) p.0)) p.1
-changed-answer wanted text head body command c (Err e.OutOfMemory) h is comes shows p = tt
+changed-answer wanted text head body command c (Err e.OutOfMemory) h is comes shows keeps p = tt
 
 got-answer : (text : List ℕ) (head : t.Tree) (body : List ℕ) (steps : List Step) (result : Result (List ℕ) FrontError) → HasHead text head body → IsGot (get_tree steps head) result → IsTextAnswer (to_get steps) text result
 got-answer text head body steps (Ok out) h g = record {
@@ -70,6 +77,7 @@ got-answer text head body steps (Ok out) h g = record {
   reply = given g.0;
   ran = ap (λ (o : Option t.Tree). (alone head body, found o)) (sym g.1);
   answer = (g.0, refl, g.2);
+  keeps = tt;
 }
 got-answer text head body steps (Err e.BadWords) h g = absurd g
 got-answer text head body steps (Err e.NotText) h g = absurd g
@@ -80,7 +88,7 @@ got-answer text head body steps (Err e.OutOfMemory) h g = tt
 
 formatted-answer : (text : List ℕ) (head : t.Tree) (body : List ℕ) (result : Result (List ℕ) FrontError) → HasHead text head body → IsFormatted head body result → IsTextAnswer to_format text result
 formatted-answer text head body (Ok out) h f =
-    let prints_it : Comes (alone head body) (prints []) (alone head body, printed out) = ap (λ (x : List ℕ). (alone head body, printed x)) f in
+    let prints_it : Comes (alone head body) (prints []) (alone head body, printed out) = ap (λ (x : List ℕ). (alone head body, printed x)) f.is in
     record {
       command = prints [];
       is = refl;
@@ -90,6 +98,7 @@ formatted-answer text head body (Ok out) h f =
       reply = printed out;
       ran = prints_it;
       answer = (refl, prints_it);
+      keeps = (head, body, its-body text head body h, f);
     }
 formatted-answer text head body (Err e.BadWords) h f = absurd f
 formatted-answer text head body (Err e.NotText) h f = absurd f
@@ -102,12 +111,13 @@ set-answer text head body steps value made result h read p =
     let same : tree made ≡ content_of (plain (content_of read.0)) = read.1 ∙ ap content_of (sym (plain_made read.0)) in
     changed-answer (to_set steps value) text head body (sets [] steps (content_of read.0)) (set_head steps (tree made) head) result h (read.0, read.2, refl)
     (λ x is. is ∙ ap (λ (v : t.Tree). changed_by (alone head body) [] (the_document head body) (set_head steps v head)) same)
-    (λ docs r out fine shown. (fine, shown)) p
+    (λ docs r out fine shown. (fine, shown)) (λ new out is_body f. (new, body, is_body, f)) p
 
 removed-answer : (text : List ℕ) (head : t.Tree) (body : List ℕ) (steps : List Step) (result : Result (List ℕ) FrontError) → HasHead text head body
     → IsPrinted (remove_head steps head) body result → IsTextAnswer (to_remove steps) text result
 removed-answer text head body steps result h p =
-    changed-answer (to_remove steps) text head body (removes [] steps) (remove_head steps head) result h refl (λ x is. is) (λ docs r out fine shown. (fine, shown)) p
+    changed-answer (to_remove steps) text head body (removes [] steps) (remove_head steps head) result h refl (λ x is. is) (λ docs r out fine shown. (fine, shown))
+    (λ new out is_body f. (new, body, is_body, f)) p
 
 same_wanted : (a b : Wanted) → Some a ≡ Some b → a ≡ b
 same_wanted a b e = cc
@@ -131,6 +141,10 @@ refuses u.Absent = refl
 refuses u.NoParent = refl
 refuses u.Root = refl
 refuses u.NoName = refl
+
+-- the head of a text is a map
+pub head-map : (text : List ℕ) (head : t.Tree) (body : List ℕ) → HasHead text head body → is_map head ≡ true
+head-map text head body h = ap is_map h.is
 
 -- an error that tells a refusal
 abbrev pub Tells : FrontError → Refusal → Type 0
@@ -176,9 +190,26 @@ printed-new c new body (Err e.NotText) is fine f = absurd f
 printed-new c new body (Err (e.Refused reply)) is fine f = absurd f
 printed-new c new body (Err e.OutOfMemory) is fine f = tt
 
-pub printed-set : (steps : List Step) (v head new : t.Tree) (body : List ℕ) (result : Result (List ℕ) FrontError) → IsChanged (set_head steps v head) head new done → IsFormatted new body result → IsPrinted (set_head steps v head) body result
-printed-set steps v head new body result h f =
-    printed-new (set_head steps v head) new body result (set-done (is_empty_path steps && not (is_map v)) (set_tree steps v head) v head new h.reply_is h.head) (ap is_refusal (sym h.reply_is)) f
+pub printed-set : (steps : List Step) (v head new : t.Tree) (body : List ℕ) (result : Result (List ℕ) FrontError) → is_map head ≡ true → IsChanged (set_head steps v head) head new done
+    → (is_map new ≡ true → IsFormatted new body result) → IsPrinted (set_head steps v head) body result
+printed-set steps v head new body result m h f =
+    let is : (set_head steps v head).0 ≡ Some new = set-done (is_empty_path steps && not (is_map v)) (set_tree steps v head) v head new h.reply_is h.head in
+    printed-new (set_head steps v head) new body result is (ap is_refusal (sym h.reply_is)) (f (set-head-map steps v head new m is))
+
+-- a head from which something was removed
+removed-some : (r : ReplyView) (o : Option t.Tree) (head new part : t.Tree) → given part ≡ (removed_or_refused r o).1 → new ≡ unwrap_or (removed_or_refused r o).0 head → (removed_or_refused r o).0 ≡ Some new
+removed-some r None head new part is h = absurd (cc)
+removed-some r (Some x) head new part is h = ap Some (sym h)
+
+removed-done : (steps : List Step) (head new part : t.Tree) → IsChanged (remove_head steps head) head new (given part) → (remove_head steps head).0 ≡ Some new
+removed-done [] head new part h = let no : given part ≡ root = h.reply_is in absurd (cc)
+removed-done (s ∷ ss) head new part h = removed-some (found (get_tree (s ∷ ss) head)) (remove_tree (s ∷ ss) head) head new part h.reply_is h.head
+
+pub printed-removed : (steps : List Step) (head new part : t.Tree) (body : List ℕ) (result : Result (List ℕ) FrontError) → is_map head ≡ true → IsChanged (remove_head steps head) head new (given part)
+    → (is_map new ≡ true → IsFormatted new body result) → IsPrinted (remove_head steps head) body result
+printed-removed steps head new part body result m h f =
+    let is : (remove_head steps head).0 ≡ Some new = removed-done steps head new part h in
+    printed-new (remove_head steps head) new body result is (ap is_refusal (sym h.reply_is)) (f (remove-head-map steps head new m is))
 
 refused-pair : (c : Changed) (r : ReplyView) → c.0 ≡ None → r ≡ c.1 → c ≡ (None, r)
 refused-pair (o, a) r none is = ap (λ (x : Option t.Tree). (x, a)) none ∙ ap (λ (x : ReplyView). (None, x)) (sym is)

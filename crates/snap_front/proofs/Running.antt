@@ -14,7 +14,7 @@ GoesOn all rest docs replies = (docs' : Docs) (more : List ReplyView) → Runs d
 pub goes-from-start : (all : List CommandView) → GoesOn all all [] []
 goes-from-start all docs' more run = run
 
-pushed : (rs : List Reply) (r : Reply) → map reply_of (rs ++ r ∷ []) ≡ map reply_of rs ++ reply_of r ∷ []
+pub pushed : (rs : List Reply) (r : Reply) → map reply_of (rs ++ r ∷ []) ≡ map reply_of rs ++ reply_of r ∷ []
 pushed [] r = refl
 pushed (x ∷ xs) r = ap (λ ys. reply_of x ∷ ys) (pushed xs r)
 

@@ -10,9 +10,10 @@ use Rattle.snap_print.specs.Blocks.{off}
 use Rattle.snap_print.specs.Lines.{text_of}
 use Rattle.snap_front.specs.Commands.{CommandView, puts, gets, sets, removes, prints, ReplyView, done, given, printed, absent, reply_of}
 use Rattle.snap_front.specs.Documents.{Docs}
-use Rattle.snap_front.specs.Heads.{Changed, set_head, remove_head, printed_of}
+use Rattle.snap_front.specs.Heads.{Changed, set_head, remove_head}
+use Rattle.snap_front.specs.Kept.{body_of, IsPrintOf}
 use Rattle.snap_front.specs.Paths.{steps_of}
-use Rattle.snap_front.specs.Reading.{MayReadAs}
+use Rattle.snap_front.specs.Reading.{MayReadAs, ReadsAs}
 use Rattle.snap_front.specs.Runs.{Comes}
 use Rattle.snap_front.specs.Split.{front_read}
 use Rattle.snap_front.specs.TreePaths.{get_tree}
@@ -41,6 +42,11 @@ abbrev pub IsText : Wanted → Docs → ReplyView → List ℕ → Type 0
 IsText (to_get steps) docs reply out = (part : t.Tree) × (reply ≡ given part) × (out ≡ text_of off (plain part))
 IsText wanted docs reply out = (is_refusal reply ≡ false) × Comes docs (prints []) (docs, printed out)
 
+-- a document that is printed has the body of the text, and is put again, under any name, as what it was printed of
+abbrev pub KeepsBody : Wanted → List ℕ → List ℕ → Type 0
+KeepsBody (to_get steps) text out = Unit {0}
+KeepsBody wanted text out = (head : t.Tree) × (body : List ℕ) × (body_of text ≡ Some body) × IsPrintOf head body out
+
 -- the text was put as a document, the command was done, and this is the answer
 pub record Gives (wanted : Wanted) (text out : List ℕ) : Type 0 where
   pub command : CommandView
@@ -51,12 +57,18 @@ pub record Gives (wanted : Wanted) (text out : List ℕ) : Type 0 where
   pub reply : ReplyView
   pub ran : Comes before command (docs, reply)
   pub answer : IsText wanted docs reply out
+  pub keeps : KeepsBody wanted text out
 
 -- the text was refused as a document, or the command was refused
 pub data Refuses (wanted : Wanted) (text : List ℕ) (reply : ReplyView) : Type 0 where
   at_document : Comes [] (puts [] text) ([], reply) → is_refusal reply ≡ true → Refuses wanted text reply
   at_command : (command : CommandView) (docs : Docs) → IsCommand wanted command → Comes [] (puts [] text) (docs, done) → Comes docs command (docs, reply) → is_refusal reply ≡ true
       → Refuses wanted text reply
+
+-- where a value is to be set, it reads as a tree
+abbrev pub ValueReads : Option Wanted → Type 0
+ValueReads (Some (to_set steps value)) = (p : Plain) × ReadsAs (value_text value) p
+ValueReads wanted = Unit {0}
 
 -- an answer: the words ask for it, and the input is a text
 pub record IsAnswer (words : List (List ℕ)) (document out : List ℕ) : Type 0 where
@@ -97,7 +109,7 @@ IsTextAnswer wanted text (Err OutOfMemory) = Unit {0}
 
 -- the document with the new head, printed; or the reply that says why there is no new head
 abbrev pub IsPrinted : Changed → List ℕ → Result (List ℕ) FrontError → Type 0
-IsPrinted changed body (Ok out) = (new : t.Tree) × (changed.0 ≡ Some new) × (is_refusal changed.1 ≡ false) × (out ≡ printed_of new body)
+IsPrinted changed body (Ok out) = (new : t.Tree) × (changed.0 ≡ Some new) × (is_refusal changed.1 ≡ false) × IsPrintOf new body out
 IsPrinted changed body (Err BadWords) = ⊥
 IsPrinted changed body (Err NotText) = ⊥
 IsPrinted changed body (Err (Refused reply)) = (changed ≡ (None, reply_of reply)) × (is_refusal (reply_of reply) ≡ true)
@@ -113,7 +125,7 @@ IsGot part (Err OutOfMemory) = Unit {0}
 
 -- the document, printed
 abbrev pub IsFormatted : t.Tree → List ℕ → Result (List ℕ) FrontError → Type 0
-IsFormatted head body (Ok out) = out ≡ printed_of head body
+IsFormatted head body (Ok out) = IsPrintOf head body out
 IsFormatted head body (Err BadWords) = ⊥
 IsFormatted head body (Err NotText) = ⊥
 IsFormatted head body (Err (Refused reply)) = ⊥

@@ -8,6 +8,7 @@ pub mod Documents
 pub mod Commands
 pub mod Heads
 pub mod Runs
+pub mod Kept
 pub mod Stored
 pub mod Wanted
 pub mod Front

@@ -1,11 +1,13 @@
 //! One document, and one command on it.
-ghost use Rattle.std.specs.Prelude.{◌≡◌, Some, List, ℕ, IfOk, IfErr, encode_utf8_all};
+ghost use Rattle.std.specs.Prelude.{◌≡◌, Some, true, List, ℕ, IfOk, IfErr, encode_utf8_all};
 ghost use Rattle.std.specs.Str.{chars};
 ghost use Rattle.snap_content.specs.View.{tree};
 ghost use Rattle.snap_front.specs.Commands.{refusal_of, reply_of};
-ghost use Rattle.snap_front.specs.Front.{AreBytesOf, HasNoAnswer, IsAnswer, IsDone, IsFormatted, IsGot, IsHeadIn, IsPrinted, IsTextAnswer};
-ghost use Rattle.snap_front.specs.Heads.{remove_head, set_head};
+ghost use Rattle.snap_front.specs.Front.{AreBytesOf, HasNoAnswer, IsAnswer, IsDone, IsFormatted, IsGot, IsHeadIn, IsPrinted, IsTextAnswer, ValueReads};
+ghost use Rattle.snap_front.specs.Heads.{is_map, remove_head, set_head};
 ghost use Rattle.snap_front.specs.Paths.{steps_of};
+ghost use Rattle.snap_front.specs.Runs.{HeaderReads};
+ghost use Rattle.snap_front.specs.Split.{front_read};
 ghost use Rattle.snap_front.specs.TreePaths.{get_tree};
 ghost use Rattle.snap_front.specs.Wanted.{IsRequest, Wanted, wanted_in};
 ghost use Rattle.snap_front.specs.declared.reply.Reply.{Reply};
@@ -60,7 +62,7 @@ fn got(alloc: Global, head: Content, path: &Path) -> Result<Text, FrontError>
 
 /// The document, printed. The head ends.
 fn printed(alloc: Global, head: Content, body: &str) -> Result<Text, FrontError>
-    ensures { IsFormatted (tree head) (chars body.now) result }
+    ensures { is_map (tree head) ≡ true → IsFormatted (tree head) (chars body.now) result }
 {
     let text = print_document(alloc, &head, body);
     drop(head);
@@ -75,8 +77,8 @@ fn with_value(
     path: &Path,
     value: Content,
 ) -> Result<Text, FrontError>
-    ensures { IsPrinted (set_head (steps_of path.now) (tree value) (tree head))
-        (chars body.now) result }
+    ensures { is_map (tree head) ≡ true
+        → IsPrinted (set_head (steps_of path.now) (tree value) (tree head)) (chars body.now) result }
 {
     let mut head = head;
     match set_value(alloc, &mut head, path, value) {
@@ -94,8 +96,8 @@ fn with_value(
 
 /// The document without what stands at the end of the path, printed.
 fn without_value(alloc: Global, head: Content, body: &str, path: &Path) -> Result<Text, FrontError>
-    ensures { IsPrinted (remove_head (steps_of path.now) (tree head))
-        (chars body.now) result }
+    ensures { is_map (tree head) ≡ true
+        → IsPrinted (remove_head (steps_of path.now) (tree head)) (chars body.now) result }
 {
     let mut head = head;
     match remove_value(&mut head, path) {
@@ -112,7 +114,8 @@ fn without_value(alloc: Global, head: Content, body: &str, path: &Path) -> Resul
 
 /// What is answered to the request, of a document with this head and body.
 fn done(alloc: Global, request: Request, head: Content, body: &str) -> Result<Text, FrontError>
-    ensures { IsDone request (tree head) (chars body.now) result }
+    ensures { is_map (tree head) ≡ true
+        → IsDone request (tree head) (chars body.now) result }
 {
     match request {
         Request::Get(path) => got(alloc, head, &path),
@@ -175,6 +178,10 @@ fn answer_of(alloc: Global, request: Request, document: &[u8]) -> Result<Blob, F
 pub fn front(alloc: Global, words: &[Text], document: &[u8]) -> Result<Blob, FrontError>
     ensures ok { IfOk result (λ blob. IsAnswer words.now document.now blob) }
     ensures err { IfErr result (λ e. HasNoAnswer words.now document.now e) }
+    // Where the header and the value read as trees, there is no other answer.
+    ensures one { IfOk result (λ blob. (other : List ℕ)
+        → HeaderReads (front_read (chars document.now)) → ValueReads (wanted_in words.now)
+        → IsAnswer words.now document.now other → other ≡ blob) }
 {
     match request_of(alloc, words)? {
         Some(request) => answer_of(alloc, request, document),

@@ -1,8 +1,14 @@
 //! What is done with one document.
-ghost use Rattle.std.specs.Prelude.{◌≡◌, None, IfErr, IfOk, OnErr};
+ghost use Rattle.std.specs.Prelude.{◌≡◌, None, true, IfErr, IfOk, OnErr};
 ghost use Rattle.std.specs.Str.{chars};
+ghost use Rattle.snap_content.specs.Plain.{plain};
 ghost use Rattle.snap_content.specs.View.{tree};
+ghost use Rattle.snap_print.specs.Blocks.{off};
+ghost use Rattle.snap_print.specs.Lines.{lines_of};
+ghost use Rattle.snap_print.specs.Printed.{AreRows};
+ghost use Rattle.snap_print.specs.Readable.{IsWithin};
 ghost use Rattle.snap_front.specs.Heads.{IsChanged, IsHeadOf, IsMapOf, is_empty_path, is_map, printed_of, remove_head, removed_reply, set_head, set_reply};
+ghost use Rattle.snap_front.specs.Kept.{IsPrintOf};
 ghost use Rattle.snap_front.specs.Paths.{steps_of};
 
 use crate::path::Path;
@@ -100,7 +106,19 @@ pub(crate) fn remove_value(head: &mut Content, path: &Path) -> Result<Content, R
 
 /// The text of a document: its header, printed anew between two fences, and its body.
 pub(crate) fn print_document(alloc: Global, head: &Content, body: &str) -> Result<Text, OutOfMemory>
-    ensures { IfOk result (λ text. text ≡ printed_of (tree head.now) (chars body.now)) }
+    ensures printed { IfOk result (λ text. text ≡ printed_of (tree head.now) (chars body.now)) }
+    // The document that is read again is this one.
+    ensures again { is_map (tree head.now) ≡ true
+        → IfOk result (λ text. IsPrintOf (tree head.now) (chars body.now) text) }
+{
+    printed_parts(alloc, head, body)
+}
+
+/// The printed header, a fence, and the body.
+fn printed_parts(alloc: Global, head: &Content, body: &str) -> Result<Text, OutOfMemory>
+    ensures printed { IfOk result (λ text. text ≡ printed_of (tree head.now) (chars body.now)) }
+    ensures within { IfOk result (λ _. IsWithin (plain (tree head.now))) }
+    ensures rows { IfOk result (λ _. AreRows (lines_of off (plain (tree head.now)))) }
 {
     let mut text = to_string(alloc, head, false)?;
     text.push_ascii(alloc, "---\n")?;

@@ -108,6 +108,7 @@ fn held_of(alloc: Global, head: Content, body: &str) -> Result<Held, OutOfMemory
 
 impl FrontStore {
     ghost use Rattle.snap_front.specs.Commands.{command_of, done, reply_of, puts, gets, sets, removes, prints};
+    ghost use Rattle.snap_front.specs.Kept.{AreMaps, IsAgain};
     ghost use Rattle.snap_front.specs.Paths.{steps_of};
     ghost use Rattle.snap_front.specs.Runs.{Comes};
     ghost use Rattle.snap_front.specs.Stored.{docs_of};
@@ -122,11 +123,14 @@ impl FrontStore {
         }
     }
 
-    /// Does what the command says. After the one error, that memory is out, nothing has changed.
+    /// Does what the command says. After the one error, that memory is out, nothing has changed. Headers are maps from the first
+    /// document that is put on, and so a document that is printed is put again as what it was.
     pub fn apply(&mut self, command: &Command) -> Result<Reply, OutOfMemory>
         ensures comes { IfOk result (λ reply. Comes (docs_of self.old) (command_of command.now)
             (docs_of self.new, reply_of reply)) }
         ensures err { OnErr result (docs_of self.new ≡ docs_of self.old) }
+        ensures again { AreMaps (docs_of self.old)
+            → IfOk result (λ reply. IsAgain (reply_of reply)) }
     {
         match command {
             Command::Put { name, text } => self.put(name, text.as_str()),
@@ -206,8 +210,10 @@ impl FrontStore {
     }
 
     fn print(&self, name: &Text) -> Result<Reply, OutOfMemory>
-        ensures { IfOk result (λ reply. Comes (docs_of self.now) (prints name.now)
+        ensures comes { IfOk result (λ reply. Comes (docs_of self.now) (prints name.now)
             (docs_of self.now, reply_of reply)) }
+        ensures again { AreMaps (docs_of self.now)
+            → IfOk result (λ reply. IsAgain (reply_of reply)) }
     {
         let Some(at) = place_of(self.docs.as_slice(), name) else {
             return Ok(Reply::NoName);
