@@ -1,6 +1,6 @@
 //! Commands on several documents.
-use crate::cases::words_of;
 use rows::add_text_column;
+use rows_outside::words_of;
 use snap_content::{Content, OutOfMemory, Text};
 use snap_emit::yaml::{body_to_string, parse_str};
 use snap_front::{Command, Path, Replies, Reply, run_commands};
@@ -77,7 +77,7 @@ fn add_reply(alloc: Global, line: &mut Text, reply: &Reply) -> Result<(), OutOfM
 fn commands_of(alloc: Global, columns: &str) -> Result<Vec<Command>, anyhow::Error> {
     let mut commands = Vec::new(alloc);
     for column in columns.split('\t') {
-        let words = words_of(alloc, column)?;
+        let words = words_of(alloc, column, '|')?;
         commands.push(command_of(alloc, &words)?)?;
     }
     Ok(commands)

@@ -13,7 +13,6 @@
 //! by itself.
 #![tactic(auto)]
 
-mod cases;
 mod commands;
 mod runs;
 

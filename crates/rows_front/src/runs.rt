@@ -1,24 +1,15 @@
 //! Runs over forms of which a call may fail.
-use crate::cases::{Outside, input_of, outside_of, words_of};
 use rows::{add_number_column, add_text_column, first_column};
+use rows_outside::{Outside, add_bytes, input_of, outside_of, sink_of, source_of, words_of};
 use snap_content::{Blob, OutOfMemory, Text};
 use snap_front::{FrontStatus, front, front_program};
-use snap_io::{MemorySink, MemorySource};
+use snap_io::MemorySink;
 use std::alloc::Global;
-use std::str;
-
-/// Adds a column with the text of these bytes.
-fn add_bytes(alloc: Global, line: &mut Text, bytes: &[u8]) -> Result<(), OutOfMemory> {
-    match str::from_utf8(bytes) {
-        Ok(text) => add_text_column(alloc, line, text),
-        Err(_) => add_text_column(alloc, line, "! no text"),
-    }
-}
 
 /// What is answered to the words, of a document.
 pub(crate) fn front_line(alloc: Global, columns: &str) -> Result<Text, anyhow::Error> {
     let (words, document) = first_column(columns);
-    let words = words_of(alloc, words)?;
+    let words = words_of(alloc, words, '|')?;
     let document = input_of(alloc, document)?;
     let mut line = Text::empty();
     match front(alloc, &words, document.as_slice()) {
@@ -26,22 +17,6 @@ pub(crate) fn front_line(alloc: Global, columns: &str) -> Result<Text, anyhow::E
         Err(error) => line.push_str(alloc, format!(in alloc; "! {error:?}")?.as_str())?,
     }
     Ok(line)
-}
-
-/// The source of the input.
-fn source_of(alloc: Global, outside: Outside, input: Blob) -> Result<MemorySource, OutOfMemory> {
-    let failing = vec![in alloc; outside.read]?;
-    let mut source = MemorySource::new(input, outside.piece);
-    source.fail_at(failing);
-    Ok(source)
-}
-
-/// The sink of the answer.
-fn sink_of(alloc: Global, outside: Outside) -> Result<MemorySink, OutOfMemory> {
-    let failing = vec![in alloc; outside.write]?;
-    let mut sink = MemorySink::new(alloc);
-    sink.fail_at(failing);
-    Ok(sink)
 }
 
 /// Runs over the input into the sink.
@@ -52,7 +27,7 @@ fn run(
     input: Blob,
     sink: &mut MemorySink,
 ) -> Result<FrontStatus, OutOfMemory> {
-    let words = words_of(alloc, words)?;
+    let words = words_of(alloc, words, '|')?;
     let mut source = source_of(alloc, outside, input)?;
     Ok(front_program(alloc, &words, &mut source, sink))
 }

@@ -12,7 +12,7 @@
 //! by itself.
 #![tactic(auto)]
 
-mod cases;
+mod built;
 mod runs;
 mod statuses;
 

@@ -1,27 +1,11 @@
 //! Runs over forms of which a call may fail.
-use crate::cases::{Outside, built_of, input_of, outside_of, words_of};
+use crate::built::built_of;
 use rows::{add_number_column, add_text_column, first_column};
+use rows_outside::{Outside, add_bytes, input_of, outside_of, sink_of, source_of, words_of};
 use snap_content::{Blob, OutOfMemory, Text};
-use snap_io::{MemorySink, MemorySource};
+use snap_io::MemorySink;
 use snap_mask::{MaskStatus, mask};
 use std::alloc::Global;
-use std::str;
-
-/// The source of the input.
-fn source_of(alloc: Global, outside: Outside, input: Blob) -> Result<MemorySource, OutOfMemory> {
-    let failing = vec![in alloc; outside.read]?;
-    let mut source = MemorySource::new(input, outside.piece);
-    source.fail_at(failing);
-    Ok(source)
-}
-
-/// The sink of the records.
-fn sink_of(alloc: Global, outside: Outside) -> Result<MemorySink, OutOfMemory> {
-    let failing = vec![in alloc; outside.write]?;
-    let mut sink = MemorySink::new(alloc);
-    sink.fail_at(failing);
-    Ok(sink)
-}
 
 /// Runs over the input into the sink.
 fn run(
@@ -31,7 +15,7 @@ fn run(
     input: Blob,
     sink: &mut MemorySink,
 ) -> Result<MaskStatus, OutOfMemory> {
-    let words = words_of(alloc, words)?;
+    let words = words_of(alloc, words, ' ')?;
     let mut source = source_of(alloc, outside, input)?;
     Ok(mask(alloc, &words, &mut source, sink))
 }
@@ -45,14 +29,6 @@ pub(crate) fn add_status(
     add_number_column(alloc, line, "status", u64::from(status.code()))?;
     let said = status.describe(alloc)?;
     add_text_column(alloc, line, said.as_str())
-}
-
-/// Adds a column with the text of these bytes.
-fn add_bytes(alloc: Global, line: &mut Text, bytes: &[u8]) -> Result<(), OutOfMemory> {
-    match str::from_utf8(bytes) {
-        Ok(text) => add_text_column(alloc, line, text),
-        Err(_) => add_text_column(alloc, line, "! no text"),
-    }
 }
 
 /// How a run ended, and what was written.
