@@ -82,6 +82,7 @@ rules_cause words rules status.ReadFault is other = (rules, is)
 rules_cause words rules status.WriteFault is other = (rules, is)
 rules_cause words rules status.OutOfMemory is other = tt
 rules_cause words rules status.InputTooLong is other = (rules, is)
+rules_cause words rules status.StreamTooLong is other = (rules, is)
 
 -- where a text is told nothing is read
 told_length : (text : List ℕ) (ended : ExplainStatus) (written written' : Option (List ℕ)) → IsTold text ended written written' → LengthIs (is_input_too_long ended) 0
@@ -92,6 +93,7 @@ told_length text status.ReadFault written written' told = absurd told
 told_length text status.WriteFault written written' told = omega arith
 told_length text status.OutOfMemory written written' told = absurd told
 told_length text status.InputTooLong written written' told = absurd told
+told_length text status.StreamTooLong written written' told = absurd told
 
 pub told_reads_nothing : (text : List ℕ) (ended : ExplainStatus) (written written' left : Option (List ℕ)) → IsTold text ended written written' → LengthCause ended left left
 told_reads_nothing text ended written written' left told = λ input is.

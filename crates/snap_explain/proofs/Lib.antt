@@ -1,4 +1,6 @@
 mod Prelude
 mod Turns
 mod Endings
+mod Documents
+mod Asking
 mod Shown

@@ -26,7 +26,7 @@ numbered : (rules : List ReplacementView) (ls : List (List ℕ)) (number : ℕ) 
     → SaysOf rules (suc (length ls)) line said
 numbered rules ls number line said is k = let next : number + 1 ≡ suc (length ls) = omega (arith, is) in subst (λ n. SaysOf rules n line said) next k
 
-filled-append : (a b : List ℕ) → is_filled (a ++ b) ≡ is_filled a || is_filled b
+pub filled-append : (a b : List ℕ) → is_filled (a ++ b) ≡ is_filled a || is_filled b
 filled-append [] b = refl
 filled-append (c ∷ cs) b = refl
 

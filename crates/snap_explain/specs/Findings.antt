@@ -106,6 +106,7 @@ Leaves rules status.ReadFault input w now = Stops rules input w now
 Leaves rules status.WriteFault input w now = Stops rules input w now
 Leaves rules status.OutOfMemory input w now = Stops rules input w now
 Leaves rules status.InputTooLong input w now = Stops rules input w now
+Leaves rules status.StreamTooLong input w now = ⊥
 
 -- the same of a source and a sink, where both tell what they hold
 abbrev pub LeavesOf : List ReplacementView → ExplainStatus → Option (List ℕ) → Option (List ℕ) → Option (List ℕ) → Type 0

@@ -1,5 +1,5 @@
 -- What the words of a command line ask for, and what the program does.
-use Rattle.std.specs.Prelude.{◌≡◌, ◌⊎◌, ℕ, List, [], ◌∷◌, ◌++◌, codes, Option, None, Some, if◌then◌else◌}
+use Rattle.std.specs.Prelude.{◌≡◌, ◌⊎◌, ℕ, Bool, true, false, List, [], ◌∷◌, ◌++◌, codes, Option, None, Some, if◌then◌else◌}
 use Rattle.std.specs.Str.{bytes_eq}
 use Rattle.snap_io.specs.Streams.{HoldsFront}
 use Rattle.snap_io_words.specs.Asked.{text_asked}
@@ -7,9 +7,10 @@ use Rattle.snap_assert_settings.specs.Replaced.{ReplacementView}
 use Rattle.snap_mask.specs.Program.{IsNotBegun}
 use Rattle.snap_mask.specs.Rules.{rules_in}
 use Rattle.snap_explain.specs.Findings.{LeavesOf}
+use Rattle.snap_explain.specs.Streams.{StreamRun}
 use Rattle.snap_explain.specs.declared.usage.TheConstants.{USAGE, VERSION}
 use Rattle.snap_explain.specs.declared.status.ExplainStatus.{ExplainStatus}
-use Rattle.snap_explain.specs.declared.status.ExplainStatus.TheVariants.{Nothing, Found, BadWords, ReadFault, WriteFault, OutOfMemory, InputTooLong}
+use Rattle.snap_explain.specs.declared.status.ExplainStatus.TheVariants.{Nothing, Found, BadWords, ReadFault, WriteFault, OutOfMemory, InputTooLong, StreamTooLong}
 
 -- the exit status
 abbrev pub code_of : ExplainStatus → ℕ
@@ -19,6 +20,7 @@ code_of BadWords = 2
 code_of ReadFault = 6
 code_of WriteFault = 7
 code_of OutOfMemory = 8
+code_of StreamTooLong = 9
 code_of InputTooLong = 10
 
 -- the text that the words ask for, where they ask for one
@@ -29,6 +31,11 @@ asked_of words = text_asked USAGE.now VERSION.now words
 abbrev pub mask_rules : List (List ℕ) → Option (List ReplacementView)
 mask_rules [] = None
 mask_rules (tool ∷ words) = if bytes_eq tool (codes "mask") then rules_in words else None
+
+-- the words are `stream` and a workspace
+abbrev pub asks_for_stream : List (List ℕ) → Bool
+asks_for_stream (tool ∷ workspace ∷ []) = bytes_eq tool (codes "stream")
+asks_for_stream _ = false
 
 -- a text that was asked for was written, or a part of its front where the sink failed
 abbrev pub IsTold : List ℕ → ExplainStatus → Option (List ℕ) → Option (List ℕ) → Type 0
@@ -42,23 +49,30 @@ RulesCause words BadWords = mask_rules words ≡ None
 RulesCause words OutOfMemory = Unit {0}
 RulesCause words _ = (rules : List ReplacementView) × (mask_rules words ≡ Some rules)
 
--- `BadWords` exactly where the words spell no such rules and ask for no text
+-- the words ask for something: they spell such rules, or ask for a stream or a text
+pub data AreWords (words : List (List ℕ)) : Type 0 where
+  of_rules : (rules : List ReplacementView) → mask_rules words ≡ Some rules → AreWords words
+  of_stream : asks_for_stream words ≡ true → AreWords words
+  of_text : (text : List ℕ) → asked_of words ≡ Some text → AreWords words
+
+-- `BadWords` exactly where the words ask for nothing
 abbrev pub WordsCause : List (List ℕ) → ExplainStatus → Type 0
-WordsCause words BadWords = (mask_rules words ≡ None) × (asked_of words ≡ None)
+WordsCause words BadWords = AreWords words → ⊥
 WordsCause words OutOfMemory = Unit {0}
-WordsCause words _ = ((rules : List ReplacementView) × (mask_rules words ≡ Some rules)) ⊎ ((text : List ℕ) × (asked_of words ≡ Some text))
+WordsCause words _ = AreWords words
 
 -- the run of these words ended with this status
-pub record IsRunOf (words : List (List ℕ)) (status : ExplainStatus) (left written written' : Option (List ℕ)) : Type 0 where
+pub record IsRunOf (words : List (List ℕ)) (status : ExplainStatus) (left left' written written' : Option (List ℕ)) : Type 0 where
   pub words_cause : WordsCause words status
   pub told : (text : List ℕ) → asked_of words ≡ Some text → IsTold text status written written'
+  pub stream : asks_for_stream words ≡ true → StreamRun status left left' written written'
   pub leaves : (rules : List ReplacementView) → asked_of words ≡ None → mask_rules words ≡ Some rules → LeavesOf rules status left written written'
 
 -- the run of the words, where all arguments are texts, or no memory for them; and else wrong words. Nothing is begun but by the run
 abbrev pub RunOfArguments : Option (List (List ℕ)) → ExplainStatus → Option (List ℕ) → Option (List ℕ) → Option (List ℕ) → Option (List ℕ) → Type 0
 RunOfArguments None status left left' written written' = ((status ≡ BadWords) ⊎ (status ≡ OutOfMemory)) × IsNotBegun left left' written written'
 RunOfArguments (Some words) status left left' written written' =
-    IsRunOf words status left written written' ⊎ ((status ≡ OutOfMemory) × IsNotBegun left left' written written')
+    IsRunOf words status left left' written written' ⊎ ((status ≡ OutOfMemory) × IsNotBegun left left' written written')
 
 -- how the program ended: with the exit status of one status, which is that of the run of its arguments
 pub record Ends (code : ℕ) (words : Option (List (List ℕ))) (left left' written written' : Option (List ℕ)) : Type 0 where

@@ -2,7 +2,7 @@
 ghost use Rattle.snap_io_words.specs.Arguments.{arguments_of, words_given};
 ghost use Rattle.snap_explain.specs.Program.{Ends, RunOfArguments};
 
-use crate::mask::explain;
+use crate::explaining::explain;
 use crate::status::ExplainStatus;
 use snap_io::{Sink, Source};
 use snap_io_words::words_in;

@@ -4,20 +4,32 @@
 //! In the order in which data flows: `fault` (why a line has no record, in words), `start` (what a line begins with that no JSON text
 //! begins with), `place` (where a number stands in a value), `cause` (the fault of a line), `saying` (the finding of a line, written),
 //! `lines` (the loop over the lines), `status` and `usage` (what is said of a run, and of the program), `mask` (what the filter of JSON
-//! lines refuses), `command` (the run that the arguments ask for).
+//! lines refuses); `position` (lines and columns), `outline` (the nodes of a text), `pointing` (the node that a reason speaks of),
+//! `nearest`, `number_path`, `hint` (what helps), `refusal` (the reason in words), `telling` (the finding of a document), `stream` (the
+//! loop over the documents), `explaining` (the tool that the words name), `command` (the run that the arguments ask for).
 #![tactic(auto)]
 
 pub mod cause;
 pub mod command;
+pub mod explaining;
 pub mod fault;
+mod hint;
 pub mod lines;
 pub mod mask;
+mod nearest;
+mod number_path;
+mod outline;
 pub mod place;
+mod pointing;
+pub mod position;
+mod refusal;
 pub mod saying;
 pub mod start;
 pub mod status;
+pub mod stream;
+pub mod telling;
 pub mod usage;
 
 pub use command::program;
-pub use mask::explain;
+pub use explaining::explain;
 pub use status::ExplainStatus;

@@ -4,19 +4,17 @@ ghost use Rattle.snap_io.specs.Causes.{CountedIf};
 ghost use Rattle.snap_assert_settings.specs.Replaced.{ReplacementView, replacements_of};
 ghost use Rattle.snap_mask.specs.Rules.{AreMasking};
 ghost use Rattle.snap_explain.specs.Findings.{Leaves, LeavesOf, LengthCause, is_input_too_long, says_read_fault, says_write_fault};
-ghost use Rattle.snap_explain.specs.Program.{IsTold, RulesCause, WordsCause, asked_of, mask_rules};
+ghost use Rattle.snap_explain.specs.Program.{RulesCause, mask_rules};
 ghost use Rattle.snap_explain.specs.Runs.{RunLeaves, SaidBefore, is_long_run, run_read_fault, run_write_fault};
 
 use crate::fault::LineFault;
 use crate::lines::{Run, say_lines};
 use crate::saying::{SayError, say};
 use crate::status::ExplainStatus;
-use crate::usage::{USAGE, VERSION, tell};
 use snap_assert_settings::redactions::{Redactions, Replacements};
 use snap_content::characters::is_same;
 use snap_content::{OutOfMemory, Text};
 use snap_io::{Sink, Source};
-use snap_io_words::text_in;
 use snap_mask::rules::rules_of;
 use std::alloc::Global;
 
@@ -105,8 +103,8 @@ fn explain_by<S: Source, K: Sink>(
     }
 }
 
-/// What `explain` does with words that ask for no text.
-fn explain_words<S: Source, K: Sink>(
+/// Says why lines are refused, where the words spell rules after the tool's name.
+pub(crate) fn explain_lines<S: Source, K: Sink>(
     alloc: Global,
     words: &[Text],
     source: &mut S,
@@ -125,38 +123,5 @@ fn explain_words<S: Source, K: Sink>(
         Err(_) => ExplainStatus::OutOfMemory,
         Ok(None) => ExplainStatus::BadWords,
         Ok(Some(rules)) => explain_by(alloc, rules, source, sink),
-    }
-}
-
-/// Says why input is refused.
-///
-/// The words are those of the command line, without the program's name: `mask`, and after it the rules of the filter of JSON lines.
-/// Then the source is read as that filter reads it, and each line that it refuses is told, with its number and why; a line after one
-/// that is refused is read as well.
-///
-/// `--help` and `--version`, each alone, write a text; then nothing is read.
-pub fn explain<S: Source, K: Sink>(
-    alloc: Global,
-    words: &[Text],
-    source: &mut S,
-    sink: &mut K,
-) -> ExplainStatus
-    ensures words { WordsCause words.now result }
-    ensures told { (text : List ℕ) → asked_of words.now ≡ Some text
-        → IsTold text result (K.written sink.old) (K.written sink.new) }
-    ensures untouched { (text : List ℕ) → asked_of words.now ≡ Some text
-        → source.new ≡ source.old }
-    ensures refused { result ≡ ExplainStatus.BadWords
-        → (source.new ≡ source.old) × (sink.new ≡ sink.old) }
-    ensures leaves { (rules : List ReplacementView) → asked_of words.now ≡ None
-        → mask_rules words.now ≡ Some rules
-        → LeavesOf rules result (S.left source.old) (K.written sink.old) (K.written sink.new) }
-    ensures length { LengthCause result (S.left source.old) (S.left source.new) }
-    ensures read { CountedIf (says_read_fault result) (S.faults source.old) (S.faults source.new) }
-    ensures write { CountedIf (says_write_fault result) (K.faults sink.old) (K.faults sink.new) }
-{
-    match text_in(words, USAGE, VERSION) {
-        Some(text) => tell(text, sink),
-        None => explain_words(alloc, words, source, sink),
     }
 }

@@ -6,7 +6,7 @@ use snap_print::integers::is_integer;
 use std::alloc::Global;
 
 /// What kind of number a text is, where it is a number and no whole number of 128 bits.
-fn kind_of(text: &str) -> Option<NumberKind> {
+pub(crate) fn kind_of(text: &str) -> Option<NumberKind> {
     if !is_integer(text) {
         return Some(fraction_or_exponent(text));
     }
@@ -31,7 +31,7 @@ fn is_plain_key(key: &str) -> bool {
 }
 
 /// Whether the text has a character that would end the line, or move on it.
-fn has_control(key: &str) -> bool {
+pub(crate) fn has_control(key: &str) -> bool {
     key.chars().any(|c| c < ' ')
 }
 
@@ -43,7 +43,7 @@ fn key_step(alloc: Global, key: &Yaml) -> Result<Text, OutOfMemory> {
     }
 }
 
-fn named_step(alloc: Global, name: &str) -> Result<Text, OutOfMemory> {
+pub(crate) fn named_step(alloc: Global, name: &str) -> Result<Text, OutOfMemory> {
     let mut step = Text::empty();
     if is_plain_key(name) {
         step.push(alloc, '.')?;

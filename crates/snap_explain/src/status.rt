@@ -18,6 +18,8 @@ pub enum ExplainStatus {
     OutOfMemory,
     /// The source gave more than 1,099,511,627,776 bytes.
     InputTooLong,
+    /// The source gave more than 67,108,864 bytes, the most that a stream of requests may have. Nothing is written.
+    StreamTooLong,
 }
 
 impl ExplainStatus {
@@ -34,6 +36,7 @@ impl ExplainStatus {
             ExplainStatus::ReadFault => 6,
             ExplainStatus::WriteFault => 7,
             ExplainStatus::OutOfMemory => 8,
+            ExplainStatus::StreamTooLong => 9,
             ExplainStatus::InputTooLong => 10,
         }
     }

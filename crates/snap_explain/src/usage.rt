@@ -15,26 +15,33 @@ pub const VERSION: &str = "snap-explain 0.1.0\n";
 pub const USAGE: &str = "\
 Says why input is refused. Nothing is changed.
 
-Usage: snap-explain mask [RULE...] < LINES
+Usage: snap-explain stream WORKSPACE < REQUESTS
+       snap-explain mask [RULE...] < LINES
        snap-explain --help | --version
+
+stream says of each document of REQUESTS that is no request for snap run why
+that is so. No file is read, so any WORKSPACE serves.
 
 mask says of each line of LINES that snap-mask refuses by these rules why that
 is so. The rules are those of snap-mask --help.
 
 Each finding is a line, as
+  document 3, line 41, column 1: an unknown key, exprs; the nearest is expr
   line 12: a number with a fraction at .price
   line 14, column 7: while parsing a quoted scalar, found unknown escape character
-Lines and columns are counted from 1, columns in characters. A line of more
-than 1,048,576 bytes is the last that is read.
+What comes after it is read as well. Lines and columns are counted from 1 in
+the whole input, columns in characters. A line of LINES of more than 1,048,576
+bytes is the last that is read.
 
 Exit status:
   0   nothing is refused
   1   something is, and each finding is written
   2   wrong words, or a selector that cannot be read
-  6   the lines could not be read
+  6   the input could not be read
   7   the findings could not be written
   8   out of memory
-  10  the input is longer than 1,099,511,627,776 bytes
+  9   REQUESTS are longer than 67,108,864 bytes
+  10  LINES are longer than 1,099,511,627,776 bytes
 ";
 
 /// Writes the text, and nothing else.

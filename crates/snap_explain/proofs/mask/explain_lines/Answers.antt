@@ -2,7 +2,7 @@ use Rattle.snap_explain.proofs.Prelude.{◌≡◌, ◌∙◌, sym, subst, inl, S
 use Rattle.snap_explain.specs.Findings.{LeavesOf}
 use Rattle.snap_explain.specs.Program.{mask_rules}
 use Rattle.snap_explain.proofs.Endings.{stops_at_start, mask_masking}
-use Rattle.snap_explain.proofs.mask.explain_words.Goals as goal
+use Rattle.snap_explain.proofs.mask.explain_lines.Goals as goal
 
 pub returns-in-Err-clause-leaves : goal.returns-in-Err-clause-leaves
 returns-in-Err-clause-leaves g c = λ rules spelled input w e f. inl (stops_at_start rules input w _ f)

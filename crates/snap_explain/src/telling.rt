@@ -1,0 +1,213 @@
+//! The finding of a document that is no request, written.
+ghost use Rattle.std.specs.Prelude.{◌≡◌, List, ℕ, Some, IfOk, MatchOption, string_bytes};
+ghost use Rattle.snap_io.specs.Causes.{Counted};
+ghost use Rattle.snap_explain.specs.Findings.{Writes, is_write_fault};
+ghost use Rattle.snap_explain.specs.Refusals.{refusal_text};
+ghost use Rattle.snap_explain.specs.Streams.{IsRead, IsNoRequest, DocumentEnds};
+
+use crate::hint::hint;
+use crate::outline::{Node, Outline, outline_of};
+use crate::pointing::node_of;
+use crate::position::{Place, place_behind};
+use crate::refusal::ReasonWords;
+use crate::saying::SayError;
+use snap_content::{OutOfMemory, Text};
+use snap_emit::Refusal;
+use snap_io::Sink;
+use snap_io_streams::streams::write_all;
+use snap_run_requests::{KeyFault, Reason, RequestError, read_request};
+use snap_scan_tokens::ScanError;
+use std::alloc::Global;
+
+/// Where a finding points, and what helps to mend the document.
+#[derive(Debug, Drop)]
+pub struct Told {
+    pub place: Place,
+    pub detail: Text,
+}
+
+/// How many characters stand before a node. A map in blocks is marked behind its first key, with which it begins.
+fn begin_of(nodes: &[Node], index: usize) -> Option<usize> {
+    let node = nodes.get(index)?;
+    match nodes.get(index.saturating_add(1)) {
+        Some(child) if child.depth > node.depth => Some(node.before.min(child.before)),
+        _ => Some(node.before),
+    }
+}
+
+/// How many characters stand before the place that a reason speaks of; none where it speaks of the whole document.
+fn before_of(outline: &Outline, node: Option<usize>, why: &Reason) -> Option<usize> {
+    match why {
+        Reason::NoTree(Refusal::NoYaml(ScanError::Syntax(mark, _))) => Some(mark.index()),
+        Reason::NoTree(Refusal::NotOneDocument) if outline.documents > 1 => Some(outline.second),
+        _ => begin_of(outline.nodes.as_slice(), node?),
+    }
+}
+
+/// A reason that speaks of a whole map or document is told with its first line alone.
+fn without_column(place: Place, why: &Reason) -> Place {
+    match why {
+        Reason::NoMap | Reason::Key(KeyFault::Missing(_)) => Place {
+            line: place.line,
+            column: None,
+        },
+        _ => place,
+    }
+}
+
+fn place_of(first: u64, text: &str, before: Option<usize>, why: &Reason) -> Place {
+    match before {
+        None => Place {
+            line: first,
+            column: None,
+        },
+        Some(before) => without_column(place_behind(text, first, before), why),
+    }
+}
+
+/// The same of a document whose nodes are these.
+fn told_by(
+    alloc: Global,
+    number: u64,
+    first: u64,
+    text: &str,
+    outline: &Outline,
+    why: &Reason,
+) -> Result<Told, OutOfMemory> {
+    let node = node_of(alloc, outline.nodes.as_slice(), why)?;
+    let detail = hint(alloc, number, text, outline, node, why)?;
+    let before = before_of(outline, node, why);
+    Ok(Told {
+        place: place_of(first, text, before, why),
+        detail,
+    })
+}
+
+fn told_of_text(
+    alloc: Global,
+    number: u64,
+    first: u64,
+    text: &str,
+    why: &Reason,
+) -> Result<Told, OutOfMemory> {
+    let outline = outline_of(alloc, text)?;
+    let told = told_by(alloc, number, first, text, &outline, why);
+    drop(outline);
+    told
+}
+
+/// What is told of bytes that are no UTF-8, so many of which are.
+fn told_of_bytes(first: u64, document: &[u8], place: usize) -> Told {
+    let (front, _) = document.split_at(place.min(document.len()));
+    let place = match str::from_utf8(front) {
+        Ok(text) => place_behind(text, first, usize::MAX),
+        Err(_) => Place {
+            line: first,
+            column: None,
+        },
+    };
+    Told {
+        place,
+        detail: Text::empty(),
+    }
+}
+
+/// What is told of a document besides the reason why it is no request. Its first line is the one with this number.
+fn told_of(
+    alloc: Global,
+    number: u64,
+    first: u64,
+    document: &[u8],
+    why: &Reason,
+) -> Result<Told, OutOfMemory> {
+    match str::from_utf8(document) {
+        Ok(text) => told_of_text(alloc, number, first, text, why),
+        Err(error) => Ok(told_of_bytes(first, document, error.valid_up_to())),
+    }
+}
+
+/// What is said of a document with this number, as a line.
+fn refusal(alloc: Global, number: u64, told: &Told, why: &Reason) -> Result<String, OutOfMemory>
+    ensures { IfOk result (λ text. string_bytes text
+        ≡ refusal_text number told.now.place why.now told.now.detail) }
+{
+    let words = ReasonWords { why };
+    Ok(format!(in alloc;
+        "document {number}, {}: {words}{}\n",
+        told.place, told.detail
+    )?)
+}
+
+/// Writes what is said of a document with this number.
+fn say_told<K: Sink>(
+    alloc: Global,
+    number: u64,
+    told: &Told,
+    why: &Reason,
+    sink: &mut K,
+) -> Result<(), SayError>
+    ensures said { (w : List ℕ) → K.written sink.old ≡ Some w
+        → Writes (refusal_text number told.now.place why.now told.now.detail) w (K.written sink.new)
+        result }
+    ensures cause { Counted is_write_fault (K.faults sink.old) (K.faults sink.new) result }
+{
+    let text = refusal(alloc, number, told, why)?;
+    write_all(sink, text.as_bytes())?;
+    Ok(())
+}
+
+/// Says of a document why it is no request.
+fn say_refusal<K: Sink>(
+    alloc: Global,
+    number: u64,
+    first: u64,
+    document: &[u8],
+    why: &Reason,
+    sink: &mut K,
+) -> Result<bool, SayError>
+    ensures said { (w : List ℕ) → K.written sink.old ≡ Some w → IsNoRequest document.now why.now
+        → DocumentEnds number document.now w (K.written sink.new) result }
+    ensures cause { Counted is_write_fault (K.faults sink.old) (K.faults sink.new) result }
+{
+    let told = told_of(alloc, number, first, document, why)?;
+    let said = say_told(alloc, number, &told, why, sink);
+    drop(told);
+    match said {
+        Ok(()) => Ok(true),
+        Err(error) => Err(error),
+    }
+}
+
+/// Why a document is no request, where the run's own reader refuses it.
+fn refused(alloc: Global, document: &[u8]) -> Result<Option<Reason>, OutOfMemory>
+    ensures { IfOk result (λ found. MatchOption found (IsRead document.now)
+        (λ why. IsNoRequest document.now why)) }
+{
+    match read_request(alloc, document) {
+        Ok(request) => {
+            drop(request);
+            Ok(None)
+        }
+        Err(RequestError::NoRequest(why)) => Ok(Some(why)),
+        Err(RequestError::OutOfMemory) => Err(OutOfMemory),
+    }
+}
+
+/// Says of the document with this number, whose first line is this one of the stream, why it is no request, where the run's own
+/// reader refuses it. Whether it was said.
+pub(crate) fn tell_document<K: Sink>(
+    alloc: Global,
+    number: u64,
+    first: u64,
+    document: &[u8],
+    sink: &mut K,
+) -> Result<bool, SayError>
+    ensures said { (w : List ℕ) → K.written sink.old ≡ Some w
+        → DocumentEnds number document.now w (K.written sink.new) result }
+    ensures cause { Counted is_write_fault (K.faults sink.old) (K.faults sink.new) result }
+{
+    match refused(alloc, document)? {
+        None => Ok(false),
+        Some(why) => say_refusal(alloc, number, first, document, &why, sink),
+    }
+}
