@@ -18,12 +18,20 @@ function __snap_explain_at_rule
     test $at -eq (math (count $words) + 1)
 end
 
+# Whether it is the workspace.
+function __snap_explain_at_workspace
+    set -l words (commandline -opc)
+    test (count $words) -eq 2; and test "$words[2]" = stream
+end
+
 # Whether it is the first word.
 function __snap_explain_at_first
     test (count (commandline -opc)) -eq 1
 end
 
 complete -c snap-explain -f
+complete -c snap-explain -n __snap_explain_at_first -a stream -d 'Say which documents are no requests, and why'
+complete -c snap-explain -n __snap_explain_at_workspace -a '(__fish_complete_directories)'
 complete -c snap-explain -n __snap_explain_at_first -a mask -d 'Say which lines snap-mask refuses, and why'
 complete -c snap-explain -n __snap_explain_at_first -l help -d 'Say which words snap-explain takes'
 complete -c snap-explain -n __snap_explain_at_first -l version -d 'Say its version'

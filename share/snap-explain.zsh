@@ -3,7 +3,11 @@
 _snap-explain() {
   local -i at=3
   if (( CURRENT == 2 )); then
-    compadd -- mask --help --version
+    compadd -- stream mask --help --version
+    return
+  fi
+  if [[ $words[2] == stream ]] && (( CURRENT == 3 )); then
+    _files -/
     return
   fi
   [[ $words[2] == mask ]] || return 1
