@@ -1,5 +1,5 @@
 -- What is known of a store's folders goes on through listings, removals and writes.
-use Rattle.snap_assert.proofs.Prelude.{◌≡◌, ◌+◌, ◌<◌, ◌≤◌, ◌||◌, ◌&&◌, ℕ, Bool, true, false, not, cond, List, [], ◌∷◌, ◌++◌, length, take, get_or, Option, None, Some, refl, sym, ap, ◌∙◌, subst, take_more, take_all, is_some, bytes_eq, bytes_eq-Decides, list_any, filter, get, insert, remove, get-insert, Files, name_of, parent_of, joined, is_stray, pending_path, cleared, remove_each, is_among, Asked, written, passed_files, step, AllStray, AreStrays, Covers, CoversAt, MayWait, WaitsStill, Update, InPlace, NewFile, NoUpdate}
+use Rattle.snap_assert.proofs.Prelude.{◌≡◌, ◌+◌, ◌<◌, ◌≤◌, ◌||◌, ◌&&◌, ℕ, Bool, true, false, cond, List, [], ◌∷◌, ◌++◌, length, take, get_or, Option, None, Some, refl, sym, ap, ◌∙◌, subst, take_more, take_all, is_some, bytes_eq, bytes_eq-Decides, list_any, filter, get, insert, remove, get-insert, Files, parent_of, joined, is_stray, pending_path, cleared, remove_each, is_among, Asked, written, passed_files, step, AllStray, AreStrays, Covers, CoversAt, MayWait, WaitsStill, Update, InPlace, NewFile, NoUpdate}
 use Rattle.std.specs.BTreeMap.{is_at}
 use Rattle.std.specs.Cmp.Lexicographic.{slice_cmp}
 use Rattle.std.specs.Ordering.{nat_cmp}
@@ -8,8 +8,8 @@ use Rattle.std.proofs.lemmas.List.Folds.{list_any-append}
 use Rattle.std.proofs.lemmas.Map.Text.{is_eq-slice_cmp}
 use Rattle.snap_io.specs.Listed.{AreNames}
 use Rattle.snap_assert_place.specs.SnapshotPath.{IsFilePath}
-use Rattle.snap_assert.proofs.Removals.{get-removed, get-remove_each, strays_gone}
-use Rattle.snap_assert.proofs.StrayPaths.{stray_named, among_names, filtered}
+use Rattle.snap_assert.proofs.Removals.{get-removed, get-remove_each}
+use Rattle.snap_assert.proofs.StrayPaths.{stray_named, filtered}
 
 -- the library's test of a set of texts
 pub among_keys : (q : List ℕ) (ks : List (List ℕ)) → list_any (is_at (slice_cmp nat_cmp q)) ks ≡ is_among ks q

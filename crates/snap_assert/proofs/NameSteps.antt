@@ -1,10 +1,10 @@
 -- The name of an assertion for which none is given, outside a doctest.
-use Rattle.snap_assert.proofs.Prelude.{◌≡◌, ℕ, Bool, false, cond, List, Ok, Err, Result, sym, ap, ◌∙◌, SessionView, AssertError}
+use Rattle.snap_assert.proofs.Prelude.{◌≡◌, ℕ, Bool, false, cond, List, Err, sym, ap, ◌∙◌, SessionView}
 use Rattle.snap_assert_place.specs.Names.{NameKey, last_name, is_test, key_of}
 use Rattle.snap_assert_place.specs.Place.{PlaceView}
 use Rattle.snap_assert_place.specs.SnapshotPath.{is_doctest}
 use Rattle.snap_assert_settings.specs.Settings.{SettingsView}
-use Rattle.snap_assert.specs.Names.{Named, counted_step, automatic_step}
+use Rattle.snap_assert.specs.Names.{counted_step, automatic_step}
 use Rattle.snap_assert.specs.declared.error.AssertError.TheVariants.{DoctestNeedsName}
 
 -- it is counted under the key of settings and place

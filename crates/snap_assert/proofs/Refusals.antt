@@ -1,5 +1,5 @@
 -- Why an assertion comes to no answer, in turn: the name, the files, the block, and the files once more.
-use Rattle.snap_assert.proofs.Prelude.{◌≡◌, ◌⊎◌, inl, inr, ℕ, List, Option, None, Some, Result, Ok, Err, refl, sym, ap, ◌∙◌, subst, Files, cleared, Assertion, asked_under, key_under, new_contents, SessionView, Update, AssertError, FaultIsOwn, IsAnswered, IsDone, Config}
+use Rattle.snap_assert.proofs.Prelude.{◌≡◌, ◌⊎◌, inl, inr, ℕ, List, Option, None, Some, Result, Ok, Err, refl, sym, ap, ◌∙◌, Files, cleared, Assertion, asked_under, key_under, new_contents, SessionView, Update, AssertError, FaultIsOwn, IsAnswered, IsDone, Config}
 use Rattle.std.specs.Result.{IfErr, OnOk}
 use Rattle.std.specs.Prelude.{IfOk}
 use Rattle.snap_content.specs.Tree.{Tree}

@@ -1,5 +1,5 @@
 -- Which paths are left behind by payloads.
-use Rattle.snap_assert.proofs.Prelude.{◌≡◌, ◌==◌, ◌||◌, ◌&&◌, ◌≤◌, ℕ, Bool, true, false, not, cond, List, [], ◌∷◌, ◌++◌, length, Option, None, Some, refl, sym, ap, ◌∙◌, append_assoc, eq-eqb, codes, arith, length-append, is_some, IsSome, list_any, filter, All, bytes_eq, chars, IsUtf8, get, bytes_eq-Decides, some_same, past_mark, joined, parent_of, front_of, name_of, last_of, components, is_absolute, path_of_parts, IsName, Files, is_among, holds_slash, stray_front, is_slashless, is_stray, not_true}
+use Rattle.snap_assert.proofs.Prelude.{◌≡◌, ◌==◌, ◌&&◌, ◌≤◌, ℕ, Bool, true, false, not, cond, List, [], ◌∷◌, ◌++◌, length, Option, None, Some, refl, sym, ap, ◌∙◌, append_assoc, eq-eqb, codes, arith, length-append, is_some, IsSome, list_any, filter, All, bytes_eq, chars, IsUtf8, get, bytes_eq-Decides, some_same, past_mark, joined, parent_of, front_of, name_of, last_of, components, is_absolute, IsName, Files, is_among, holds_slash, stray_front, is_slashless, is_stray, not_true}
 use Rattle.std.proofs.lemmas.Str.{encodes-chars, encodes-append, length-le-encodes}
 use Rattle.std.specs.Str.{encode_utf8_all}
 use Rattle.std.specs.Str.Iter.{HasSubslice}

@@ -1,4 +1,4 @@
-use Rattle.snap_assert.proofs.Prelude.{◌≡◌, sym, ◌∙◌, subst, chars, IfOk-weaker, settings_of, place_of}
+use Rattle.snap_assert.proofs.Prelude.{sym, ◌∙◌, subst, chars, IfOk-weaker, settings_of, place_of}
 use Rattle.snap_assert.specs.Names.{RefusedAs}
 use Rattle.snap_assert.specs.Session.{session_of}
 use Rattle.snap_assert.proofs.NameSteps.{automatic_is}

@@ -1,6 +1,5 @@
 use Rattle.snap_run.proofs.Prelude.{◌∙◌, ap, Some, inl, subst, IsRunOf, outside}
 use Rattle.snap_run.specs.Program.{words_or_none}
-use Rattle.snap_run.proofs.RunEnds.{no_texts}
 use Rattle.snap_run.proofs.command.run_arguments.Goals as goal
 
 pub returns-in-Ok-Some : goal.returns-in-Ok-Some

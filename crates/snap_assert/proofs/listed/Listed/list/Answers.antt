@@ -1,4 +1,4 @@
-use Rattle.snap_assert.proofs.Prelude.{◌∙◌, sym, ap, subst}
+use Rattle.snap_assert.proofs.Prelude.{sym, subst}
 use Rattle.snap_io.specs.Listed.{AreNames}
 use Rattle.snap_assert.proofs.listed.Listed.list.Goals as goal
 
