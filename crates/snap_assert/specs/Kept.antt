@@ -69,6 +69,7 @@ abbrev pub FaultIsAt : List ℕ → AssertError → Type 0
 FaultIsAt path (FileIo named) = named ≡ path
 FaultIsAt path _ = Unit {0}
 
+-- a result that is an error by a fault names this path
 abbrev pub NamesOnly : {T : Type 0} → List ℕ → Result T AssertError → Type 0
 NamesOnly path (Ok value) = Unit {0}
 NamesOnly path (Err error) = FaultIsAt path error

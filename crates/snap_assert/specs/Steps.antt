@@ -55,6 +55,7 @@ abbrev pub is_slashless : Option (List ℕ) → Bool
 is_slashless None = false
 is_slashless (Some rest) = not (holds_slash rest)
 
+-- the path may be of a payload that was left beside the other one: what follows its name and `.new.` holds no slash
 abbrev pub is_stray : List ℕ → List ℕ → Bool
 is_stray path q = is_slashless (past_mark (stray_front path) q)
 
