@@ -1,28 +1,24 @@
 -- A printed document is put again as what was printed.
-use Rattle.snap_front.proofs.Prelude.{◌≡◌, ℕ, Bool, true, false, cond, List, [], ◌∷◌, ◌++◌, Option, None, Some, option_map, refl, sym, ap, ◌∙◌, subst, append_assoc, IfOk, Result, Ok, Err, concat, ended_lines, is_fence, Cut, with_line, at_fence, front_lines, texts_of, front_read, bytes_eq, inl}
+use Rattle.snap_front.proofs.Prelude.{◌≡◌, ℕ, Bool, true, false, cond, List, [], ◌∷◌, ◌++◌, Some, option_map, refl, sym, ap, ◌∙◌, subst, append_assoc, IfOk, Result, Ok, Err, concat, ended_lines, is_fence, with_line, at_fence, texts_of, front_read, inl}
 use Rattle.std.proofs.lemmas.Slice.Eq.{bytes_eq-Decides}
-use Rattle.std.proofs.lemmas.Bool.{ne_eqb}
-use Rattle.std.specs.Prelude.{◌==◌, ◌&&◌, ◌||◌, codes, map}
+use Rattle.std.specs.Prelude.{◌==◌, ◌||◌, codes, map}
 use Rattle.std.specs.Char.{is_whitespace}
 use Rattle.std.specs.List.{flat_map, list_any}
-use Rattle.snap_content.specs.Front.{begins}
 use Rattle.snap_content.specs.Lines.{ended}
 use Rattle.snap_content.specs.Plain.{Plain, dict, Entries, plain, pair_entries, content_of}
 use Rattle.snap_content.specs.Tree as t
-use Rattle.snap_content.proofs.Booleans.{or_left}
 use Rattle.snap_content.proofs.PlainMade.{plain_made}
 use Rattle.snap_print.specs.Blocks.{off}
 use Rattle.snap_print.specs.Lines.{document_of, lines_of}
-use Rattle.snap_print.specs.Printed.{AreRows, IsRow, begins_dashes, is_break}
+use Rattle.snap_print.specs.Printed.{AreRows, begins_dashes, is_break}
 use Rattle.snap_print.specs.Readable.{IsWithin}
 use Rattle.snap_str.specs.Cut.{Lacks}
 use Rattle.snap_str.proofs.LineTexts.{ended-line}
 use Rattle.snap_text_literals.specs.Normal.{before_trimmed, trimmed}
 use Rattle.snap_front.specs.Commands.{ReplyView, puts, done}
-use Rattle.snap_front.specs.Documents.{Document, Docs, with_document}
+use Rattle.snap_front.specs.Documents.{Docs, with_document}
 use Rattle.snap_front.specs.Heads.{is_map, printed_of}
 use Rattle.snap_front.specs.Kept.{IsPrintOf}
-use Rattle.snap_front.specs.Reading.{ReadsAs}
 use Rattle.snap_front.specs.Runs.{put_tree, PutEnd, PutText, Comes}
 use Rattle.snap_front.specs.Runs.PutEnd.{taken, refused}
 use Rattle.snap_front.proofs.Splitting.{joined}

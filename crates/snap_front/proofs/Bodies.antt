@@ -1,13 +1,13 @@
 -- Bodies stay until another document is put under their name; and one run is all that commands allow.
 use Rattle.std.proofs.lemmas.Slice.Eq.{bytes_eq-Decides}
-use Rattle.snap_front.proofs.Prelude.{◌≡◌, ℕ, Bool, true, false, cond, List, [], ◌∷◌, Option, None, Some, option_map, refl, sym, ap, ◌∙◌, subst, bytes_eq, front_read, get_tree, Step}
+use Rattle.snap_front.proofs.Prelude.{◌≡◌, ℕ, Bool, true, false, cond, List, [], ◌∷◌, Option, None, Some, option_map, refl, sym, ap, ◌∙◌, subst, bytes_eq, front_read, get_tree}
 use Rattle.std.specs.Prelude.{◌&&◌}
 use Rattle.snap_content.specs.Plain.{Plain, null, bool, int, text, list, dict, plain, content_of}
 use Rattle.snap_content.specs.Tree as t
-use Rattle.snap_front.specs.Commands.{CommandView, puts, gets, sets, removes, prints, ReplyView, done, printed, not_front, bad_header, not_map, no_name}
+use Rattle.snap_front.specs.Commands.{CommandView, puts, gets, sets, removes, prints, ReplyView, printed}
 use Rattle.snap_front.specs.Documents.{Document, Docs, document_in, with_document}
 use Rattle.snap_front.specs.Heads.{Changed, found, set_head, remove_head, printed_of}
-use Rattle.snap_front.specs.Reading.{MayReadAs, ReadsAs, ReadsAsNone}
+use Rattle.snap_front.specs.Reading.{ReadsAs}
 use Rattle.snap_front.specs.Runs.{put_tree, PutEnd, PutText, told_of, changed_by, changed_of, Comes, Runs, body_in, is_done, puts_there, NonePut, HeaderReads, AllRead}
 use Rattle.snap_front.specs.Runs.PutEnd.{taken, refused}
 

@@ -1,10 +1,10 @@
 -- The body of the last text that was put; and printed documents, put again.
-use Rattle.snap_front.proofs.Prelude.{◌≡◌, ℕ, true, List, [], ◌∷◌, ◌++◌, Option, None, Some, option_map, refl, sym, ap, ◌∙◌, subst, length, front_read}
+use Rattle.snap_front.proofs.Prelude.{◌≡◌, ℕ, List, [], ◌∷◌, ◌++◌, Option, None, Some, option_map, sym, ap, ◌∙◌, subst, arith, length, front_read}
 use Rattle.snap_content.specs.Plain.{Plain, null, bool, int, text, list, dict, content_of}
-use Rattle.snap_front.specs.Commands.{CommandView, puts, ReplyView, done, not_front, bad_header, not_map}
-use Rattle.snap_front.specs.Documents.{Document, Docs, with_document}
+use Rattle.snap_front.specs.Commands.{CommandView, puts, ReplyView, done, not_front, bad_header}
+use Rattle.snap_front.specs.Documents.{Document, Docs}
 use Rattle.snap_front.specs.Kept.{body_of, IsLastPut, IsAgain, AreAgain}
-use Rattle.snap_front.specs.Runs.{put_tree, PutEnd, PutText, Comes, Runs, body_in}
+use Rattle.snap_front.specs.Runs.{put_tree, PutText, Comes, Runs, body_in}
 use Rattle.snap_front.specs.Runs.PutEnd.{taken, refused}
 use Rattle.snap_front.proofs.Bodies.{bodies-stay, there_now}
 
@@ -18,10 +18,10 @@ record IsSplit (docs docs' : Docs) (c : CommandView) (r : ReplyView) (after : Li
 run-split : (docs docs' : Docs) (before after : List CommandView) (c : CommandView) (earlier later : List ReplyView) (r : ReplyView) → length earlier ≡ length before
     → Runs docs (before ++ c ∷ after) docs' (earlier ++ r ∷ later) → IsSplit docs docs' c r after later
 run-split docs docs' [] after c [] later r n run = record { mid = docs; next = run.0; here = run.1; rest = run.2 }
-run-split docs docs' [] after c (x ∷ xs) later r n run = absurd (cc)
-run-split docs docs' (b ∷ bs) after c [] later r n run = absurd (cc)
+run-split docs docs' [] after c (x ∷ xs) later r n run = absurd (omega (arith, n))
+run-split docs docs' (b ∷ bs) after c [] later r n run = absurd (omega (arith, n))
 run-split docs docs' (b ∷ bs) after c (x ∷ xs) later r n run =
-    let fewer : length xs ≡ length bs = cc in
+    let fewer : length xs ≡ length bs = omega (arith, n) in
     let more = run-split run.0 docs' bs after c xs later r fewer run.2 in
     record { mid = more.mid; next = more.next; here = more.here; rest = more.rest }
 

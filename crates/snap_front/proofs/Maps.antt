@@ -1,19 +1,20 @@
 -- Headers stay maps, whatever commands change in them.
-use Rattle.snap_front.proofs.Prelude.{◌≡◌, ℕ, Bool, true, false, cond, List, [], ◌∷◌, ◌++◌, Option, None, Some, option_map, option_and_then, refl, sym, ap, ◌∙◌, subst, bytes_eq, front_read, get_tree, set_tree, remove_tree, step_in, put_step, cut_step, with_entry, without_entry, Step, Key, Index}
-use Rattle.std.specs.Prelude.{◌&&◌, not, unwrap_or}
+use Rattle.snap_front.proofs.Prelude.{◌≡◌, ℕ, Bool, true, false, cond, List, [], ◌∷◌, Option, None, Some, option_map, option_and_then, refl, sym, ap, ◌∙◌, subst, bytes_eq, front_read, get_tree, set_tree, remove_tree, step_in, put_step, cut_step, with_entry, without_entry, Step, Key, Index}
+use Rattle.std.specs.Prelude.{◌&&◌, not}
 use Rattle.snap_content.specs.Tree as t
 use Rattle.snap_content.specs.Plain.{Plain, null, bool, int, text, list, dict, plain, content_of}
 use Rattle.snap_front.specs.Commands.{CommandView, puts, gets, sets, removes, prints, ReplyView, printed, not_map}
 use Rattle.snap_front.specs.Documents.{Document, Docs, document_in, with_document}
-use Rattle.snap_front.specs.Heads.{Changed, found, is_map, is_empty_path, set_head, set_or_refused, remove_head, removed_or_refused, printed_of}
+use Rattle.snap_front.specs.Heads.{Changed, found, is_map, set_head, set_or_refused, remove_head, removed_or_refused, printed_of}
 use Rattle.snap_front.specs.Kept.{AreMaps}
-use Rattle.snap_front.specs.Runs.{put_tree, PutEnd, PutText, told_of, changed_by, changed_of, Comes}
+use Rattle.snap_front.specs.Runs.{put_tree, PutText, changed_by, changed_of, Comes}
 use Rattle.snap_front.specs.Runs.PutEnd.{taken, refused}
 use Rattle.snap_front.proofs.Bodies.{told-docs}
 
 -- one step
 step-map : (s : Step) (v c q : t.Tree) → is_map c ≡ true → put_step s v c ≡ Some q → is_map q ≡ true
 step-map (Key name) v (t.map ps) q m h = let same : t.map (with_entry name v ps) ≡ q = cc in ap is_map (sym same)
+step-map (Index n) v (t.seq ps) q m h = absurd (cc)
 step-map s v c q m h = absurd (cc)
 
 map-of : (o : Option t.TreePairs) (q : t.Tree) → option_map t.map o ≡ Some q → is_map q ≡ true
@@ -22,6 +23,7 @@ map-of (Some ps) q h = let same : t.map ps ≡ q = cc in ap is_map (sym same)
 
 cut-map : (s : Step) (c q : t.Tree) → is_map c ≡ true → cut_step s c ≡ Some q → is_map q ≡ true
 cut-map (Key name) (t.map ps) q m h = map-of (without_entry name ps) q h
+cut-map (Index n) (t.seq ps) q m h = absurd (cc)
 cut-map s c q m h = absurd (cc)
 
 -- and several

@@ -1,9 +1,8 @@
 -- Documents by their places.
-use Rattle.snap_front.proofs.Prelude.{◌≡◌, ℕ, suc, zero, Bool, true, false, cond, List, [], ◌∷◌, ◌++◌, Option, None, Some, option_map, refl, sym, ap, ◌∙◌, get_or, set, position, tree}
-use Rattle.snap_front.specs.Documents.{Document, Docs, document_in, with_document}
+use Rattle.snap_front.proofs.Prelude.{◌≡◌, ℕ, suc, zero, Bool, true, false, cond, List, [], ◌∷◌, ◌++◌, None, Some, refl, sym, ap, ◌∙◌, get_or, set, position}
+use Rattle.snap_front.specs.Documents.{Docs, document_in, with_document}
 use Rattle.snap_front.specs.Stored.{seen, named, docs_in, is_named}
 use Rattle.snap_front.specs.declared.store.Held.{Held}
-use Rattle.std.specs.Str.{bytes_eq}
 use Rattle.snap_front.proofs.Placed.{first_here, first_later, never_first, same_place, none_later, not_none}
 
 -- the document at the first place with that name, and the documents with another one there

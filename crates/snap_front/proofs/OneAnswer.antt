@@ -1,11 +1,11 @@
 -- A page has one answer to its words, where its header and the value read as trees.
-use Rattle.snap_front.proofs.Prelude.{◌≡◌, ℕ, List, [], ◌∷◌, Option, None, Some, refl, sym, ap, ◌∙◌, subst, chars, front_read}
+use Rattle.snap_front.proofs.Prelude.{◌≡◌, ℕ, List, [], ◌∷◌, Some, sym, ap, ◌∙◌, subst, chars, front_read}
 use Rattle.std.specs.Prelude.{encode_utf8_all}
 use Rattle.snap_content.specs.Tree as t
 use Rattle.snap_content.specs.Plain.{Plain, plain, content_of}
 use Rattle.snap_print.specs.Blocks.{off}
 use Rattle.snap_print.specs.Lines.{text_of}
-use Rattle.snap_front.specs.Commands.{CommandView, gets, sets, removes, prints, ReplyView, done, given, printed}
+use Rattle.snap_front.specs.Commands.{CommandView, sets, prints, ReplyView, done, given, printed}
 use Rattle.snap_front.specs.Documents.{Docs}
 use Rattle.snap_front.specs.Front.{IsCommand, IsText, Gives, ValueReads, IsAnswer}
 use Rattle.snap_front.specs.Runs.{Comes, HeaderReads, AllRead}

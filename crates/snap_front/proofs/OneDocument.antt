@@ -3,15 +3,15 @@ use Rattle.snap_front.proofs.Prelude.{◌≡◌, ℕ, Bool, true, false, cond, �
 use Rattle.std.specs.Prelude.{◌&&◌, not, Result, Ok, Err, IfOk, IfErr, unwrap_or}
 use Rattle.std.specs.Str.{IsUtf8, chars}
 use Rattle.snap_content.specs.Tree as t
-use Rattle.snap_content.specs.Plain.{Plain, plain, content_of}
+use Rattle.snap_content.specs.Plain.{plain, content_of}
 use Rattle.snap_content.proofs.PlainMade.{plain_made}
-use Rattle.snap_front.specs.Commands.{CommandView, puts, gets, sets, removes, prints, ReplyView, done, given, printed, absent, not_map, root, reply_of, refusal_of}
-use Rattle.snap_front.specs.Documents.{Document, Docs, document_in, with_document}
+use Rattle.snap_front.specs.Commands.{CommandView, puts, gets, sets, removes, prints, ReplyView, done, given, printed, not_map, root, reply_of, refusal_of}
+use Rattle.snap_front.specs.Documents.{Document, Docs}
 use Rattle.snap_front.specs.Kept.{body_of, IsPrintOf}
 use Rattle.snap_front.specs.Front.{AreBytesOf, HasNoAnswer, IsAnswer, IsCommand, is_refusal, IsText, KeepsBody, Gives, Refuses, IsTextAnswer, IsPrinted, IsGot, IsFormatted, HasHead, IsDone}
-use Rattle.snap_front.specs.Front.Refuses.{at_document, at_command}
-use Rattle.snap_front.specs.Heads.{Changed, IsChanged, IsNoTree, IsNoMap, found, is_empty_path, is_map, set_or_refused, set_head, removed_or_refused, remove_head, printed_of}
-use Rattle.snap_front.specs.Reading.{MayReadAs, IsReadOf}
+use Rattle.snap_front.specs.Front.Refuses.{at_command}
+use Rattle.snap_front.specs.Heads.{Changed, IsChanged, IsNoTree, IsNoMap, found, is_empty_path, is_map, set_or_refused, set_head, removed_or_refused, remove_head}
+use Rattle.snap_front.specs.Reading.{IsReadOf}
 use Rattle.snap_front.specs.Runs.{Comes, changed_by}
 use Rattle.snap_front.specs.Wanted.{Wanted, to_get, to_set, to_remove, to_format, value_text, wanted_in, IsRequest}
 use Rattle.snap_front.specs.declared.front_error.FrontError.{FrontError}

@@ -1,8 +1,8 @@
 -- Words that are paths.
-use Rattle.snap_front.proofs.Prelude.{◌≡◌, ℕ, List, [], Option, None, Some, option_and_then, refl, sym, ap, ◌∙◌, path_in, IsPath, IsOther, Step, Parts}
+use Rattle.snap_front.proofs.Prelude.{◌≡◌, ℕ, List, [], None, Some, option_and_then, refl, ap, ◌∙◌, path_in, IsPath, IsOther, Step, Parts}
 use Rattle.snap_select.specs.Grammar.{IsSelector}
 use Rattle.snap_select.specs.Reading.{Outcome, selects, refuses, outcome, before_part}
-use Rattle.snap_select.specs.Selected.{parts_in, selected}
+use Rattle.snap_select.specs.Selected.{parts_in}
 use Rattle.snap_select.proofs.Outcomes.{selects_selector, selector_selected}
 use Rattle.snap_front.specs.Wanted.{path_read}
 

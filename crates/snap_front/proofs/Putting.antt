@@ -1,11 +1,10 @@
 -- What a text comes to that is put as a document.
-use Rattle.snap_front.proofs.Prelude.{◌≡◌, ℕ, Bool, true, false, List, Option, None, Some, refl, sym, ap, ◌∙◌, subst, inl, inr, ◌⊎◌, front_read, Content, tree}
+use Rattle.snap_front.proofs.Prelude.{◌≡◌, ℕ, false, List, None, Some, refl, sym, ap, ◌∙◌, subst, inl, inr, ◌⊎◌, front_read}
 use Rattle.snap_content.specs.Tree as t
-use Rattle.std.specs.Prelude.{Result, Ok, Err}
 use Rattle.snap_content.specs.Plain.{Plain, null, bool, int, text, list, dict, Entries, content_of}
-use Rattle.snap_front.specs.Commands.{ReplyView, puts, done, not_front, bad_header, not_map, refusal_of}
-use Rattle.snap_front.specs.Documents.{Document, Docs, with_document}
-use Rattle.snap_front.specs.Heads.{IsHeadOf, IsNoTree, IsNoMap, is_dict}
+use Rattle.snap_front.specs.Commands.{ReplyView, puts, done, not_front, not_map, refusal_of}
+use Rattle.snap_front.specs.Documents.{Docs, with_document}
+use Rattle.snap_front.specs.Heads.{IsNoTree, IsNoMap, is_dict}
 use Rattle.snap_front.specs.Reading.{MayReadAs}
 use Rattle.snap_front.specs.Runs.{put_tree, PutEnd, PutText, Comes}
 use Rattle.snap_front.specs.Runs.PutEnd.{taken, refused}

@@ -1,5 +1,5 @@
 -- What is read of a text.
-use Rattle.snap_front.proofs.Prelude.{◌≡◌, ℕ, Bool, true, false, cond, List, Option, None, Some, refl, sym, ap, ◌∙◌, subst, inl, inr, Content, tree}
+use Rattle.snap_front.proofs.Prelude.{◌≡◌, ℕ, Bool, true, false, cond, List, Some, refl, sym, ap, ◌∙◌, subst, inr, Content, tree}
 use Rattle.std.specs.Prelude.{◌^◌, ℤ, pos, negsuc, nat_lt, Result, Ok, Err}
 use Rattle.snap_content.specs.Tree as t
 use Rattle.snap_content.specs.Plain.{Plain, null, bool, int, text, list, dict, Entries, plain, content_of, number_tree}
@@ -7,10 +7,9 @@ use Rattle.snap_content.proofs.PlainMade.{plain_made}
 use Rattle.snap_print.specs.Readable.{IsWithin}
 use Rattle.snap_str.specs.Cut.{Lacks}
 use Rattle.snap_emit.specs.Parsed.{IsReadFrom}
-use Rattle.snap_emit.specs.Spelled.{IsTextOf}
 use Rattle.snap_front.specs.Heads.{IsHeadOf, IsMapOf, is_map, is_dict}
 use Rattle.snap_front.specs.declared.refusal.Refusal.{Refusal}
-use Rattle.snap_front.specs.Reading.{ReadsAs, MayReadAs, ReadsAsNone, IsReadOf}
+use Rattle.snap_front.specs.Reading.{MayReadAs, ReadsAsNone, IsReadOf}
 use Rattle.snap_front.proofs.Nulls.{text-lacks}
 
 -- a text with NUL reads as none

@@ -1,5 +1,5 @@
 -- Entries and items that are taken out by their places.
-use Rattle.snap_front.proofs.Prelude.{◌≡◌, ℕ, zero, suc, ◌<◌, ◌≤◌, Bool, true, false, cond, List, [], ◌∷◌, Option, None, Some, option_map, option_and_then, refl, sym, ap, ◌∙◌, subst, arith, length, get_or, set, position, remove, tree, item_trees, pair_trees, Content, item_at, step_in, get_tree, with_entry, with_item, without_entry, without_item, cut_step, put_step, remove_tree, Step, Key, Index, IsRemoved}
+use Rattle.snap_front.proofs.Prelude.{◌≡◌, ℕ, zero, suc, ◌<◌, ◌≤◌, Bool, true, false, cond, List, [], ◌∷◌, Option, None, Some, option_map, option_and_then, refl, sym, ap, ◌∙◌, subst, arith, length, get_or, set, position, remove, tree, item_trees, pair_trees, Content, step_in, get_tree, with_entry, with_item, without_entry, without_item, put_step, remove_tree, Step, Key, Index, IsRemoved}
 use Rattle.snap_content.specs.Tree as t
 use Rattle.snap_front.proofs.Placed.{is_at, placed, absent, first_here, first_later, never_first, same_place, none_later, not_none, item_there, item_put, item_none, same_item, same_entry}
 

@@ -1,13 +1,13 @@
 -- No command but that to print is answered by a printed document.
-use Rattle.snap_front.proofs.Prelude.{◌≡◌, ℕ, Bool, true, false, cond, List, [], ◌∷◌, Option, None, Some, refl, sym, ap, subst, front_read, get_tree, set_tree, remove_tree, Step}
+use Rattle.snap_front.proofs.Prelude.{◌≡◌, ℕ, Bool, true, false, cond, List, [], ◌∷◌, Option, None, Some, sym, ap, subst, front_read, get_tree, set_tree, remove_tree, Step}
 use Rattle.std.specs.Prelude.{◌&&◌, not}
 use Rattle.snap_content.specs.Tree as t
 use Rattle.snap_content.specs.Plain.{Plain, null, bool, int, text, list, dict, plain, content_of}
-use Rattle.snap_front.specs.Commands.{CommandView, puts, gets, sets, removes, prints, ReplyView, not_map}
+use Rattle.snap_front.specs.Commands.{puts, gets, sets, removes, ReplyView, not_map}
 use Rattle.snap_front.specs.Documents.{Document, Docs, document_in}
 use Rattle.snap_front.specs.Heads.{Changed, found, is_map, is_empty_path, set_head, set_or_refused, remove_head, removed_or_refused}
 use Rattle.snap_front.specs.Kept.{IsAgain}
-use Rattle.snap_front.specs.Runs.{put_tree, PutEnd, PutText, told_of, changed_by, changed_of, Comes}
+use Rattle.snap_front.specs.Runs.{put_tree, PutText, told_of, changed_by, changed_of, Comes}
 use Rattle.snap_front.specs.Runs.PutEnd.{taken, refused}
 
 -- a reply that is that of a pair

@@ -1,5 +1,5 @@
 -- The documents that a store holds.
-use Rattle.std.specs.Prelude.{◌≡◌, ◌⊎◌, ℕ, Bool, List, map, Result, Ok, Err}
+use Rattle.std.specs.Prelude.{ℕ, Bool, List, map}
 use Rattle.std.specs.Str.{bytes_eq}
 use Rattle.snap_content.specs.View.{tree}
 use Rattle.snap_front.specs.Documents.{Document, Docs}

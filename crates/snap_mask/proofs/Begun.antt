@@ -1,5 +1,5 @@
 -- How JSON texts begin, and that no NUL stands in them.
-use Rattle.snap_mask.proofs.Prelude.{◌≡◌, ℕ, ◌<◌, ◌≤◌, ◌+◌, ◌%◌, ◌^◌, suc, ℤ, pos, negsuc, List, [], ◌∷◌, ◌++◌, Bool, true, false, ◌==◌, ◌||◌, ◌&&◌, cond, nat_le, nat_lt, Some, refl, sym, ap, ◌∙◌, arith, ne_eqb, or_left, or_right, or_from, list_any, Plain, null, bool, int, text, list, dict, no_items, item, no_entries, entry, number_tree, content_of, IsWithin, IsNumber, IsJsonOf, text_at, Condensed, Lacks, IsCutAtFirst, beginning_at, beginning_in, beginning_of, Word}
+use Rattle.snap_mask.proofs.Prelude.{◌≡◌, ℕ, ◌<◌, ◌≤◌, ◌+◌, ◌%◌, ◌^◌, ℤ, pos, negsuc, List, [], ◌∷◌, ◌++◌, Bool, true, false, ◌==◌, ◌||◌, ◌&&◌, cond, nat_le, nat_lt, Some, refl, sym, ap, ◌∙◌, arith, ne_eqb, or_left, or_right, or_from, list_any, Plain, null, bool, int, text, list, dict, no_items, item, no_entries, entry, number_tree, content_of, IsWithin, IsNumber, IsJsonOf, text_at, Condensed, Lacks, IsCutAtFirst, beginning_at, beginning_in, beginning_of, Word}
 use Rattle.std.specs.Fmt.{decimal, signed_decimal}
 use Rattle.std.proofs.lemmas.Bool.Decides.{nat_tests}
 use Rattle.std.proofs.lemmas.Fmt.{decimal_by_steps_wide}

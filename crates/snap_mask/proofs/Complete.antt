@@ -1,5 +1,5 @@
 -- By the words, and by an input of JSON lines within the limits, without faults.
-use Rattle.snap_mask.proofs.Prelude.{◌≡◌, ◌⊎◌, ℕ, ◌+◌, ◌<◌, ◌≤◌, List, [], ◌∷◌, ◌++◌, Option, Some, length, refl, sym, ap, ◌∙◌, subst, inl, inr, arith, length-append, Plain, lines, line_limit, input_limit, ReplacementView, RefusesFor, IsNoJsonLine, StopsAt, IsTooLong, Leaves, Gave, is_input_too_long, LengthIs, LengthCause, rules_in}
+use Rattle.snap_mask.proofs.Prelude.{◌≡◌, ℕ, ◌+◌, ◌≤◌, List, [], ◌∷◌, ◌++◌, Option, Some, length, refl, ap, subst, inl, inr, arith, length-append, lines, input_limit, ReplacementView, RefusesFor, IsNoJsonLine, StopsAt, IsTooLong, Leaves, Gave, is_input_too_long, LengthIs, LengthCause, rules_in}
 use Rattle.snap_io.specs.Causes.{CountedIf, Rose}
 use Rattle.snap_mask.specs.Masked.{says_read_fault, says_write_fault}
 use Rattle.snap_mask.specs.Program.{RulesCause, IsTold, AreJson, IsProper, IsSteady, EndsWell}

@@ -1,6 +1,6 @@
 -- Rules that put texts and sort lists keep keys that JSON accepts, and numbers within 128 bits: a key that is hit becomes a text, one that isn't
 -- stays, and no number is made.
-use Rattle.snap_mask.proofs.Prelude.{◌≡◌, ℕ, ℤ, pos, negsuc, ◌^◌, suc, List, [], ◌∷◌, ◌++◌, Bool, true, false, ◌||◌, cond, nat_lt, Option, None, Some, refl, sym, ap, ◌∙◌, or_from, or_left, or_right, subst, some_same, option_map, option_and_then, bytes_eq, codes, Plain, null, bool, int, text, list, dict, Plains, no_items, item, Entries, no_entries, entry, number_tree, content_of, trees_made, pairs_made, has_refused, items_refused, entries_refused, is_refused, IsWithin, AreWithin, AreEntriesWithin, IsNumber, json_plain, json_plains, json_pairs, json_refuses, key_plain, json_key, Parts, ReplacementView, redacted_by, IsMasking, AreMasking, puts_text, sorts, rules_in, puts_in, sorts_in, rule_then, put_rule, sort_rule, selected}
+use Rattle.snap_mask.proofs.Prelude.{◌≡◌, ℕ, ℤ, pos, negsuc, ◌^◌, suc, List, [], ◌∷◌, ◌++◌, Bool, true, false, ◌||◌, cond, nat_lt, Option, None, Some, refl, sym, ap, ◌∙◌, or_from, or_left, or_right, subst, some_same, bytes_eq, codes, Plain, null, bool, int, text, list, dict, Plains, no_items, item, Entries, no_entries, entry, number_tree, content_of, trees_made, pairs_made, has_refused, items_refused, entries_refused, is_refused, IsWithin, AreWithin, AreEntriesWithin, IsNumber, json_plain, json_plains, json_pairs, json_refuses, key_plain, json_key, Parts, ReplacementView, redacted_by, IsMasking, AreMasking, puts_text, sorts, rules_in, puts_in, sorts_in, rule_then, put_rule, sort_rule, selected}
 use Rattle.std.specs.declared.cmp.Ordering.{Ordering}
 use Rattle.std.specs.Ordering.{is_lt}
 use Rattle.snap_content.specs.Tree as t

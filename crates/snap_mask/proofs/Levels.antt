@@ -1,5 +1,5 @@
 -- Rules that put texts and sort lists make no value deeper: a text nests in nothing, and a list in order holds what it held.
-use Rattle.snap_mask.proofs.Prelude.{◌≡◌, ◌≤◌, ℕ, ℤ, pos, negsuc, ◌^◌, suc, max, List, [], ◌∷◌, ◌++◌, Bool, true, false, cond, nat_lt, refl, sym, ap, subst, arith, codes, Plain, null, bool, int, text, list, dict, Plains, no_items, item, Entries, no_entries, entry, number_tree, content_of, trees_made, pairs_made, json_plain, json_plains, json_pairs, json_fields, key_plain, json_key, levels, item_levels, entry_levels, ReplacementView, redacted_by, IsMasking, AreMasking, puts_text, sorts}
+use Rattle.snap_mask.proofs.Prelude.{◌≡◌, ◌≤◌, ℕ, ℤ, pos, negsuc, ◌^◌, suc, max, List, [], ◌∷◌, ◌++◌, Bool, true, false, cond, nat_lt, refl, sym, ap, subst, arith, Plain, null, bool, int, text, list, dict, Plains, no_items, item, Entries, no_entries, entry, number_tree, content_of, trees_made, pairs_made, json_plain, json_plains, json_pairs, json_fields, levels, item_levels, entry_levels, ReplacementView, redacted_by, IsMasking, AreMasking, puts_text, sorts}
 use Rattle.std.proofs.Math.Nat.{le_refl, le_trans, le-max_left, le-max_right, max-le}
 use Rattle.snap_content.specs.Tree as t
 use Rattle.snap_content.specs.Orders.{tree_cmp}

@@ -1,5 +1,5 @@
 -- Lines of texts that are put together.
-use Rattle.snap_mask.proofs.Prelude.{◌≡◌, ◌==◌, ℕ, ◌+◌, ◌≤◌, List, [], ◌∷◌, ◌++◌, Bool, true, false, ◌&&◌, cond, length, refl, sym, ap, ◌∙◌, arith, append_assoc, length-append, ne_eqb, eq-eqb, Lacks, lines, onto, without_return, begins_line_end, AreShort, at_start, at_end}
+use Rattle.snap_mask.proofs.Prelude.{◌≡◌, ◌==◌, ℕ, ◌≤◌, List, [], ◌∷◌, ◌++◌, Bool, true, false, ◌&&◌, cond, length, refl, sym, ap, ◌∙◌, arith, append_assoc, ne_eqb, eq-eqb, Lacks, lines, onto, without_return, begins_line_end, AreShort, at_start, at_end}
 use Rattle.snap_str.proofs.LineTexts.{lines-line, lines-unbroken, without_return-push}
 
 -- lines of a text after whole lines

@@ -1,5 +1,5 @@
 -- What a line is read as, or why it is not.
-use Rattle.snap_mask.proofs.Prelude.{◌≡◌, ◌≢◌, ◌≤◌, nat_le, not, arith, has_long, levels, and_parts, ℕ, List, Bool, true, false, Option, None, Some, refl, sym, ap, ◌∙◌, subst, some_same, Plain, content_of, Tree, IsWithin, IsUtf8, chars, Lacks, IsJsonOf, is_bounded, json_text, json_refuses, Condensed, ReplacementView, redacted_by, AreMasking, json_plain, beginning_in, beginning_of, IsJsonLine, IsNoJsonLine, IsValueOf, IsRecordOf, IsReadAgainAs, RefusesValue, RefusesFor, parse_stop, json_stop}
+use Rattle.snap_mask.proofs.Prelude.{◌≡◌, ◌≤◌, nat_le, not, arith, has_long, levels, and_parts, ℕ, List, true, false, None, Some, refl, sym, ap, ◌∙◌, subst, some_same, Plain, content_of, Tree, IsWithin, IsUtf8, chars, Lacks, IsJsonOf, is_bounded, json_text, json_refuses, Condensed, ReplacementView, redacted_by, AreMasking, json_plain, beginning_in, beginning_of, IsJsonLine, IsNoJsonLine, IsValueOf, IsRecordOf, IsReadAgainAs, RefusesValue, RefusesFor, parse_stop, json_stop}
 use Rattle.std.specs.Prelude.{Err, IsErrOf}
 use Rattle.snap_content.specs.declared.error.Error.{Error}
 use Rattle.snap_content.specs.declared.error.Error.TheVariants as parse

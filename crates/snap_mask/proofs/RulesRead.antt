@@ -1,5 +1,5 @@
 -- The rules that words spell, read one by one.
-use Rattle.snap_mask.proofs.Prelude.{◌≡◌, ℕ, List, [], ◌∷◌, ◌++◌, Option, None, Some, Result, Ok, Err, IfOk, refl, sym, ap, ◌∙◌, append_assoc, append-nil, option_map, Parts, Selector, Replacement, ReplacementView, replacement_of, replacements_of, redacted_by, RedactedBy, redactions_of, Objects, Tree, tree, Redactions, rules_in, puts_in, rule_then, put_rule, IsFirst, AreRules, selected}
+use Rattle.snap_mask.proofs.Prelude.{◌≡◌, ℕ, List, [], ◌∷◌, ◌++◌, Option, None, Some, refl, sym, ap, ◌∙◌, append_assoc, append-nil, option_map, Parts, Selector, Replacement, ReplacementView, replacement_of, replacements_of, redacted_by, RedactedBy, redactions_of, Objects, Tree, tree, Redactions, rules_in, puts_in, rule_then, put_rule, IsFirst, AreRules, selected}
 use Rattle.snap_content.specs.Tree.{string}
 use Rattle.snap_select.specs.Grammar.{IsSelector}
 use Rattle.snap_select.specs.Replacements.{put_of}

@@ -1,5 +1,5 @@
 -- The records written so far, and how a run ends.
-use Rattle.snap_mask.proofs.Prelude.{◌≡◌, ℕ, suc, ◌+◌, ◌<◌, ◌≤◌, List, [], ◌∷◌, ◌++◌, Bool, true, false, Option, Some, Result, Ok, Err, length, take, refl, sym, ap, ◌∙◌, arith, append_assoc, append-nil, length-append, inl, inr, ◌⊎◌, subst, encode_utf8_all, Lacks, lines, without_return, GivesFront, HoldsFront, line_limit, input_limit, IsAhead, Spends, SpendsOf, IsEndedLine, IsLastLine, TakesLine, IsLong, BudgetEnd, LineEnd, Ended, Last, LineError, Fault, LineTooLong, InputTooLong, OutOfMemory, ReplacementView, Masks, AreShort, at_start, at_end, IsWritten, IsBegun, IsDone, StopsWithin, StopsAt, IsTooLong, Leaves, Gave, LengthIs, LengthCause, RecordEnds, RefusesRecord, IsRefused, line_read, status_of, refusal_of}
+use Rattle.snap_mask.proofs.Prelude.{◌≡◌, ℕ, suc, ◌+◌, ◌<◌, ◌≤◌, List, [], ◌∷◌, ◌++◌, Bool, true, false, Option, Some, Result, Ok, Err, length, take, refl, sym, ap, ◌∙◌, arith, append_assoc, append-nil, length-append, inl, inr, subst, encode_utf8_all, Lacks, lines, without_return, line_limit, input_limit, IsAhead, Spends, SpendsOf, TakesLine, IsLong, BudgetEnd, LineEnd, Ended, Last, LineError, Fault, LineTooLong, InputTooLong, OutOfMemory, ReplacementView, Masks, AreShort, at_start, at_end, IsWritten, IsBegun, IsDone, StopsWithin, StopsAt, IsTooLong, Leaves, Gave, LengthIs, LengthCause, RecordEnds, RefusesRecord, IsRefused, line_read, status_of, refusal_of}
 use Rattle.snap_str.proofs.LineTexts.{lines-line}
 use Rattle.snap_mask.specs.declared.record.RecordError.{RecordError}
 use Rattle.snap_mask.specs.declared.record.RecordError.TheVariants as error

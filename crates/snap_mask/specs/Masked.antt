@@ -1,5 +1,5 @@
 -- The records of lines, and what a whole run leaves.
-use Rattle.std.specs.Prelude.{◌≡◌, ◌⊎◌, ◌+◌, ◌<◌, ◌≤◌, ℕ, suc, Bool, true, false, List, [], ◌∷◌, ◌++◌, length, Option, None, Some, encode_utf8_all}
+use Rattle.std.specs.Prelude.{◌≡◌, ◌⊎◌, ◌+◌, ◌<◌, ◌≤◌, ℕ, suc, Bool, true, false, List, [], ◌∷◌, ◌++◌, length, Option, Some, encode_utf8_all}
 use Rattle.snap_str.specs.Lines.{lines}
 use Rattle.snap_str.specs.Cut.{Lacks}
 use Rattle.snap_io.specs.Streams.{GivesFront, HoldsFront}

@@ -1,5 +1,5 @@
 -- The values that lines are, and their records.
-use Rattle.std.specs.Prelude.{◌≡◌, ℕ, true, false, List, Some, encode_utf8_all}
+use Rattle.std.specs.Prelude.{◌≡◌, ℕ, true, false, List, Some}
 use Rattle.std.specs.Str.{IsUtf8, chars}
 use Rattle.snap_content.specs.Plain.{Plain, content_of}
 use Rattle.snap_print.specs.Readable.{IsWithin}

@@ -1,4 +1,4 @@
-use Rattle.snap_front.proofs.Prelude.{◌≡◌, ◌<◌, ◌≤◌, rules, chars, sym, ap, ◌∙◌, refl, length, position, tree, pair_trees, Map}
+use Rattle.snap_front.proofs.Prelude.{◌≡◌, ◌≤◌, rules, chars, sym, ap, ◌∙◌, refl, length, position, tree, pair_trees, Map}
 use Rattle.snap_front.proofs.Placed.{is_at, nil_of, not_nil}
 use Rattle.snap_front.proofs.Taken.{pairs_removed, pair_taken, pairs_gone, items_removed, item_removed, items_gone, map_removed}
 use Rattle.snap_content.specs.Tree as t

@@ -1,4 +1,4 @@
-use Rattle.snap_front.proofs.Prelude.{length, sym, ap, ◌∙◌}
+use Rattle.snap_front.proofs.Prelude.{[], ap, ◌∙◌}
 use Rattle.std.specs.Prelude.{map}
 use Rattle.snap_content.specs.List.{items_of}
 use Rattle.snap_front.specs.Commands.{command_of, reply_of}
@@ -18,15 +18,19 @@ loop-command-preserved c = (
       (ap (map reply_of) c.in_ok-push.ensures.ok ∙ pushed (items_of c.loop-command.replies) c.in_ok-apply.field-0) c.loop-command.invariant.2 (c.in_ok-apply.ensures.again c.loop-command.invariant.1),
 )
 
-pub returns : goal.returns
-returns c =
-    let ran = at-end (map command_of c.args.commands.now) c.args.commands.now c.loop-command.command-index (docs_of c.loop-command.store) (map reply_of (items_of c.loop-command.replies)) c.loop-command-test.false
-    c.loop-command.invariant.0 in
-    record {
-      runs = ran;
-      one = λ docs replies reads run.
-          one-run _ docs (docs_of c.loop-command.store) (map command_of c.args.commands.now) replies (map reply_of (items_of c.loop-command.replies)) reads run ran;
-      bodies = λ name words last.
-          last-put _ (docs_of c.loop-command.store) (map command_of c.args.commands.now) (map reply_of (items_of c.loop-command.replies)) name words ran last;
-      again = c.loop-command.invariant.2;
-    }
+pub returns-clause-runs : goal.returns-clause-runs
+returns-clause-runs c =
+    at-end (map command_of c.args.commands.now) c.args.commands.now c.loop-command.command-index (docs_of c.loop-command.store) (map reply_of (items_of c.loop-command.replies)) c.loop-command-test.false c.loop-command.invariant.0
+
+pub returns-clause-one : goal.returns-clause-one
+returns-clause-one c = λ docs replies reads run.
+    one-run [] docs (docs_of c.loop-command.store) (map command_of c.args.commands.now) replies (map reply_of (items_of c.loop-command.replies)) reads run
+    (at-end (map command_of c.args.commands.now) c.args.commands.now c.loop-command.command-index (docs_of c.loop-command.store) (map reply_of (items_of c.loop-command.replies)) c.loop-command-test.false c.loop-command.invariant.0)
+
+pub returns-clause-bodies : goal.returns-clause-bodies
+returns-clause-bodies c = λ name words last.
+    last-put [] (docs_of c.loop-command.store) (map command_of c.args.commands.now) (map reply_of (items_of c.loop-command.replies)) name words
+    (at-end (map command_of c.args.commands.now) c.args.commands.now c.loop-command.command-index (docs_of c.loop-command.store) (map reply_of (items_of c.loop-command.replies)) c.loop-command-test.false c.loop-command.invariant.0) last
+
+pub returns-clause-again : goal.returns-clause-again
+returns-clause-again c = c.loop-command.invariant.2

@@ -1,4 +1,4 @@
-use Rattle.snap_mask.proofs.Prelude.{◌≡◌, ◌++◌, [], length, refl, sym, ap, ◌∙◌, false, arith, line_read, LineEnd, Err}
+use Rattle.snap_mask.proofs.Prelude.{◌≡◌, ◌++◌, length, refl, sym, ap, ◌∙◌, false, arith, line_read, LineEnd, Err}
 use Rattle.snap_io_lines.proofs.Pieces.{spends_none, spends_then, an_error}
 use Rattle.snap_mask.proofs.Runs.{so_far_start, leaves_error, leaves_stop, not_words_error, not_words_stop, length_done, length_error, length_stop, all_read, still_ahead, is_done, goes_on, record_of_read}
 use Rattle.snap_mask.proofs.masking.mask_lines.Goals as goal

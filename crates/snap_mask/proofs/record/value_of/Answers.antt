@@ -1,4 +1,4 @@
-use Rattle.snap_mask.proofs.Prelude.{ap, sym, ◌∙◌, chars, tree}
+use Rattle.snap_mask.proofs.Prelude.{sym, ◌∙◌, tree}
 use Rattle.std.proofs.lemmas.Result.{IfErr-weaker}
 use Rattle.snap_mask.proofs.LinesRead.{nul_held, begins_badly, misfit_refused}
 use Rattle.snap_mask.proofs.record.value_of.Goals as goal

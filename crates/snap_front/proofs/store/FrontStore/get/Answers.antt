@@ -1,4 +1,4 @@
-use Rattle.snap_front.proofs.Prelude.{sym, ap, ◌∙◌, refl, position, tree, get_tree, steps_of}
+use Rattle.snap_front.proofs.Prelude.{sym, ap, ◌∙◌, refl, position, get_tree, steps_of}
 use Rattle.snap_front.specs.Commands.{no_name, given, absent}
 use Rattle.snap_front.specs.Documents.{document_in}
 use Rattle.snap_front.specs.Heads.{found}

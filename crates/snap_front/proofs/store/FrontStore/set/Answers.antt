@@ -1,7 +1,7 @@
 use Rattle.snap_front.proofs.Prelude.{sym, ap, ◌∙◌, refl, position, subst, tree, steps_of}
 use Rattle.snap_content.specs.Plain.{plain, content_of}
 use Rattle.snap_content.specs.Tree.{Tree}
-use Rattle.snap_front.specs.Commands.{ReplyView, done, no_name, reply_of, refusal_of}
+use Rattle.snap_front.specs.Commands.{ReplyView, done, no_name, reply_of}
 use Rattle.snap_front.specs.Documents.{document_in, with_document}
 use Rattle.snap_front.specs.Heads.{IsChanged, set_head}
 use Rattle.snap_front.specs.Stored.{docs_of, is_named, seen}
