@@ -32,8 +32,8 @@ pub use Rattle.snap_assert_settings.specs.Replaced.{ReplacementView, replacement
 pub use Rattle.snap_assert_settings.specs.declared.redactions.Redactions.{Redactions}
 pub use Rattle.snap_mask.specs.Rules.{put_rule, sort_rule, rule_then, rules_in, puts_in, sorts_in, IsFirst, IsMasking, AreMasking, AreRules}
 pub use Rattle.snap_mask.specs.Rules.IsMasking.{puts_text, sorts}
-pub use Rattle.snap_mask.specs.Beginning.{beginning_at, beginning_in, beginning_of}
-pub use Rattle.snap_mask.specs.declared.beginning.Beginning.TheVariants.{Word}
+pub use Rattle.snap_mask.specs.Beginning.{beginning_at, beginning_in, beginning_of, digit_in_front}
+pub use Rattle.snap_mask.specs.declared.beginning.Beginning.TheVariants.{Number}
 pub use Rattle.snap_mask.specs.Records.{IsJsonLine, IsNoJsonLine, IsValueOf, IsRecordOf, IsReadAgainAs, RefusesValue, RefusesFor, parse_stop, json_stop}
 pub use Rattle.snap_mask.specs.Masked.{Masks, AreShort, IsWritten, IsBegun, IsDone, StopsWithin, StopsAt, IsTooLong, Leaves, LeavesOf, Gave, is_input_too_long, LengthIs, LengthCause, ReadCause}
 pub use Rattle.snap_mask.specs.Masked.AreShort.{at_start, at_end}
