@@ -102,7 +102,7 @@ pub read_again : (rules : List ReplacementView) (t : Plain) (line given : List �
     → has_long (json_plain (redacted_by rules (content_of t))) ≡ false → IsReadAgainAs (json_plain (redacted_by rules (content_of t))) given
 read_again rules t line given m j made short =
     let less : levels (json_plain (redacted_by rules (content_of t))) ≤ levels t =
-      subst (λ n. levels (json_plain (redacted_by rules (content_of t))) ≤ n) (made_levels t) (rules_add_none rules (content_of t) m) in
+    subst (λ n. levels (json_plain (redacted_by rules (content_of t))) ≤ n) (made_levels t) (rules_add_none rules (content_of t) m) in
     record {
       within = kept_within rules t m j.within j.json.0;
       json = (
