@@ -50,7 +50,7 @@ fn depth_after(event: &Event<'_>, depth: usize) -> usize {
 fn scalar_kind(style: TScalarStyle, tag: &Option<Tag>) -> Kind {
     match (style, tag) {
         (TScalarStyle::Plain, None) => Kind::Plain,
-        (TScalarStyle::Plain, Some(tag)) if is_same(tag.handle.as_str(), "!!") => Kind::Plain,
+        (TScalarStyle::Plain, Some(tag)) if is_same(tag.handle().as_str(), "!!") => Kind::Plain,
         _ => Kind::Quoted,
     }
 }
