@@ -25,6 +25,7 @@ use Rattle.snap_run_requests.specs.declared.fault.RequestError.{RequestError}
 use Rattle.snap_run_requests.specs.declared.fault.RequestError.TheVariants as request
 use Rattle.snap_run_requests.specs.declared.fault.Reason.{Reason}
 use Rattle.snap_run.specs.Refused.{unread, unanswered, kind_of}
+use Rattle.snap_run.specs.Runs.{is_sink_fault}
 use Rattle.snap_run.specs.declared.document_error.DocumentError.TheVariants as error
 use Rattle.snap_run.specs.declared.status.RefusalKind.{RefusalKind}
 use Rattle.snap_run.specs.declared.status.RefusalKind.TheVariants as kind
@@ -279,3 +280,17 @@ stays_same f listed m told covered n now = let same : m ≡ n = some_same m n (s
 pub on_ok : {T E : Type 0} → {P : Type 0} → (result : Result T E) → P → OnOk result P
 on_ok (Ok value) h = h
 on_ok (Err e) h = tt
+
+sink_stays : (words : RunWords) (e : DocumentError) (a : AssertionView) (session : SessionView) (f g : Option Files) (count : ℕ) → AssertionStops words e a session f g
+    → CountedIf (is_sink_fault e) count count
+sink_stays words error.NoRequest a session f g count stops = absurd stops
+sink_stays words (error.Refused kind) a session f g count stops = refl
+sink_stays words (error.FileIo named) a session f g count stops = refl
+sink_stays words error.WriteFault a session f g count stops = absurd stops
+sink_stays words error.OutOfMemory a session f g count stops = refl
+
+-- an assertion that comes to no answer leaves the count of the sink's faults, whatever is known of the files
+pub sink_is_left : (words : RunWords) (e : DocumentError) (a : AssertionView) (session : SessionView) (f known g : Option Files) (count : ℕ)
+    → IsSeenFrom f known (λ files. AssertionStops words e a session files g) → CountedIf (is_sink_fault e) count count
+sink_is_left words e a session f known g count (inl stops) = sink_stays words e a session f g count stops
+sink_is_left words e a session f known g count (inr stops) = sink_stays words e a session known g count stops

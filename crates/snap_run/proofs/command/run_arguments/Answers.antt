@@ -1,5 +1,7 @@
 use Rattle.snap_run.proofs.Prelude.{◌∙◌, ap, Some, inl, subst, IsRunOf, outside}
 use Rattle.snap_run.specs.Program.{words_or_none}
+use Rattle.snap_run.specs.declared.status.Status.TheVariants.{BadWords}
+use Rattle.snap_run.proofs.RunEnds.{no_texts}
 use Rattle.snap_run.proofs.command.run_arguments.Goals as goal
 
 pub returns-in-Ok-Some : goal.returns-in-Ok-Some
@@ -9,3 +11,10 @@ returns-in-Ok-Some g c =
     (outside (g.F.Store.files c.run.new.store) (g.K.Sink.written c.run.new.sink)))
     (ap Some c.deref.ensures.value ∙ words)
     (record { words_cause = c.run.ensures.words; told = c.run.ensures.told; runs = c.run.ensures.runs }))
+
+pub returns-in-Ok-None : goal.returns-in-Ok-None
+returns-in-Ok-None g c =
+    let none = rw c.in-Ok-None.field-0-is at c.in-Ok-None.ensures.given in
+    let before = outside (g.F.Store.files c.args.store.now) (g.K.Sink.written c.args.sink.now) in
+    inl (subst (λ given. IsRunOf (words_or_none given) BadWords (g.S.Source.left c.args.source.now) before before) none
+    (no_texts (g.S.Source.left c.args.source.now) before))

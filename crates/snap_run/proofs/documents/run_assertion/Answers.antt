@@ -1,7 +1,7 @@
-use Rattle.snap_run.proofs.Prelude.{inr, sym, ◌∙◌, ap, encode_utf8_all, encodes-chars, words_of}
+use Rattle.snap_run.proofs.Prelude.{None, inr, sym, ◌∙◌, ap, encode_utf8_all, encodes-chars, words_of}
 use Rattle.std.proofs.lemmas.Result.{err_from_is_err_and}
 use Rattle.snap_run_requests.specs.RequestOf.{assertion_of}
-use Rattle.snap_run.proofs.DocumentEnds.{document_ran, line_fails, no_line, assertion_stops}
+use Rattle.snap_run.proofs.DocumentEnds.{document_ran, line_fails, no_line, assertion_stops, sink_is_left}
 use Rattle.snap_run.proofs.documents.run_assertion.Goals as goal
 
 pub returns-in_err-outcome-clause-err : goal.returns-in_err-outcome-clause-err
@@ -27,3 +27,10 @@ returns-in_err-write_all-clause-err g c =
     rw (told.1, told.2) (λ document known reads held. inr
     (line_fails (words_of c.args.runner.now) (assertion_of c.args.assertion) c.in_ok-outcome.outcome c.in_ok-line.line c.as_bytes.result.now _ _ known _ _ _ (c.in_ok-outcome.ensures.ok known held) c.in_ok-line.ensures
     (c.as_bytes.ensures.value ∙ sym (encodes-chars c.as_str.result.now c.as_str.utf8) ∙ ap encode_utf8_all c.as_str.ensures) c.in_err-write_all.ensures.part document reads))
+
+pub returns-in_err-outcome-clause-sink_count : goal.returns-in_err-outcome-clause-sink_count
+returns-in_err-outcome-clause-sink_count g c =
+    let told = err_from_is_err_and c.from_residual.result c.from_residual.ensures.1 in
+    rw (told.1, told.2)
+    (sink_is_left (words_of c.args.runner.now) c.in_err-outcome.field-0.0 (assertion_of c.args.assertion) _ _ _ _ (g.K.Sink.faults c.args.sink.now)
+    (c.in_err-outcome.ensures.err None (λ m none. absurd (cc none))))
