@@ -3,6 +3,7 @@ use Rattle.std.specs.Prelude.{◌<◌, ◌^◌, ℤ, pos, negsuc, Bool, true, fa
 use Rattle.snap_content.specs.Plain.{Plain, null, bool, int, text, list, dict, Plains, no_items, item, Entries, no_entries, entry}
 use Rattle.snap_content.specs.Quotes.{needs_quotes}
 
+-- a whole number has at most 128 bits: from -2^127 to 2^128 - 1
 abbrev pub IsNumber : ℤ → Type 0
 IsNumber (pos n) = n < 2 ^ 128
 IsNumber (negsuc n) = n < 2 ^ 127
