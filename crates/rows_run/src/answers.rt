@@ -1,6 +1,6 @@
 //! What a run leaves, as columns.
-use crate::columns::add_bytes;
 use rows::{add_number_column, add_text_column};
+use rows_outside::add_bytes;
 use snap_content::Text;
 use snap_io::Store;
 use snap_run::Status;

@@ -1,38 +1,22 @@
 //! Runs over forms of which a call may fail.
 use crate::answers::{add_ending, add_files};
-use crate::cases::{Case, case_of, files_of, input_of, words_of};
+use crate::cases::{Case, case_of, files_of};
 use rows::add_number_column;
+use rows_outside::{input_of, sink_of, source_of, words_of};
 use snap_content::{OutOfMemory, Text};
-use snap_io::{MemorySink, MemorySource, MemoryStore};
+use snap_io::MemoryStore;
 use snap_run::run;
 use std::alloc::Global;
 
 /// The store of the files before.
 fn store_of(alloc: Global, case: Case<'_>) -> Result<MemoryStore, OutOfMemory> {
-    let failing = vec![in alloc; case.outside.store]?;
+    let failing = vec![in alloc; u64::from(case.store)]?;
     let mut store = MemoryStore::new(alloc);
     for (path, bytes) in files_of(alloc, case.files)? {
         store.put(&path, bytes.as_str().as_bytes())?;
     }
     store.fail_at(failing);
     Ok(store)
-}
-
-/// The source of the input.
-fn source_of(alloc: Global, case: Case<'_>) -> Result<MemorySource, OutOfMemory> {
-    let failing = vec![in alloc; case.outside.read]?;
-    let input = input_of(alloc, case.input)?;
-    let mut source = MemorySource::new(input, case.outside.piece);
-    source.fail_at(failing);
-    Ok(source)
-}
-
-/// The sink of the lines.
-fn sink_of(alloc: Global, case: Case<'_>) -> Result<MemorySink, OutOfMemory> {
-    let failing = vec![in alloc; case.outside.write]?;
-    let mut sink = MemorySink::new(alloc);
-    sink.fail_at(failing);
-    Ok(sink)
 }
 
 /// Runs over the store, and adds how that ended.
@@ -42,9 +26,9 @@ fn add_run(
     case: Case<'_>,
     store: &mut MemoryStore,
 ) -> Result<(), anyhow::Error> {
-    let words = words_of(alloc, case.words)?;
-    let mut source = source_of(alloc, case)?;
-    let mut sink = sink_of(alloc, case)?;
+    let words = words_of(alloc, case.words, ' ')?;
+    let mut source = source_of(alloc, case.outside, input_of(alloc, case.input)?)?;
+    let mut sink = sink_of(alloc, case.outside)?;
     let status = run(alloc, &words, &mut source, &mut sink, store);
     add_ending(alloc, line, &status, sink.written())
 }
@@ -71,7 +55,7 @@ fn runs_line(
     store: &mut MemoryStore,
 ) -> Result<Text, anyhow::Error> {
     let mut line = Text::empty();
-    for _run in 0..case.outside.times {
+    for _run in 0..case.times {
         add_run(alloc, &mut line, case, store)?;
     }
     add_store(alloc, &mut line, store)?;

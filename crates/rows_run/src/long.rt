@@ -2,8 +2,8 @@
 ghost use Rattle.std.specs.Prelude.{None};
 
 use crate::answers::add_ending;
-use crate::cases::words_of;
 use rows::{add_number_column, first_column};
+use rows_outside::words_of;
 use snap_content::Text;
 use snap_io::{Fault, MemorySink, MemoryStore, Source};
 use snap_run::{Status, run};
@@ -31,7 +31,7 @@ impl Source for LineEnds {
 /// How a run over so many line ends ends, how many files there are then, and how many line ends were not read.
 pub(crate) fn long_line(alloc: Global, columns: &str) -> Result<Text, anyhow::Error> {
     let (words, digits) = first_column(columns);
-    let words = words_of(alloc, words)?;
+    let words = words_of(alloc, words, ' ')?;
     let mut source = LineEnds {
         left: digits.parse().unwrap_or(0),
     };

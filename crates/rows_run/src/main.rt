@@ -19,7 +19,6 @@
 
 mod answers;
 mod cases;
-mod columns;
 mod faulty;
 mod long;
 mod requests;

@@ -1,6 +1,6 @@
 //! Documents that are requests, and why others are none.
-use crate::cases::input_of;
 use rows::{add_number_column, add_text_column};
+use rows_outside::input_of;
 use snap_content::{OutOfMemory, Text};
 use snap_emit::Refusal;
 use snap_run_requests::{KeyFault, Reason, RedactionFault, RequestError, read_request};

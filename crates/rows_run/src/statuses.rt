@@ -1,6 +1,6 @@
 //! The text of each status.
-use crate::columns::add_bytes;
 use rows::{add_number_column, add_text_column, first_column, text_of};
+use rows_outside::add_bytes;
 use snap_content::{OutOfMemory, Text};
 use snap_io::SteadySink;
 use snap_run::command::conclude;

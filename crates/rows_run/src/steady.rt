@@ -1,7 +1,8 @@
 //! Runs over forms that never fail.
 use crate::answers::{add_ending, add_files};
-use crate::cases::{Case, case_of, files_of, input_of, words_of};
+use crate::cases::{Case, case_of, files_of};
 use rows::add_number_column;
+use rows_outside::{input_of, words_of};
 use snap_content::{OutOfMemory, Text};
 use snap_io::{SteadySink, SteadySource, SteadyStore};
 use snap_run::run;
@@ -23,7 +24,7 @@ fn add_run(
     case: Case<'_>,
     store: &mut SteadyStore,
 ) -> Result<(), anyhow::Error> {
-    let words = words_of(alloc, case.words)?;
+    let words = words_of(alloc, case.words, ' ')?;
     let mut source = SteadySource::new(input_of(alloc, case.input)?, case.outside.piece);
     let mut sink = SteadySink::new(alloc);
     let status = run(alloc, &words, &mut source, &mut sink, store);
@@ -43,7 +44,7 @@ fn runs_line(
     store: &mut SteadyStore,
 ) -> Result<Text, anyhow::Error> {
     let mut line = Text::empty();
-    for _run in 0..case.outside.times {
+    for _run in 0..case.times {
         add_run(alloc, &mut line, case, store)?;
     }
     add_number_column(alloc, &mut line, "files", store.len() as u64)?;
