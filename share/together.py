@@ -33,6 +33,7 @@ class Function:
         self.first = at
         while self.first and re.match(r" *(#\[|///)", lines[self.first - 1]):
             self.first -= 1
+        self.calls_itself = bool(re.search(rf"\b{self.name}\(", "\n".join(lines[at + 1 : self.last])))
         cycle = CYCLE.search("\n".join(lines[self.first : at]))
         self.cycle, self.block = cycle and cycle[1], block if indent else None
         self.is_law, self.first = lines[self.last - 1].strip() == "{}", self.first + 1
@@ -138,6 +139,9 @@ class Crate:
         for it in functions.values():
             is_checked = it in changed or it.cycle in cycles or it.file in whole
             if is_checked or it.is_law or not it.is_named or not it.proof or it.name == "main":
+                continue
+            # The proof of a function that calls itself has another place. Where nothing is written of it, that is left to the prover.
+            if it.calls_itself and not it.cycle:
                 continue
             at = Path(self.folder, "proofs", *it.proof)
             at.mkdir(parents=True, exist_ok=True)
