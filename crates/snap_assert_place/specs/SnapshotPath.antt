@@ -48,6 +48,14 @@ abbrev pub path_of : SettingsView → PlaceView → List ℕ → List ℕ
 path_of settings place name =
     joined (joined (joined place.workspace (parent_of place.file)) settings.snapshot_path) (file_name settings place name)
 
+-- the name of the file that keeps the records of a source file's literals
+abbrev pub records_name : List ℕ → List ℕ
+records_name name = codes "." ++ (name ++ codes ".pending-snap")
+
+-- the path of that file: the workspace joined with the source file, whose last component `f` is `.f.pending-snap` there
+abbrev pub records_path : PlaceView → List ℕ
+records_path place = joined (parent_of (joined place.workspace place.file)) (records_name (unwrap_or (name_of place.file) []))
+
 -- the input file, joined to the workspace, as it is seen from there; none where it isn't below it
 abbrev pub input_seen : PlaceView → Option (List ℕ) → Option (List ℕ)
 input_seen place None = None

@@ -1,7 +1,7 @@
 //! Laws of what a place and a path are, and worked examples.
 ghost use Rattle.std.specs.Prelude.{◌≡◌, ◌++◌, ◌∷◌, ℕ, List, [], Some, true, false, codes};
 ghost use Rattle.snap_assert_place.specs.Place.{PlaceView, holds_slash, last_part};
-ghost use Rattle.snap_assert_place.specs.SnapshotPath.{path_of};
+ghost use Rattle.snap_assert_place.specs.SnapshotPath.{path_of, records_path};
 ghost use Rattle.snap_assert_place.specs.Names.{holds_colons, last_name, is_test, without_test, base_of};
 ghost use Rattle.snap_assert_settings.specs.Settings.{new_settings};
 
@@ -33,4 +33,10 @@ pub const fn worked_examples()
         { workspace = codes "w"; function = []; module_name = codes "m"; file = codes "src/a.rs" })
         (codes "one")
         ≡ codes "w/src/snapshots/m__one.snap" }
+    ensures records { (place : PlaceView) → records_path
+        (record place { workspace = codes "w"; file = codes "src/a.rs" })
+        ≡ codes "w/src/.a.rs.pending-snap" }
+    ensures alone { (place : PlaceView) → records_path
+        (record place { workspace = codes "/"; file = codes "a.rs" })
+        ≡ codes "/.a.rs.pending-snap" }
 {}

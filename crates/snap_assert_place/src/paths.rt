@@ -5,7 +5,7 @@ ghost use Rattle.std.specs.Str.{chars};
 ghost use Rattle.std.specs.List.{flat_map};
 ghost use Rattle.snap_assert_settings.specs.Settings.{settings_of};
 ghost use Rattle.snap_assert_place.specs.Place.{place_of};
-ghost use Rattle.snap_assert_place.specs.SnapshotPath.{flat_character, dotless_character, flat_module, is_doctest, file_of_doctest, place_prefix, file_prefix, file_name, path_of};
+ghost use Rattle.snap_assert_place.specs.SnapshotPath.{flat_character, dotless_character, flat_module, is_doctest, file_of_doctest, place_prefix, file_prefix, file_name, path_of, records_name, records_path};
 
 use crate::below::path_below;
 use crate::front::behind_ascii;
@@ -13,7 +13,7 @@ use crate::place::Place;
 use snap_assert_settings::settings::Settings;
 use snap_content::characters::split_first;
 use snap_content::{OutOfMemory, Text};
-use snap_path::{path_name, path_parent};
+use snap_path::{path_join, path_name, path_parent};
 use std::alloc::Global;
 
 /// Adds a name without its slashes and backslashes.
@@ -172,4 +172,26 @@ pub fn snapshot_path(
         settings.snapshot_folder(),
         &file,
     )
+}
+
+/// The name of the file that keeps the records of the literals of the assertion's file.
+fn records_file_name(alloc: Global, place: &Place) -> Result<Text, OutOfMemory>
+    ensures { IfOk result (λ name. name
+        ≡ records_name (unwrap_or (name_of (place_of place.now).file) [])) }
+{
+    let mut name = Text::from_ascii(alloc, ".")?;
+    name.push_str(alloc, name_of_file(place))?;
+    name.push_ascii(alloc, ".pending-snap")?;
+    Ok(name)
+}
+
+/// The path of the file that keeps the records of the literals of the assertion's file: beside that file, below the workspace. The one
+/// error is out of memory.
+pub fn records_path(alloc: Global, place: &Place) -> Result<Text, OutOfMemory>
+    ensures { IfOk result (λ path. path ≡ records_path (place_of place.now)) }
+{
+    let file = path_join(alloc, place.workspace(), place.file())?;
+    let folder = path_parent(alloc, &file)?;
+    let name = records_file_name(alloc, place)?;
+    path_join(alloc, &folder, &name)
 }
