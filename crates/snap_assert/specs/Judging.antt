@@ -1,4 +1,4 @@
--- When a tree passes against a file.
+-- When a tree passes against a file, and when it passes fully.
 use Rattle.std.specs.Prelude.{◌≡◌, ◌↔◌, ◌⊎◌, ℕ, Bool, true, false, List, Option, None}
 use Rattle.snap_content.specs.Plain.{Plain, dict, Entries}
 use Rattle.snap_print.specs.Readable.{IsWithin}
@@ -7,9 +7,13 @@ use Rattle.snap_print.specs.Lines.{text_of}
 use Rattle.snap_text.specs.Legacy.{legacy}
 use Rattle.snap_text.specs.Normal.{normal}
 use Rattle.snap_store.specs.FileSplit.{is_headed, body_of}
-use Rattle.snap_store.specs.Fields.{is_binary, kind_in}
+use Rattle.snap_store.specs.Fields.{is_binary, kind_in, fields}
 use Rattle.snap_store.specs.Image.{file_of}
+use Rattle.snap_store.specs.Meta.{Meta, legacy_meta}
 use Rattle.snap_store.specs.Reading.{IsTextFile, HasHeader, IsNoText}
+use Rattle.snap_store.specs.declared.metadata.SnapshotKind.TheVariants.{Text}
+use Rattle.snap_assert.specs.Default.{SameMeta}
+use Rattle.snap_assert.specs.Steps.{Asked}
 
 -- the file's body agrees with the text
 pub record BodyAgrees (file : Option (List ℕ)) (printed : List ℕ) : Type 0 where
@@ -73,6 +77,27 @@ pub record IsSavedFor (file : Option (List ℕ)) (w : Blocks) (tree : Plain) : T
   pub within : IsWithin tree
   pub there : IsTextFile file (file_of (dict entries) w tree)
 
+-- the header is printed of a dict or spells one that tells these metadata, which are those of a text
+pub record HeaderGives (file : Option (List ℕ)) (told : Meta) : Type 0 where
+  pub whole : List ℕ
+  pub there : IsTextFile file whole
+  pub entries : Entries
+  pub header : HasHeader whole (dict entries)
+  pub not_binary : is_binary entries ≡ false
+  pub told_is : told ≡ fields entries Text
+
+-- the file is of the oldest format, and its first lines tell these metadata
+pub record LinesGive (file : Option (List ℕ)) (told : Meta) : Type 0 where
+  pub whole : List ℕ
+  pub there : IsTextFile file whole
+  pub unheaded : is_headed whole ≡ false
+  pub told_is : told ≡ legacy_meta whole
+
+-- the file's body has the normal form of the text, and the metadata that it tells are the new ones but for the line
+pub record MatchesAll (file : Option (List ℕ)) (told new : Meta) (printed : List ℕ) : Type 0 where
+  pub body : BodyMatches file printed
+  pub metadata : SameMeta told new
+
 -- whether a tree, printed with literal blocks or without, may pass against a file
 pub record May (passed : Bool) (file : Option (List ℕ)) (w : Blocks) (tree : Plain) : Type 0 where
   -- never without a file
@@ -89,3 +114,23 @@ pub record May (passed : Bool) (file : Option (List ℕ)) (w : Blocks) (tree : P
   pub unread : IsUnread file → passed ≡ false
   -- against a file that was saved for a tree in the same way exactly where both trees are equal
   pub saved : (stored : Plain) → IsSavedFor file w stored → IsWithin tree → (passed ≡ true) ↔ (stored ≡ tree)
+
+-- whether a tree, printed with literal blocks or without, may pass fully against a file, under these metadata
+pub record MayFully (passed : Bool) (file : Option (List ℕ)) (meta : Meta) (w : Blocks) (tree : Plain) : Type 0 where
+  -- never without a file
+  pub absent : file ≡ None → passed ≡ false
+  -- only where the stored body has the normal form of the tree's text
+  pub matches : passed ≡ true → BodyMatches file (text_of w tree)
+  -- under the header of a text exactly where the metadata match too
+  pub headed : (told : Meta) → HeaderGives file told → (passed ≡ true) ↔ MatchesAll file told meta (text_of w tree)
+  -- and so without a header
+  pub legacy : (told : Meta) → LinesGive file told → (passed ≡ true) ↔ MatchesAll file told meta (text_of w tree)
+  -- never where the header says binary
+  pub binary : HasBinaryHeader file → passed ≡ false
+  -- nor where the file isn't understood
+  pub unread : IsUnread file → passed ≡ false
+
+-- whether what is asked may pass against the file, fully where that is asked
+abbrev pub Allowed : Bool → Asked → Bool → Option (List ℕ) → Type 0
+Allowed true asked passed file = MayFully passed file asked.meta asked.blocks asked.tree
+Allowed false asked passed file = May passed file asked.blocks asked.tree

@@ -1,6 +1,8 @@
 pub mod Session
 pub mod Names
 pub mod Blocks
+pub mod Relations
+pub mod Default
 pub mod Judging
 pub mod Steps
 pub mod Kept

@@ -1,10 +1,13 @@
 //! One assertion over a store: what it leaves and answers is one stated step. The clauses of `assert_content` say so.
 //!
 //! In the order in which data flows: `session` (what is remembered), `names` (the name that is taken), `kept` (what an open block keeps),
-//! `duplicates` (a block round a closure), `prepare`, `judge`, `strays`, `listed` and `look` (what is there), `settle` and `removal` (what is left), `engine`
+//! `duplicates` (a block round a closure), `comparator` and `default` with `same_metadata` (whether a new snapshot matches an old one),
+//! `prepare`, `judge`, `strays`, `listed` and `look` (what is there), `settle` and `removal` (what is left), `engine`
 //! (one assertion), `outcome` and `error` (its answer), `laws`.
 #![tactic(auto)]
 
+pub mod comparator;
+pub mod default;
 pub mod duplicates;
 pub mod engine;
 pub mod error;
@@ -17,10 +20,13 @@ mod names;
 pub mod outcome;
 mod prepare;
 mod removal;
+mod same_metadata;
 pub mod session;
 mod settle;
 mod strays;
 
+pub use comparator::Comparator;
+pub use default::DefaultComparator;
 pub use duplicates::with_allow_duplicates;
 pub use engine::{assert_content, assert_listed};
 pub use error::{AssertError, DuplicateKey};
