@@ -1,15 +1,21 @@
 -- What a reading of a file says of a pass.
-use Rattle.snap_assert.proofs.Prelude.{◌≡◌, ◌↔◌, inl, inr, IsTrue, ℕ, Bool, true, false, cond, List, Option, None, Some, refl, sym, ap, ◌∙◌, subst, codes, Plain, dict, Entries, Blocks, is_trimmed, text_of, Error, FailedParsingYaml, UnexpectedDataType, MissingField, FileIo, FloatText, JsonKey, NotText, NoFile, OutOfMemory, raw_of, kind_of, compared_as, legacy_as, TextSnapshotKind, File, legacy, Agree, is_headed, body_of, Meta, IsTextFile, HasHeader, HoldsBody, IsReadAs, IsRefused, Tells, meta_in, contents_in, legacy_in, text_in, IsFileText, SnapshotContents, Text, Binary, SnapshotKind, Snapshot, BodyAgrees, HasTextHeader, HasBinaryHeader, IsLegacyFile, IsUnread, May, some_same, false_from_ne_true}
+use Rattle.snap_assert.proofs.Prelude.{◌≡◌, ◌↔◌, inl, inr, IsTrue, ℕ, Bool, true, false, cond, List, Option, None, Some, refl, sym, ap, ◌∙◌, subst, codes, Plain, dict, Entries, Blocks, is_trimmed, text_of, Error, FailedParsingYaml, UnexpectedDataType, MissingField, FileIo, FloatText, JsonKey, NotText, NoFile, OutOfMemory, raw_of, kind_of, compared_as, legacy_as, TextSnapshotKind, File, legacy, Agree, is_headed, body_of, Meta, IsTextFile, HasHeader, HoldsBody, IsReadAs, IsRefused, Tells, meta_in, contents_in, legacy_in, text_in, IsFileText, SnapshotContents, Text, Binary, SnapshotKind, Snapshot, BodyAgrees, BodyMatches, HasTextHeader, HasBinaryHeader, IsLegacyFile, IsUnread, HeaderGives, LinesGive, MatchesAll, May, MayFully, Allowed, Asked, some_same, false_from_ne_true, normal}
 use Rattle.snap_text.proofs.Agreeing.{files_older}
 use Rattle.snap_content.specs.Plain.{pairs_made}
 use Rattle.snap_fields.specs.Fields.{text_at}
-use Rattle.snap_store.specs.Fields.{is_binary, kind_in, binary_kind}
+use Rattle.snap_store.specs.Fields.{is_binary, kind_in, binary_kind, fields}
+use Rattle.snap_store.specs.Meta.{legacy_meta}
+use Rattle.snap_store.specs.Views.{SnapshotView, snapshot_of}
+use Rattle.snap_assert.specs.Assertions.{new_contents}
+use Rattle.snap_assert.specs.Default.{SameMeta, MetaCounts, MatchFully, default_relation}
+use Rattle.snap_assert.specs.Prepared.{new_view}
+use Rattle.snap_assert.proofs.HeldTexts.{fresh, full_held, held_full, full_binary}
 use Rattle.snap_store.specs.declared.metadata.SnapshotKind.TheVariants as kind
 use Rattle.snap_store.proofs.Readings.{one_text, no_text_file, text_or_none, one_reading, headed_or_not, entries_same}
 use Rattle.snap_assert.proofs.Saved.{against_saved}
 
 -- a pass that is decided by three facts and three refusals
-pub judged : (passed : Bool) (file : Option (List ℕ)) (w : Blocks) (tree : Plain) → is_trimmed w ≡ true → (file ≡ None → passed ≡ false)
+judged : (passed : Bool) (file : Option (List ℕ)) (w : Blocks) (tree : Plain) → is_trimmed w ≡ true → (file ≡ None → passed ≡ false)
     → (passed ≡ true → BodyAgrees file (text_of w tree)) → (HasTextHeader file → BodyAgrees file (text_of w tree) → passed ≡ true)
     → (IsLegacyFile file → BodyAgrees file (text_of w tree) → passed ≡ true) → (HasBinaryHeader file → passed ≡ false)
     → (IsUnread file → passed ≡ false) → May passed file w tree
@@ -23,12 +29,26 @@ judged passed file w tree trimmed absent agrees headed legacy binary unread = re
   saved = against_saved passed file w tree trimmed agrees headed;
 }
 
+-- what a header gives is that of a text, and what lines give is of the oldest format
+given_header : (file : Option (List ℕ)) (told : Meta) → HeaderGives file told → HasTextHeader file
+given_header file told h = record { whole = h.whole; there = h.there; entries = h.entries; header = h.header; not_binary = h.not_binary }
+
+given_lines : (file : Option (List ℕ)) (told : Meta) → LinesGive file told → IsLegacyFile file
+given_lines file told h = record { whole = h.whole; there = h.there; unheaded = h.unheaded }
+
 -- no pass, where the file has not the header of a text
-pub no_pass : (file : Option (List ℕ)) (w : Blocks) (tree : Plain) → is_trimmed w ≡ true → (HasTextHeader file → ⊥) → (IsLegacyFile file → ⊥) → May false file w tree
+no_pass : (file : Option (List ℕ)) (w : Blocks) (tree : Plain) → is_trimmed w ≡ true → (HasTextHeader file → ⊥) → (IsLegacyFile file → ⊥) → May false file w tree
 no_pass file w tree trimmed none headed = judged false file w tree trimmed (λ e. refl) (λ e. cc) (λ h b. absurd (none h)) (λ h b. absurd (headed h)) (λ h. refl) (λ h. refl)
 
-pub no_file : (file : Option (List ℕ)) (w : Blocks) (tree : Plain) → is_trimmed w ≡ true → file ≡ None → May false file w tree
-no_file file w tree trimmed none = no_pass file w tree trimmed (λ h. no_text_file file h.whole none h.there) (λ h. no_text_file file h.whole none h.there)
+no_full_pass : (file : Option (List ℕ)) (meta : Meta) (w : Blocks) (tree : Plain) → (HasTextHeader file → ⊥) → (IsLegacyFile file → ⊥) → MayFully false file meta w tree
+no_full_pass file meta w tree none headed = record {
+  absent = λ e. refl;
+  matches = λ e. absurd (cc e);
+  headed = λ told h. (λ e. absurd (cc e), λ m. absurd (none (given_header file told h)));
+  legacy = λ told h. (λ e. absurd (cc e), λ m. absurd (headed (given_lines file told h)));
+  binary = λ h. refl;
+  unread = λ h. refl;
+}
 
 -- no file with a header is one of the oldest format
 has_header : (file : Option (List ℕ)) (text : List ℕ) → IsTextFile file text → is_headed text ≡ true → IsLegacyFile file → ⊥
@@ -40,19 +60,26 @@ kind_of_text b extension h = ap (λ c. cond c (binary_kind extension) (Some kind
 text_kind : (entries : Entries) → is_binary entries ≡ false → kind_in entries ≡ Some kind.Text
 text_kind entries h = kind_of_text (is_binary entries) (text_at (codes "extension") (pairs_made entries)) h
 
--- a refusal of the file is no pass
-pub refused_no_pass : (path : List ℕ) (file : Option (List ℕ)) (w : Blocks) (tree : Plain) (error : Error) → is_trimmed w ≡ true → IsRefused path file error
-    → ((named : List ℕ) → error ≡ FileIo named → ⊥) → (error ≡ OutOfMemory → ⊥) → May false file w tree
-refused_no_pass path file w tree (NoFile named) trimmed h io memory = no_file file w tree trimmed h.1
-refused_no_pass path file w tree (NotText named) trimmed h io memory = no_pass file w tree trimmed (λ k. text_or_none file k.whole h.1 k.there) (λ k. text_or_none file k.whole h.1 k.there)
-refused_no_pass path file w tree (FailedParsingYaml named) trimmed h io memory =
-    no_pass file w tree trimmed (λ k. h.1.unspelled (dict k.entries) (subst (λ t. HasHeader t (dict k.entries)) (one_text file k.whole h.1.text k.there h.1.there) k.header))
+-- a file that is refused has neither the header of a text nor none
+pub record IsShut (file : Option (List ℕ)) : Type 0 where
+  pub unheaded : HasTextHeader file → ⊥
+  pub headed : IsLegacyFile file → ⊥
+
+shut : (file : Option (List ℕ)) → (HasTextHeader file → ⊥) → (IsLegacyFile file → ⊥) → IsShut file
+shut file none other = record { unheaded = none; headed = other }
+
+refused_shut : (path : List ℕ) (file : Option (List ℕ)) (error : Error) → IsRefused path file error
+    → ((named : List ℕ) → error ≡ FileIo named → ⊥) → (error ≡ OutOfMemory → ⊥) → IsShut file
+refused_shut path file (NoFile named) h io memory = shut file (λ k. no_text_file file k.whole h.1 k.there) (λ k. no_text_file file k.whole h.1 k.there)
+refused_shut path file (NotText named) h io memory = shut file (λ k. text_or_none file k.whole h.1 k.there) (λ k. text_or_none file k.whole h.1 k.there)
+refused_shut path file (FailedParsingYaml named) h io memory =
+    shut file (λ k. h.1.unspelled (dict k.entries) (subst (λ t. HasHeader t (dict k.entries)) (one_text file k.whole h.1.text k.there h.1.there) k.header))
     (has_header file h.1.text h.1.there h.1.headed)
-refused_no_pass path file w tree UnexpectedDataType trimmed h io memory =
-    no_pass file w tree trimmed (λ k. h.other k.entries (one_reading file h.text k.whole h.tree (dict k.entries) h.there h.header k.there k.header).tree)
+refused_shut path file UnexpectedDataType h io memory =
+    shut file (λ k. h.other k.entries (one_reading file h.text k.whole h.tree (dict k.entries) h.there h.header k.there k.header).tree)
     (has_header file h.text h.there h.header.headed)
-refused_no_pass path file w tree MissingField trimmed h io memory =
-    no_pass file w tree trimmed (λ k.
+refused_shut path file MissingField h io memory =
+    shut file (λ k.
     let same : h.entries ≡ k.entries = entries_same h.entries k.entries (one_reading file h.text k.whole (dict h.entries) (dict k.entries) h.there h.header k.there k.header).tree in
     let text = text_kind k.entries k.not_binary in
     let lacking = h.lacking in
@@ -61,14 +88,22 @@ refused_no_pass path file w tree MissingField trimmed h io memory =
   where
     clash : (a b : Entries) → a ≡ b → kind_in a ≡ None → kind_in b ≡ Some kind.Text → ⊥
     clash a b same none some = let e = sym none ∙ ap kind_in same ∙ some in cc e
-refused_no_pass path file w tree (FileIo named) trimmed h io memory = absurd (io named refl)
-refused_no_pass path file w tree (FloatText named) trimmed h io memory = absurd h
-refused_no_pass path file w tree JsonKey trimmed h io memory = absurd h
-refused_no_pass path file w tree OutOfMemory trimmed h io memory = absurd (memory refl)
+refused_shut path file (FileIo named) h io memory = absurd (io named refl)
+refused_shut path file (FloatText named) h io memory = absurd h
+refused_shut path file JsonKey h io memory = absurd h
+refused_shut path file OutOfMemory h io memory = absurd (memory refl)
+
+-- a refusal of the file is no pass
+pub refused_no_pass : (fully : Bool) (asked : Asked) (path : List ℕ) (file : Option (List ℕ)) (error : Error) → is_trimmed asked.blocks ≡ true → IsRefused path file error
+    → ((named : List ℕ) → error ≡ FileIo named → ⊥) → (error ≡ OutOfMemory → ⊥) → Allowed fully asked false file
+refused_no_pass false asked path file error trimmed h io memory =
+    let s = refused_shut path file error h io memory in no_pass file asked.blocks asked.tree trimmed s.unheaded s.headed
+refused_no_pass true asked path file error trimmed h io memory =
+    let s = refused_shut path file error h io memory in no_full_pass file asked.meta asked.blocks asked.tree s.unheaded s.headed
 
 -- a file that was read: a text passes where the contents agree, and a payload never does
-pub record Compares (passed : Bool) (old new : SnapshotContents) (printed : List ℕ) : Type 0 where
-  pub tells : IsTrue passed ↔ Agree old new
+pub record Compares (passed : Bool) (k : SnapshotKind) (old new : SnapshotContents) (printed : List ℕ) : Type 0 where
+  pub tells : IsTrue passed ↔ (Agree old new × (k ≡ kind.Text))
   pub printed_is : text_in new ≡ Some printed
   pub in_file : IsFileText new
 
@@ -148,14 +183,14 @@ read_or_unread file false text meta kept there t (inr (inr h)) =
 
 -- a text that was read passes where its body agrees
 agreement_passes : (file : Option (List ℕ)) (w : Blocks) (tree : Plain) (snapshot : Snapshot) (new : SnapshotContents) (passed : Bool) (r : IsReadAs file snapshot)
-    → Compares passed (contents_in snapshot) new (text_of w tree) → (meta_in snapshot).kind ≡ kind.Text → BodyAgrees file (text_of w tree) → passed ≡ true
+    → Compares passed (meta_in snapshot).kind (contents_in snapshot) new (text_of w tree) → (meta_in snapshot).kind ≡ kind.Text → BodyAgrees file (text_of w tree) → passed ≡ true
 agreement_passes file w tree snapshot new passed r c text b =
     let body : legacy (body_of r.text) ≡ legacy (text_of w tree) = ap (λ t. legacy (body_of t)) (one_text file r.text b.whole r.there b.there) ∙ b.same in
     let Holds : SnapshotKind → Type 0 = λ k. HoldsBody k (body_of r.text) (contents_in snapshot) in
-    c.tells.1 (agrees_held (body_of r.text) (text_of w tree) (contents_in snapshot) new (subst Holds text r.contents) c.printed_is c.in_file body)
+    c.tells.1 (agrees_held (body_of r.text) (text_of w tree) (contents_in snapshot) new (subst Holds text r.contents) c.printed_is c.in_file body, text)
 
-pub read_judged : (file : Option (List ℕ)) (w : Blocks) (tree : Plain) (snapshot : Snapshot) (new : SnapshotContents) (passed : Bool) → is_trimmed w ≡ true → IsReadAs file snapshot
-    → Compares passed (contents_in snapshot) new (text_of w tree) → May passed file w tree
+read_judged : (file : Option (List ℕ)) (w : Blocks) (tree : Plain) (snapshot : Snapshot) (new : SnapshotContents) (passed : Bool) → is_trimmed w ≡ true → IsReadAs file snapshot
+    → Compares passed (meta_in snapshot).kind (contents_in snapshot) new (text_of w tree) → May passed file w tree
 read_judged file w tree snapshot new passed trimmed r c =
     let meta = meta_in snapshot in
     let was = legacy_in snapshot in
@@ -164,11 +199,68 @@ read_judged file w tree snapshot new passed trimmed r c =
     (λ yes. record {
       whole = r.text;
       there = r.there;
-      same = held_agrees meta.kind (body_of r.text) (text_of w tree) (contents_in snapshot) new r.contents c.printed_is c.in_file (c.tells.0 yes);
+      same = held_agrees meta.kind (body_of r.text) (text_of w tree) (contents_in snapshot) new r.contents c.printed_is c.in_file (c.tells.0 yes).0;
     })
     (λ h b. agreement_passes file w tree snapshot new passed r c (kind_headed file was r.text meta _ r.there r.metadata h) b)
     (λ h b. agreement_passes file w tree snapshot new passed r c (kind_legacy file was r.text meta _ r.there r.metadata h) b)
     (λ h.
     let found = kind_binary file was r.text meta _ r.there r.metadata h in
-    false_from_ne_true passed (λ yes. no_agreement meta.kind (body_of r.text) (text_of w tree) (contents_in snapshot) new found.0 found.1 r.contents c.printed_is (c.tells.0 yes)))
+    false_from_ne_true passed (λ yes. no_agreement meta.kind (body_of r.text) (text_of w tree) (contents_in snapshot) new found.0 found.1 r.contents c.printed_is (c.tells.0 yes).0))
     (λ h. absurd (read_or_unread file was r.text meta _ r.there r.metadata h))
+
+-- a header that was read gives the metadata that were read
+told_headed : (file : Option (List ℕ)) (was : Bool) (text : List ℕ) (meta told : Meta) (kept : Bool) → IsTextFile file text → Tells was text meta kept → HeaderGives file told → told ≡ meta
+told_headed file false text meta told kept there t h =
+    let one = one_reading file text h.whole (dict t.entries) (dict h.entries) there t.header h.there h.header in
+    let entries : t.entries ≡ h.entries = entries_same t.entries h.entries one.tree in
+    let text_is : t.kind ≡ kind.Text = same_kind t.kind kind.Text (sym t.kind_is ∙ ap kind_in entries ∙ text_kind h.entries h.not_binary) in
+    h.told_is ∙ ap (λ e. fields e kind.Text) (sym entries) ∙ ap (fields t.entries) (sym text_is) ∙ sym t.meta_is
+told_headed file true text meta told kept there t h = absurd (headed_or_not file h.whole text h.there there h.header.headed t.unheaded)
+
+told_legacy : (file : Option (List ℕ)) (was : Bool) (text : List ℕ) (meta told : Meta) (kept : Bool) → IsTextFile file text → Tells was text meta kept → LinesGive file told → told ≡ meta
+told_legacy file false text meta told kept there t h = absurd (headed_or_not file text h.whole there h.there t.header.headed h.unheaded)
+told_legacy file true text meta told kept there t h = h.told_is ∙ ap legacy_meta (one_text file h.whole text h.there there) ∙ sym t.meta_is
+
+-- the text of a file passes fully where the body and the metadata match
+matches_all : (file : Option (List ℕ)) (w : Blocks) (tree : Plain) (snapshot : Snapshot) (told meta : Meta) (passed : Bool) (r : IsReadAs file snapshot)
+    → IsTrue passed ↔ MatchFully (contents_in snapshot) (fresh (text_of w tree)) (meta_in snapshot) meta → told ≡ meta_in snapshot → (meta_in snapshot).kind ≡ kind.Text
+    → (passed ≡ true) ↔ MatchesAll file told meta (text_of w tree)
+matches_all file w tree snapshot told meta passed r tells told_is text =
+    let Holds : SnapshotKind → Type 0 = λ k. HoldsBody k (body_of r.text) (contents_in snapshot) in (
+      λ yes.
+          let m = full_held (meta_in snapshot).kind (body_of r.text) (text_of w tree) (contents_in snapshot) (meta_in snapshot) meta r.contents (tells.0 yes) in
+          record { body = record { whole = r.text; there = r.there; same = m.0 }; metadata = subst (λ t. SameMeta t meta) (sym told_is) m.1 },
+      λ m.
+          let body : normal (body_of r.text) ≡ normal (text_of w tree) = ap (λ t. normal (body_of t)) (one_text file r.text m.body.whole r.there m.body.there) ∙ m.body.same in
+          tells.1 (held_full (body_of r.text) (text_of w tree) (contents_in snapshot) (meta_in snapshot) meta (subst Holds text r.contents) body (subst (λ t. SameMeta t meta) told_is m.metadata)),
+    )
+
+full_judged : (file : Option (List ℕ)) (meta : Meta) (w : Blocks) (tree : Plain) (snapshot : Snapshot) (passed : Bool) (r : IsReadAs file snapshot)
+    → IsTrue passed ↔ MatchFully (contents_in snapshot) (fresh (text_of w tree)) (meta_in snapshot) meta → MayFully passed file meta w tree
+full_judged file meta w tree snapshot passed r tells =
+    let old = meta_in snapshot in
+    let was = legacy_in snapshot in
+    record {
+      absent = λ none. absurd (no_text_file file r.text none r.there);
+      matches = λ yes. record {
+        whole = r.text;
+        there = r.there;
+        same = (full_held old.kind (body_of r.text) (text_of w tree) (contents_in snapshot) old meta r.contents (tells.0 yes)).0;
+      };
+      headed = λ told h. matches_all file w tree snapshot told meta passed r tells (told_headed file was r.text old told _ r.there r.metadata h)
+          (kind_headed file was r.text old _ r.there r.metadata (given_header file told h));
+      legacy = λ told h. matches_all file w tree snapshot told meta passed r tells (told_legacy file was r.text old told _ r.there r.metadata h)
+          (kind_legacy file was r.text old _ r.there r.metadata (given_lines file told h));
+      binary = λ h.
+          let found = kind_binary file was r.text old _ r.there r.metadata h in
+          false_from_ne_true passed (λ yes. full_binary old.kind (body_of r.text) (text_of w tree) (contents_in snapshot) old meta found.0 found.1 r.contents (tells.0 yes));
+      unread = λ h. absurd (read_or_unread file was r.text old _ r.there r.metadata h);
+    }
+
+-- a text of a file against what the default comparator says of the snapshot that was read
+pub read_allowed : (fully : Bool) (asked : Asked) (file : Option (List ℕ)) (snapshot : Snapshot) (passed : Bool) → is_trimmed asked.blocks ≡ true → asked.meta.kind ≡ kind.Text
+    → IsReadAs file snapshot → IsTrue passed ↔ default_relation fully (snapshot_of snapshot) (new_view asked) → Allowed fully asked passed file
+read_allowed false asked file snapshot passed trimmed text r tells =
+    read_judged file asked.blocks asked.tree snapshot (new_contents asked) passed trimmed r
+    (record { tells = (λ yes. ((tells.0 yes).0, (tells.0 yes).1 ∙ text), λ both. tells.1 (both.0, both.1 ∙ sym text)); printed_is = refl; in_file = refl })
+read_allowed true asked file snapshot passed trimmed text r tells = full_judged file asked.meta asked.blocks asked.tree snapshot passed r tells

@@ -1,6 +1,7 @@
 mod Prelude
 mod Below
 mod Saved
+mod HeldTexts
 mod Judgements
 mod StrayPaths
 mod Removals
@@ -18,3 +19,4 @@ mod Printing
 mod NameSteps
 pub mod GivenNames
 mod Calls
+mod SameInfo

@@ -1,12 +1,17 @@
 -- What was seen of a file, and of what is asked.
-use Rattle.snap_assert.proofs.Prelude.{◌≡◌, ℕ, Bool, true, false, List, [], ◌∷◌, Option, Some, Result, Ok, Err, refl, sym, ap, ◌∙◌, subst, inl, inr, IfOk, get, is_trimmed, text_of, Error, FailedParsingYaml, UnexpectedDataType, MissingField, FileIo, FloatText, JsonKey, NotText, NoFile, OutOfMemory, Files, Agree, raw_of, kind_of, compared_as, compared_of, TextSnapshotKind, File, normal, body_of, Meta, IsTextFile, IsReadAs, IsReadFrom, IsRefused, HoldsBody, Tells, meta_in, contents_in, legacy_in, number_text_in, text_in, IsFileText, SnapshotContents, Text, Binary, SnapshotKind, Snapshot, May, Asked, AreWarnings, PassWarns, IsHeadedFile, IsNotUnderstood, IsPrepared, IsJudged, TextsMatch, TextsDiffer, OlderAs, NoPass, RefusedEnd, IsCompared, SpeakOfOne, said_if, said, NamesOnly, AssertError, Judged, Prepared, some_same}
+use Rattle.snap_assert.proofs.Prelude.{◌≡◌, ◌↔◌, IsTrue, ℕ, Bool, true, false, List, [], ◌∷◌, Option, Some, Result, Ok, Err, refl, sym, ap, ◌∙◌, subst, inl, inr, IfOk, get, is_trimmed, text_of, Error, FailedParsingYaml, UnexpectedDataType, MissingField, FileIo, FloatText, JsonKey, NotText, NoFile, OutOfMemory, Files, Agree, normal, body_of, Meta, IsTextFile, IsReadAs, IsReadFrom, IsRefused, Tells, meta_in, contents_in, legacy_in, number_text_in, Snapshot, Allowed, Asked, new_contents, AreWarnings, PassWarns, IsHeadedFile, IsNotUnderstood, IsPrepared, IsJudged, OlderAs, NoPass, RefusedEnd, IsCompared, SpeakOfOne, said_if, said, NamesOnly, AssertError, Judged, Prepared}
 use Rattle.snap_content.specs.List.{items_of}
-use Rattle.snap_assert.proofs.Printing.{printed_text, printed_in_file}
+use Rattle.snap_store.specs.Reading.{FileEnd}
+use Rattle.snap_store.specs.Views.{snapshot_of}
 use Rattle.snap_store.specs.declared.metadata.SnapshotKind.TheVariants as kind
+use Rattle.snap_assert.specs.Default.{default_relation}
+use Rattle.snap_assert.specs.Prepared.{JudgedBy, new_view}
+use Rattle.snap_assert.specs.Relations.{Relation}
 use Rattle.snap_assert.specs.declared.error.AssertError.TheVariants as stop
 use Rattle.snap_assert.specs.declared.outcome.Warning.{Warning}
 use Rattle.snap_assert.specs.declared.outcome.Warning.TheVariants.{Unreadable, LegacyContents}
-use Rattle.snap_assert.proofs.Judgements.{read_judged, refused_no_pass}
+use Rattle.snap_assert.proofs.HeldTexts.{fresh, full_agrees, pass_matches, pass_differs}
+use Rattle.snap_assert.proofs.Judgements.{read_allowed, refused_no_pass}
 use Rattle.snap_store.proofs.Readings.{one_text}
 
 no_warning : (path : List ℕ) (file : Option (List ℕ)) (passed : Bool) (printed : List ℕ) (ws : List Warning) → ws ≡ [] → AreWarnings path file passed printed [] → AreWarnings path file passed printed ws
@@ -16,42 +21,19 @@ one_warning : (path : List ℕ) (file : Option (List ℕ)) (passed : Bool) (prin
     → AreWarnings path file passed printed ws
 one_warning path file passed printed ws error one none h = let P : List Warning → Type 0 = λ w. AreWarnings path file passed printed w in subst P (sym one) (none, h)
 
--- what is compared of a file's text
-held_text : (k : TextSnapshotKind) (raw body : List ℕ) → raw ≡ body → k ≡ File → compared_as k raw ≡ body
-held_text k raw body is file = ap (λ x. compared_as x raw) file ∙ is
-
-matches_held : (k : SnapshotKind) (body printed : List ℕ) (old new : SnapshotContents) → HoldsBody k body old → text_in new ≡ Some printed → Agree old new → TextsMatch (text_in old) (text_in new)
-    → normal body ≡ normal printed
-matches_held kind.Text body printed (Text held) (Text fresh) h e a t =
-    ap normal (sym (held_text (kind_of held) (raw_of held) body h.0 h.1)) ∙ t ∙ ap normal (some_same (compared_of fresh) printed e)
-matches_held kind.Text body printed (Text held) (Binary payload) h e a t = absurd a
-matches_held kind.Text body printed (Binary payload) new h e a t = absurd h
-matches_held (kind.Binary extension) body printed (Text held) new h e a t = absurd h
-matches_held (kind.Binary extension) body printed (Binary payload) (Text fresh) h e a t = absurd a
-matches_held (kind.Binary extension) body printed (Binary payload) (Binary other) h e a t = absurd (cc)
-
-differs_held : (k : SnapshotKind) (body printed : List ℕ) (old new : SnapshotContents) → HoldsBody k body old → text_in new ≡ Some printed → TextsDiffer (text_in old) (text_in new)
-    → normal body ≡ normal printed → ⊥
-differs_held kind.Text body printed (Text held) (Text fresh) h e d n =
-    d (ap normal (held_text (kind_of held) (raw_of held) body h.0 h.1) ∙ n ∙ ap normal (sym (some_same (compared_of fresh) printed e)))
-differs_held kind.Text body printed (Text held) (Binary payload) h e d n = d
-differs_held kind.Text body printed (Binary payload) new h e d n = absurd h
-differs_held (kind.Binary extension) body printed (Text held) new h e d n = absurd h
-differs_held (kind.Binary extension) body printed (Binary payload) new h e d n = d
-
 -- what is said of a pass
-warned_pass : (file : Option (List ℕ)) (snapshot : Snapshot) (new : SnapshotContents) (passed older : Bool) (printed : List ℕ) → IsReadAs file snapshot
-    → text_in new ≡ Some printed → (passed ≡ true → Agree (contents_in snapshot) new) → OlderAs passed older (text_in (contents_in snapshot)) (text_in new)
+warned_pass : (file : Option (List ℕ)) (snapshot : Snapshot) (passed older : Bool) (printed : List ℕ) → IsReadAs file snapshot
+    → (passed ≡ true → Agree (contents_in snapshot) (fresh printed)) → OlderAs passed older (contents_in snapshot) (fresh printed)
     → PassWarns file passed printed (said_if older LegacyContents)
-warned_pass file snapshot new passed false printed r e agrees how = λ yes. record {
+warned_pass file snapshot passed false printed r agrees how = λ yes. record {
   whole = r.text;
   there = r.there;
-  same = matches_held (meta_in snapshot).kind (body_of r.text) printed (contents_in snapshot) new r.contents e (agrees yes) (how yes);
+  same = pass_matches (meta_in snapshot).kind (body_of r.text) printed (contents_in snapshot) r.contents (agrees yes) (how yes);
 }
-warned_pass file snapshot new passed true printed r e agrees how = (
+warned_pass file snapshot passed true printed r agrees how = (
   how.0,
   λ b.
-      differs_held (meta_in snapshot).kind (body_of r.text) printed (contents_in snapshot) new r.contents e how.1
+      pass_differs (meta_in snapshot).kind (body_of r.text) printed (contents_in snapshot) r.contents how.1
       (ap (λ t. normal (body_of t)) (one_text file r.text b.whole r.there b.there) ∙ b.same),
 )
 
@@ -67,89 +49,109 @@ warned_file path file false true older passed text printed meta there t h = (hea
 warned_file path file false false false passed text printed meta there t h = inr (headed_file file text meta false there t, h)
 warned_file path file false false true passed text printed meta there t h = inr (headed_file file text meta false there t, h)
 
+-- what the default comparator tells implies that the contents agree
+default_agrees : (fully : Bool) (asked : Asked) (snapshot : Snapshot) → default_relation fully (snapshot_of snapshot) (new_view asked) → Agree (contents_in snapshot) (new_contents asked)
+default_agrees false asked snapshot h = h.0
+default_agrees true asked snapshot h = full_agrees (contents_in snapshot) (text_of asked.blocks asked.tree) (meta_in snapshot) asked.meta h
+
+-- by what was read, and how it was compared, it may pass
+pub judged_allowed : (fully : Bool) (asked : Asked) (m : Files) (judged : Judged) → is_trimmed asked.blocks ≡ true → asked.meta.kind ≡ kind.Text
+    → IsJudged (default_relation fully) asked m judged → Allowed fully asked judged.passed (get m asked.path)
+judged_allowed fully asked m judged trimmed text j = by_read j.read j.end j.comes_to
+  where
+    none : (error : Error) → IsRefused asked.path (get m asked.path) error → ((named : List ℕ) → error ≡ FileIo named → ⊥) → (error ≡ OutOfMemory → ⊥) → judged.passed ≡ false
+        → Allowed fully asked judged.passed (get m asked.path)
+    none error h io memory e =
+        subst (λ b. Allowed fully asked b (get m asked.path)) (sym e) (refused_no_pass fully asked asked.path (get m asked.path) error trimmed h io memory)
+
+    by_read : (read : Result Snapshot Error) → FileEnd asked.path (get m asked.path) read → JudgedBy (default_relation fully) read (new_view asked) judged
+        → Allowed fully asked judged.passed (get m asked.path)
+    by_read (Ok snapshot) r c = read_allowed fully asked (get m asked.path) snapshot judged.passed trimmed text r c.passes
+    by_read (Err (NoFile named)) h c = none (NoFile named) h (λ n e. cc e) (λ e. cc e) c.0
+    by_read (Err (NotText named)) h c = none (NotText named) h (λ n e. cc e) (λ e. cc e) c.0
+    by_read (Err (FailedParsingYaml named)) h c = none (FailedParsingYaml named) h (λ n e. cc e) (λ e. cc e) c.0
+    by_read (Err UnexpectedDataType) h c = none UnexpectedDataType h (λ n e. cc e) (λ e. cc e) c.0
+    by_read (Err MissingField) h c = none MissingField h (λ n e. cc e) (λ e. cc e) c.0
+    by_read (Err (FileIo named)) h c = absurd c
+    by_read (Err OutOfMemory) h c = absurd c
+    by_read (Err (FloatText named)) h c = absurd c
+    by_read (Err JsonKey) h c = absurd c
+
+-- and this is said
+pub judged_warned : (fully : Bool) (asked : Asked) (m : Files) (judged : Judged) → IsJudged (default_relation fully) asked m judged
+    → AreWarnings asked.path (get m asked.path) judged.passed (text_of asked.blocks asked.tree) (items_of judged.warnings)
+judged_warned fully asked m judged j = by_read j.read j.end j.comes_to
+  where
+    printed : List ℕ
+    printed = text_of asked.blocks asked.tree
+
+    file : Option (List ℕ)
+    file = get m asked.path
+
+    one : (error : Error) → items_of judged.warnings ≡ Unreadable error ∷ [] → judged.passed ≡ false → IsNotUnderstood asked.path file error
+        → AreWarnings asked.path file judged.passed printed (items_of judged.warnings)
+    one error is none h = one_warning asked.path file judged.passed printed (items_of judged.warnings) error is none h
+
+    by_read : (read : Result Snapshot Error) → FileEnd asked.path file read → JudgedBy (default_relation fully) read (new_view asked) judged
+        → AreWarnings asked.path file judged.passed printed (items_of judged.warnings)
+    by_read (Ok snapshot) r c =
+        let pass = warned_pass file snapshot judged.passed c.older printed r (λ yes. default_agrees fully asked snapshot (c.passes.0 yes)) c.older_is in
+        subst (λ ws. AreWarnings asked.path file judged.passed printed ws) (sym c.said_is)
+        (warned_file asked.path file (legacy_in snapshot) (number_text_in snapshot) c.older judged.passed r.text printed (meta_in snapshot) r.there r.metadata pass)
+    by_read (Err (NoFile named)) h c = no_warning asked.path file judged.passed printed (items_of judged.warnings) c.1 (inl (h.1, refl))
+    by_read (Err (NotText named)) h c = one (NotText named) c.1 c.0 h
+    by_read (Err (FailedParsingYaml named)) h c = one (FailedParsingYaml named) c.1 c.0 h
+    by_read (Err UnexpectedDataType) h c = one UnexpectedDataType c.1 c.0 h
+    by_read (Err MissingField) h c = one MissingField c.1 c.0 h
+    by_read (Err (FileIo named)) h c = absurd c
+    by_read (Err OutOfMemory) h c = absurd c
+    by_read (Err (FloatText named)) h c = absurd c
+    by_read (Err JsonKey) h c = absurd c
+
+-- of one reading
+pub judged_of_one : (relation : Relation) (asked : Asked) (m : Files) (judged : Judged) → IsJudged relation asked m judged → SpeakOfOne asked.path (get m asked.path) judged.passed (items_of judged.warnings)
+judged_of_one relation asked m judged j = by_read j.read j.end j.comes_to
+  where
+    by_read : (read : Result Snapshot Error) → FileEnd asked.path (get m asked.path) read → JudgedBy relation read (new_view asked) judged
+        → SpeakOfOne asked.path (get m asked.path) judged.passed (items_of judged.warnings)
+    by_read (Ok snapshot) r c = record { read = Ok snapshot; end = r; says = (c.older, c.said_is) }
+    by_read (Err error) h c = record { read = Err error; end = h; says = c }
+
 -- a file that was read is judged by the comparison
-read_compared : (asked : Asked) (m : Files) (file : Option (List ℕ)) (snapshot : Snapshot) (new : SnapshotContents) (judged : Judged)
-    → is_trimmed asked.blocks ≡ true → file ≡ get m asked.path → IsReadAs file snapshot → text_in new ≡ Some (text_of asked.blocks asked.tree) → IsFileText new → IsCompared (legacy_in snapshot) (number_text_in snapshot) (contents_in snapshot) new judged
-    → IsJudged asked m judged
-read_compared asked m file snapshot new judged trimmed is r printed in_file c =
-    let May_at : Option (List ℕ) → Type 0 = λ f. May judged.passed f asked.blocks asked.tree in
-    let Warned_at : Option (List ℕ) → Type 0 = λ f. AreWarnings asked.path f judged.passed (text_of asked.blocks asked.tree) (items_of judged.warnings) in
-    let Warned_by : List Warning → Type 0 = λ ws. AreWarnings asked.path file judged.passed (text_of asked.blocks asked.tree) ws in
-    let pass = warned_pass file snapshot new judged.passed c.older (text_of asked.blocks asked.tree) r printed (λ yes. c.tells.0 yes) c.older_is in
-    let warned = warned_file asked.path file (legacy_in snapshot) (number_text_in snapshot) c.older judged.passed r.text (text_of asked.blocks asked.tree) (meta_in snapshot) r.there r.metadata pass in
-    record {
-      allowed = subst May_at is (read_judged file asked.blocks asked.tree snapshot new judged.passed trimmed r (record { tells = c.tells; printed_is = printed; in_file = in_file }));
-      warned = subst Warned_at is (subst Warned_by (sym c.said_is) warned);
-      one = subst (λ f. SpeakOfOne asked.path f judged.passed (items_of judged.warnings)) is (record { read = Ok snapshot; end = r; says = (c.older, c.said_is) });
-    }
+pub judge_read : (relation : Relation) (asked : Asked) (m : Files) (prepared : Prepared) (files : Option Files) (snapshot : Snapshot) (judged : Judged)
+    → IsPrepared asked prepared → files ≡ Some m → IsReadFrom prepared.path files (Ok snapshot)
+    → IsCompared relation (snapshot_of snapshot) (snapshot_of prepared.snapshot) judged → IsJudged relation asked m judged
+judge_read relation asked m prepared files snapshot judged p told r c = record {
+  read = Ok snapshot;
+  end = subst (λ f. IsReadAs f snapshot) (r.told m told ∙ ap (get m) p.path) r.comes_to;
+  comes_to = subst (λ v. IsCompared relation (snapshot_of snapshot) v judged) p.view c;
+}
 
-compared_with : (was number : Bool) (old new : SnapshotContents) (judged : Judged) (snapshot : Snapshot) → was ≡ legacy_in snapshot → number ≡ number_text_in snapshot
-    → old ≡ contents_in snapshot → IsCompared was number old new judged → IsCompared (legacy_in snapshot) (number_text_in snapshot) (contents_in snapshot) new judged
-compared_with was number old new judged snapshot was_is number_is old_is c =
-    let By_kind : Bool → Type 0 = λ b. IsCompared b (number_text_in snapshot) (contents_in snapshot) new judged in
-    let By_number : Bool → Type 0 = λ b. IsCompared was b (contents_in snapshot) new judged in
-    let By_old : SnapshotContents → Type 0 = λ x. IsCompared was number x new judged in
-    subst By_kind was_is (subst By_number number_is (subst By_old old_is c))
-
-pub judge_read : (asked : Asked) (m : Files) (prepared : Prepared) (files : Option Files) (snapshot : Snapshot) (was number : Bool) (old new : SnapshotContents) (judged : Judged)
-    → IsPrepared asked prepared → files ≡ Some m → IsReadFrom prepared.path files (Ok snapshot) → was ≡ legacy_in snapshot → number ≡ number_text_in snapshot
-    → old ≡ contents_in snapshot → new ≡ contents_in prepared.snapshot → IsCompared was number old new judged → IsJudged asked m judged
-judge_read asked m prepared files snapshot was number old new judged p told r was_is number_is old_is new_is c =
-    read_compared asked m r.file snapshot new judged p.trimmed (r.told m told ∙ ap (get m) p.path) r.comes_to (ap (λ x. text_in x) new_is ∙ printed_text asked prepared p) (subst (λ x. IsFileText x) (sym new_is) (printed_in_file asked prepared p))
-    (compared_with was number old new judged snapshot was_is number_is old_is c)
-
-not_passed : (asked : Asked) (m : Files) (file : Option (List ℕ)) (judged : Judged) → file ≡ get m asked.path → judged.passed ≡ false
-    → May false file asked.blocks asked.tree → AreWarnings asked.path file judged.passed (text_of asked.blocks asked.tree) (items_of judged.warnings)
-    → SpeakOfOne asked.path file judged.passed (items_of judged.warnings) → IsJudged asked m judged
-not_passed asked m file judged is none may warned one =
-    let May_at : Option (List ℕ) → Type 0 = λ f. May judged.passed f asked.blocks asked.tree in
-    let Warned_at : Option (List ℕ) → Type 0 = λ f. AreWarnings asked.path f judged.passed (text_of asked.blocks asked.tree) (items_of judged.warnings) in
-    let Passed_at : Bool → Type 0 = λ b. May b file asked.blocks asked.tree in
-    record {
-      allowed = subst May_at is (subst Passed_at (sym none) may);
-      warned = subst Warned_at is warned;
-      one = subst (λ f. SpeakOfOne asked.path f judged.passed (items_of judged.warnings)) is one;
-    }
-
-by_error : (asked : Asked) (m : Files) (file : Option (List ℕ)) (error : Error) (result : Result Judged AssertError) → is_trimmed asked.blocks ≡ true → file ≡ get m asked.path → IsRefused asked.path file error
-    → RefusedEnd error result → IfOk result (λ judged. IsJudged asked m judged)
-by_error asked m file error (Err e) trimmed is h end = tt
-by_error asked m file (NoFile named) (Ok judged) trimmed is h end =
-    not_passed asked m file judged is end.0 (refused_no_pass asked.path file asked.blocks asked.tree (NoFile named) trimmed h (λ n e. cc) (λ e. cc))
-    (no_warning asked.path file judged.passed (text_of asked.blocks asked.tree) (items_of judged.warnings) end.1 (inl (h.1, refl)))
-    (record { read = Err (NoFile named); end = h; says = end })
-by_error asked m file (FileIo named) (Ok judged) trimmed is h end = absurd (cc end)
-by_error asked m file OutOfMemory (Ok judged) trimmed is h end = absurd (cc end)
-by_error asked m file (NotText named) (Ok judged) trimmed is h end =
-    not_passed asked m file judged is end.0 (refused_no_pass asked.path file asked.blocks asked.tree (NotText named) trimmed h (λ n e. cc) (λ e. cc))
-    (one_warning asked.path file judged.passed (text_of asked.blocks asked.tree) (items_of judged.warnings) (NotText named) end.1 end.0 h)
-    (record { read = Err (NotText named); end = h; says = end })
-by_error asked m file (FailedParsingYaml named) (Ok judged) trimmed is h end =
-    not_passed asked m file judged is end.0 (refused_no_pass asked.path file asked.blocks asked.tree (FailedParsingYaml named) trimmed h (λ n e. cc) (λ e. cc))
-    (one_warning asked.path file judged.passed (text_of asked.blocks asked.tree) (items_of judged.warnings) (FailedParsingYaml named) end.1 end.0 h)
-    (record { read = Err (FailedParsingYaml named); end = h; says = end })
-by_error asked m file UnexpectedDataType (Ok judged) trimmed is h end =
-    not_passed asked m file judged is end.0 (refused_no_pass asked.path file asked.blocks asked.tree UnexpectedDataType trimmed h (λ n e. cc) (λ e. cc))
-    (one_warning asked.path file judged.passed (text_of asked.blocks asked.tree) (items_of judged.warnings) UnexpectedDataType end.1 end.0 h)
-    (record { read = Err UnexpectedDataType; end = h; says = end })
-by_error asked m file MissingField (Ok judged) trimmed is h end =
-    not_passed asked m file judged is end.0 (refused_no_pass asked.path file asked.blocks asked.tree MissingField trimmed h (λ n e. cc) (λ e. cc))
-    (one_warning asked.path file judged.passed (text_of asked.blocks asked.tree) (items_of judged.warnings) MissingField end.1 end.0 h)
-    (record { read = Err MissingField; end = h; says = end })
-by_error asked m file (FloatText named) (Ok judged) trimmed is h end = absurd h
-by_error asked m file JsonKey (Ok judged) trimmed is h end = absurd h
+by_error : (relation : Relation) (asked : Asked) (m : Files) (error : Error) (result : Result Judged AssertError) → IsRefused asked.path (get m asked.path) error
+    → RefusedEnd error result → IfOk result (λ judged. IsJudged relation asked m judged)
+by_error relation asked m error (Err e) h end = tt
+by_error relation asked m (NoFile named) (Ok judged) h end = record { read = Err (NoFile named); end = h; comes_to = end }
+by_error relation asked m (FileIo named) (Ok judged) h end = absurd (cc end)
+by_error relation asked m OutOfMemory (Ok judged) h end = absurd (cc end)
+by_error relation asked m (NotText named) (Ok judged) h end = record { read = Err (NotText named); end = h; comes_to = end }
+by_error relation asked m (FailedParsingYaml named) (Ok judged) h end = record { read = Err (FailedParsingYaml named); end = h; comes_to = end }
+by_error relation asked m UnexpectedDataType (Ok judged) h end = record { read = Err UnexpectedDataType; end = h; comes_to = end }
+by_error relation asked m MissingField (Ok judged) h end = record { read = Err MissingField; end = h; comes_to = end }
+by_error relation asked m (FloatText named) (Ok judged) h end = absurd h
+by_error relation asked m JsonKey (Ok judged) h end = absurd h
 
 -- a file that is refused is no pass
-pub judge_refused : (asked : Asked) (m : Files) (prepared : Prepared) (files : Option Files) (error : Error) (result : Result Judged AssertError)
-    → IsPrepared asked prepared → files ≡ Some m → IsReadFrom prepared.path files (Err error) → RefusedEnd error result → IfOk result (λ judged. IsJudged asked m judged)
-judge_refused asked m prepared files error result p told r end =
-    let Refused_at : List ℕ → Type 0 = λ path. IsRefused path r.file error in
-    by_error asked m r.file error result p.trimmed (r.told m told ∙ ap (get m) p.path) (subst Refused_at p.path r.comes_to) end
+pub judge_refused : (relation : Relation) (asked : Asked) (m : Files) (prepared : Prepared) (files : Option Files) (error : Error) (result : Result Judged AssertError)
+    → IsPrepared asked prepared → files ≡ Some m → IsReadFrom prepared.path files (Err error) → RefusedEnd error result → IfOk result (λ judged. IsJudged relation asked m judged)
+judge_refused relation asked m prepared files error result p told r end =
+    let Refused_at : List ℕ → Option (List ℕ) → Type 0 = λ path file. IsRefused path file error in
+    by_error relation asked m error result
+    (subst (Refused_at asked.path) (r.told m told ∙ ap (get m) p.path) (subst (λ path. Refused_at path r.file) p.path r.comes_to)) end
 
-pub all_judged : (prepared : Prepared) (files : Option Files) (result : Result Judged AssertError) → ((asked : Asked) → IsPrepared asked prepared → (m : Files) → files ≡ Some m → IfOk result (λ judged. IsJudged asked m judged))
-    → IfOk result (λ judged. (asked : Asked) → IsPrepared asked prepared → (m : Files) → files ≡ Some m → IsJudged asked m judged)
-all_judged prepared files (Ok judged) h = h
-all_judged prepared files (Err e) h = tt
+pub all_judged : (relation : Relation) (prepared : Prepared) (files : Option Files) (result : Result Judged AssertError) → ((asked : Asked) → IsPrepared asked prepared → (m : Files) → files ≡ Some m → IfOk result (λ judged. IsJudged relation asked m judged))
+    → IfOk result (λ judged. (asked : Asked) → IsPrepared asked prepared → (m : Files) → files ≡ Some m → IsJudged relation asked m judged)
+all_judged relation prepared files (Ok judged) h = h
+all_judged relation prepared files (Err e) h = tt
 
 -- a fault in reading names the snapshot's path
 unrefused_at : (path : List ℕ) (warnings : List Warning) (result : Result Judged AssertError) → NoPass warnings result → NamesOnly path result

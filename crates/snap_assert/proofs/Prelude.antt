@@ -40,11 +40,11 @@ pub use Rattle.snap_text.specs.declared.contents.TextSnapshotKind.{TextSnapshotK
 pub use Rattle.snap_text.specs.declared.contents.TextSnapshotKind.TheVariants.{File}
 pub use Rattle.snap_assert.specs.Assertions.{Assertion, asked_under, key_under, new_contents, assertion_of}
 pub use Rattle.snap_assert_settings.specs.declared.config.Config.{Config}
-pub use Rattle.snap_assert.specs.Judging.{BodyAgrees, HasTextHeader, HasBinaryHeader, IsLegacyFile, IsUnread, May, IsSavedFor}
+pub use Rattle.snap_assert.specs.Judging.{BodyAgrees, BodyMatches, HasTextHeader, HasBinaryHeader, IsLegacyFile, IsUnread, HeaderGives, LinesGive, MatchesAll, May, MayFully, Allowed, IsSavedFor}
 pub use Rattle.snap_assert.specs.Kept.{is_written, may_change, Keeps, IsKeptOrGone, is_none, is_waiting, NamesOnly, KeptBy, IsWrittenAlone, IsTakenAlone, IsOwn, FaultIsOwn, FaultIsAt, NamesOwn}
 pub use Rattle.snap_assert.specs.Listed.{Covers, CoversAt, IsCovered, IsCoveredAt, IsKnown, MayWait, WaitsStill}
 pub use Rattle.snap_assert.specs.Outcomes.{IsAnswered, IsDone, AreWarnings, PassWarns, IsHeadedFile, IsNotUnderstood, SpeakOfOne, said_if, said}
-pub use Rattle.snap_assert.specs.Prepared.{IsPrepared, IsSettled, IsJudged, TextsMatch, TextsDiffer, OlderAs, NoPass, RefusedEnd, IsCompared}
+pub use Rattle.snap_assert.specs.Prepared.{IsPrepared, IsSettled, IsJudged, OlderTexts, OlderPair, OlderAs, NoPass, RefusedEnd, IsCompared}
 pub use Rattle.snap_assert.specs.Removed.{remove_each, is_among, FaultIsAmong}
 pub use Rattle.snap_assert.specs.Session.{empty_session, SessionView}
 pub use Rattle.snap_assert.specs.Steps.{Asked, verdict_of, is_failure, is_slashless, is_stray, pending_path, cleared, written, passed_files, step, stray_front, asked_as}

@@ -13,7 +13,7 @@ use Rattle.snap_store.specs.Meta.{Meta}
 use Rattle.snap_store.specs.Views.{SnapshotView}
 use Rattle.snap_store.specs.declared.contents.SnapshotContents.{SnapshotContents}
 use Rattle.snap_store.specs.declared.contents.SnapshotContents.TheVariants.{Text, Binary}
-use Rattle.snap_store.specs.declared.metadata.SnapshotKind.{SnapshotKind}
+use Rattle.snap_assert.specs.Relations.{Relation, asked_relation}
 
 -- both contents agree, and both are of one kind
 abbrev pub SnapshotsAgree : SnapshotView → SnapshotView → Type 0
@@ -51,6 +51,10 @@ MatchFully a b old new = Agree a b × (old.kind ≡ new.kind)
 -- two texts match fully; others as without a full match
 abbrev pub SnapshotsAgreeFully : SnapshotView → SnapshotView → Type 0
 SnapshotsAgreeFully old new = MatchFully old.contents new.contents old.meta new.meta
+
+-- what that comparator tells, fully where that is asked
+abbrev pub default_relation : Bool → Relation
+default_relation fully = asked_relation SnapshotsAgree SnapshotsAgreeFully fully
 
 -- the same source, expression, input file and kind
 abbrev pub SameNames : Meta → Meta → Type 0

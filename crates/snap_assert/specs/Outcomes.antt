@@ -14,7 +14,7 @@ use Rattle.snap_store.specs.Reading.{IsTextFile, ReadsHeader, IsRefused, FileEnd
 use Rattle.snap_store.specs.Views.{legacy_in, number_text_in}
 use Rattle.snap_store.specs.declared.snapshot.Snapshot.{Snapshot}
 use Rattle.snap_store.specs.declared.metadata.SnapshotKind.{SnapshotKind}
-use Rattle.snap_assert.specs.Judging.{BodyMatches, IsLegacyFile, May}
+use Rattle.snap_assert.specs.Judging.{BodyMatches, IsLegacyFile, Allowed}
 use Rattle.snap_assert.specs.Assertions.{Assertion, asked_under}
 use Rattle.snap_assert.specs.Courses.{Course, Refused, course_of, cleared_at}
 use Rattle.snap_assert.specs.Names.{Named, name_step}
@@ -90,7 +90,7 @@ pub record IsDone (config : Config) (asked : Asked) (outcome : Outcome) (files f
   pub verdict : outcome.verdict ≡ verdict_of config.update passed
   pub path : outcome.path ≡ asked.path
   pub fails : outcome.fails ≡ (is_failure outcome.verdict && not config.force_pass)
-  pub allowed : Given files (λ m. May passed (get m asked.path) asked.blocks asked.tree)
+  pub allowed : Given files (λ m. Allowed config.require_full_match asked passed (get m asked.path))
   pub stands : Becomes files files' (λ m. step config.update config.force_update asked passed m)
   pub warned : Given files (λ m. AreWarnings asked.path (get m asked.path) passed (text_of asked.blocks asked.tree) (items_of outcome.warnings))
   pub one : Given files (λ m. SpeakOfOne asked.path (get m asked.path) passed (items_of outcome.warnings))

@@ -1,24 +1,27 @@
 -- What is ready before anything is looked at, and what was seen.
-use Rattle.std.specs.Prelude.{◌≡◌, ◌↔◌, ◌⊎◌, ℕ, Bool, true, IsTrue, List, [], ◌∷◌, false, Option, Some, Result, Ok, Err}
+use Rattle.std.specs.Prelude.{◌≡◌, ◌⊎◌, ℕ, Bool, true, List, [], ◌∷◌, false, Option, Some, Result, Ok, Err}
 use Rattle.std.specs.FinMap.{get}
 use Rattle.snap_content.specs.List.{items_of}
 use Rattle.snap_print.specs.Readable.{IsWithin}
 use Rattle.snap_io.specs.Files.{Files}
 use Rattle.snap_path.specs.Paths.{parent_of}
-use Rattle.snap_print.specs.Lines.{text_of}
 use Rattle.snap_print.specs.Printed.{is_trimmed}
-use Rattle.snap_text.specs.Normal.{normal}
-use Rattle.snap_store.specs.Agreement.{Agree}
+use Rattle.snap_text.specs.Contents.{legacy_of, MatchLatest}
+use Rattle.snap_text.specs.declared.contents.TextSnapshotContents.{TextSnapshotContents}
 use Rattle.snap_store.specs.declared.contents.SnapshotContents.{SnapshotContents}
-use Rattle.snap_store.specs.Views.{meta_in, module_in, name_in, contents_in, text_in}
+use Rattle.snap_store.specs.declared.contents.SnapshotContents.TheVariants.{Text, Binary}
+use Rattle.snap_store.specs.declared.metadata.SnapshotKind.TheVariants as kind
+use Rattle.snap_store.specs.declared.snapshot.Snapshot.{Snapshot}
+use Rattle.snap_store.specs.Reading.{FileEnd}
+use Rattle.snap_store.specs.Views.{meta_in, module_in, name_in, contents_in, SnapshotView, snapshot_of}
 use Rattle.snap_assert.specs.Assertions.{new_contents}
+use Rattle.snap_assert.specs.Relations.{Relation, PassesBy}
 use Rattle.snap_assert.specs.Session.{SessionView}
 use Rattle.snap_assert.specs.Steps.{Asked, pending_path, step}
 use Rattle.snap_assert_settings.specs.declared.config.Config.{Config}
 use Rattle.snap_assert_place.specs.SnapshotPath.{IsFilePath}
 use Rattle.snap_assert.specs.Strays.{AreStrays}
-use Rattle.snap_assert.specs.Judging.{May}
-use Rattle.snap_assert.specs.Outcomes.{AreWarnings, SpeakOfOne, said}
+use Rattle.snap_assert.specs.Outcomes.{SaysOf, said}
 use Rattle.snap_content.specs.declared.error.Error.{Error}
 use Rattle.snap_content.specs.declared.error.Error.TheVariants as refusal
 use Rattle.snap_assert.specs.declared.error.AssertError.{AssertError}
@@ -28,6 +31,17 @@ use Rattle.snap_assert.specs.declared.outcome.Warning.TheVariants.{Unreadable}
 use Rattle.snap_assert.specs.declared.prepare.Prepared.{Prepared}
 use Rattle.snap_assert.specs.declared.judge.Judged.{Judged}
 use Rattle.snap_assert.specs.declared.look.Seen.{Seen}
+
+-- what the new snapshot is seen as
+abbrev pub new_view : Asked → SnapshotView
+new_view asked = record {
+  module_name = asked.module_name;
+  snapshot_name = Some asked.name;
+  meta = asked.meta;
+  contents = new_contents asked;
+  was_legacy = false;
+  number_as_text = false;
+}
 
 -- the paths, and the new snapshot with the tree's text
 pub record IsPrepared (asked : Asked) (prepared : Prepared) : Type 0 where
@@ -41,21 +55,50 @@ pub record IsPrepared (asked : Asked) (prepared : Prepared) : Type 0 where
   pub metadata : meta_in prepared.snapshot ≡ asked.meta
   pub module_name : module_in prepared.snapshot ≡ asked.module_name
   pub name : name_in prepared.snapshot ≡ Some asked.name
+  pub view : snapshot_of prepared.snapshot ≡ new_view asked
+  pub kind : asked.meta.kind ≡ kind.Text
 
--- whether it passes, and what is to be said of the file
-pub record IsJudged (asked : Asked) (m : Files) (judged : Judged) : Type 0 where
-  pub allowed : May judged.passed (get m asked.path) asked.blocks asked.tree
-  pub warned : AreWarnings asked.path (get m asked.path) judged.passed (text_of asked.blocks asked.tree) (items_of judged.warnings)
-  pub one : SpeakOfOne asked.path (get m asked.path) judged.passed (items_of judged.warnings)
+-- both texts differ by their normal forms, and have one older form
+abbrev pub OlderTexts : Bool → TextSnapshotContents → TextSnapshotContents → Type 0
+OlderTexts true a b = (MatchLatest a b → ⊥) × (legacy_of a ≡ legacy_of b)
+OlderTexts false a b = legacy_of a ≡ legacy_of b → MatchLatest a b
+
+-- whether both are texts that match by their older forms alone
+abbrev pub OlderPair : Bool → SnapshotContents → SnapshotContents → Type 0
+OlderPair older (Text a) (Text b) = OlderTexts older a b
+OlderPair older a b = older ≡ false
+
+-- whether a pass is one of two texts that match by their older forms alone
+abbrev pub OlderAs : Bool → Bool → SnapshotContents → SnapshotContents → Type 0
+OlderAs passed true old new = (passed ≡ true) × OlderPair true old new
+OlderAs passed false old new = passed ≡ true → OlderPair false old new
+
+-- a pass by the relation, and what is said of it
+pub record IsCompared (relation : Relation) (old new : SnapshotView) (judged : Judged) : Type 0 where
+  pub passes : PassesBy relation (Some old) new judged.passed
+  pub older : Bool
+  pub older_is : OlderAs judged.passed older old.contents new.contents
+  pub said_is : items_of judged.warnings ≡ said old.was_legacy old.number_as_text older
+
+-- what a reading of the file comes to: of a snapshot a comparison, and of any other file no pass
+abbrev pub JudgedBy : Relation → Result Snapshot Error → SnapshotView → Judged → Type 0
+JudgedBy relation (Ok old) new judged = IsCompared relation (snapshot_of old) new judged
+JudgedBy relation (Err error) new judged = SaysOf (Err error) judged.passed (items_of judged.warnings)
+
+-- whether it passes by the relation, and what is to be said of the file
+pub record IsJudged (relation : Relation) (asked : Asked) (m : Files) (judged : Judged) : Type 0 where
+  pub read : Result Snapshot Error
+  pub end : FileEnd asked.path (get m asked.path) read
+  pub comes_to : JudgedBy relation read (new_view asked) judged
 
 -- what was found in the files: whether the tree passes, and the strays that are to go
-pub record IsSeen (asked : Asked) (m : Files) (seen : Seen) : Type 0 where
-  pub judged : IsJudged asked m seen.judged
+pub record IsSeen (relation : Relation) (asked : Asked) (m : Files) (seen : Seen) : Type 0 where
+  pub judged : IsJudged relation asked m seen.judged
   pub strays : AreStrays asked.path m seen.strays.items
 
 -- judged, and the files are those of the step
-pub record IsSettled (config : Config) (asked : Asked) (m : Files) (judged : Judged) (files' : Option Files) : Type 0 where
-  pub compared : IsJudged asked m judged
+pub record IsSettled (relation : Relation) (config : Config) (asked : Asked) (m : Files) (judged : Judged) (files' : Option Files) : Type 0 where
+  pub compared : IsJudged relation asked m judged
   pub stands : files' ≡ Some (step config.update config.force_update asked judged.passed m)
 
 -- no pass, with these warnings
@@ -63,32 +106,6 @@ abbrev pub NoPass : List Warning → Result Judged AssertError → Type 0
 NoPass warnings (Ok judged) = (judged.passed ≡ false) × (items_of judged.warnings ≡ warnings)
 NoPass warnings (Err OutOfMemory) = Unit {0}
 NoPass warnings (Err _) = ⊥
-
--- two texts with one normal form
-abbrev pub TextsMatch : Option (List ℕ) → Option (List ℕ) → Type 0
-TextsMatch (Some a) (Some b) = normal a ≡ normal b
-TextsMatch _ _ = Unit {0}
-
--- two texts with different normal forms
-abbrev pub TextsDiffer : Option (List ℕ) → Option (List ℕ) → Type 0
-TextsDiffer (Some a) (Some b) = normal a ≡ normal b → ⊥
-TextsDiffer _ _ = ⊥
-
-abbrev pub DifferAs : Bool → Option (List ℕ) → Option (List ℕ) → Type 0
-DifferAs true old new = TextsDiffer old new
-DifferAs false old new = TextsMatch old new
-
--- whether a pass is one by the older form alone
-abbrev pub OlderAs : Bool → Bool → Option (List ℕ) → Option (List ℕ) → Type 0
-OlderAs passed true old new = (passed ≡ true) × TextsDiffer old new
-OlderAs passed false old new = passed ≡ true → TextsMatch old new
-
--- a pass exactly where both contents agree
-pub record IsCompared (was_legacy number_as_text : Bool) (old new : SnapshotContents) (judged : Judged) : Type 0 where
-  pub tells : IsTrue judged.passed ↔ Agree old new
-  pub older : Bool
-  pub older_is : OlderAs judged.passed older (text_in old) (text_in new)
-  pub said_is : items_of judged.warnings ≡ said was_legacy number_as_text older
 
 -- a missing file is no pass, a fault and out of memory are handed on, and any other refusal is a warning
 abbrev pub RefusedEnd : Error → Result Judged AssertError → Type 0

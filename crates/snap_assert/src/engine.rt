@@ -1,5 +1,5 @@
 //! One assertion over a store.
-ghost use Rattle.std.specs.Prelude.{◌≡◌, ◌⊎◌, ◌&&◌, false, not, Ok, Err, Some, Option, IsSome, IfOk, IfErr, OnOk, option_copied};
+ghost use Rattle.std.specs.Prelude.{◌≡◌, ◌⊎◌, ◌&&◌, not, Ok, Err, Some, Option, IsSome, IfOk, IfErr, OnOk, option_copied};
 ghost use Rattle.snap_content.specs.Tree.{Tree};
 ghost use Rattle.snap_content.specs.View.{tree};
 ghost use Rattle.snap_assert.specs.Outcomes.{IsDone, IsAnswered, IsStopped, IsUnprinted, AssertCause};
@@ -16,10 +16,13 @@ ghost use Rattle.snap_io.specs.Files.{Files};
 ghost use Rattle.snap_io.specs.Outside.{Given, Becomes};
 ghost use Rattle.snap_print.specs.Blocks.{blocks_if};
 ghost use Rattle.snap_store.specs.Views.{contents_in, text_in};
+ghost use Rattle.snap_assert.specs.Relations.{asked_relation};
 ghost use Rattle.snap_assert.specs.Prepared.{IsPrepared, IsSettled, KeepStops};
 ghost use Rattle.snap_assert.specs.Steps.{Asked, asked_as, cleared, step, verdict_of, is_failure};
 ghost use Rattle.snap_assert.specs.declared.error.AssertError.{AssertError};
 
+use crate::comparator::Comparator;
+use crate::default::DefaultComparator;
 use crate::error::AssertError;
 use crate::judge::Judged;
 use crate::kept::keep;
@@ -95,12 +98,13 @@ fn keep_and_settle<S: Store>(
 }
 
 /// Reads, lists and compares, removes the strays, asks the innermost block of duplicates, and then leaves the store as the mode says.
-fn assert_prepared<S: Store>(
+fn assert_prepared<S: Store, C: Comparator>(
     alloc: Global,
     session: &mut Session,
     listed: &mut Listed,
     store: &mut S,
     config: &Config,
+    comparator: &C,
     place: &Place,
     name: &Text,
     prepared: &Prepared,
@@ -108,7 +112,8 @@ fn assert_prepared<S: Store>(
     requires { IsSome (text_in (contents_in prepared.now.snapshot)) }
     ensures settled { IfOk result (λ judged. (asked : Asked) → IsPrepared asked prepared.now
         → Given (S.files store.old) (λ m. IsCovered m listed.old
-        → IsSettled config.now asked m judged (S.files store.new))) }
+        → IsSettled (asked_relation (C.agrees comparator.now) (C.agrees_fully comparator.now)
+        config.now.require_full_match) config.now asked m judged (S.files store.new))) }
     ensures covered { OnOk result ((asked : Asked) → IsPrepared asked prepared.now
         → StaysCovered (S.files store.old) (S.files store.new) listed.old listed.new) }
     ensures remembered { OnOk result ((asked : Asked) → IsPrepared asked prepared.now
@@ -126,7 +131,14 @@ fn assert_prepared<S: Store>(
         → NamesOwn config.now.update asked.path result }
     ensures cause { AssertCause (S.faults store.old) (S.faults store.new) result }
 {
-    let judged = look_and_clear(alloc, listed, store, prepared)?;
+    let judged = look_and_clear(
+        alloc,
+        listed,
+        store,
+        comparator,
+        config.require_full_match,
+        prepared,
+    )?;
     keep_and_settle(
         alloc,
         session,
@@ -179,7 +191,15 @@ fn assert_named<S: Store>(
 {
     let prepared = prepare(alloc, settings, place, name, printed, config.literal)?;
     let judged = assert_prepared(
-        alloc, session, listed, store, config, place, name, &prepared,
+        alloc,
+        session,
+        listed,
+        store,
+        config,
+        &DefaultComparator,
+        place,
+        name,
+        &prepared,
     );
     let path = prepared.into_path();
     let judged = judged?;
@@ -254,7 +274,6 @@ pub fn assert_listed<S: Store>(
     name: Option<&Text>,
     content: Content,
 ) -> Result<Outcome, AssertError>
-    requires loose { config.now.require_full_match ≡ false }
     ensures answered { IfOk result (λ outcome. (printed : Tree)
         × PrintsAs (λ v. (⟦<dyn Redactor as Redactor>⟧ v).allows) settings.now (tree content) printed
         × ((known : Option Files) → IsKnown known (S.files store.old) listed.old
@@ -302,8 +321,9 @@ pub fn assert_listed<S: Store>(
 ///
 /// A given name gets the suffix of the settings. Without one the name is that of the function, from its second use on with a number; in a
 /// doctest that is refused. Where a block of duplicates is open, contents that differ from those that the innermost block keeps for the module and the name are
-/// refused. Texts of several lines are printed as literal blocks where the configuration asks for it. Until full matches are built that
-/// flag is off.
+/// refused. Texts of several lines are printed as literal blocks where the configuration asks for it.
+/// Where it requires a full match, the default comparator's is asked: the metadata count too.
+///
 /// Whatever is returned, the approved file is written in place alone, and the pending one in the mode `new` alone;
 /// what was pending may be gone. Where no name is taken, neither the session nor the store is changed.
 pub fn assert_content<S: Store>(
@@ -316,7 +336,6 @@ pub fn assert_content<S: Store>(
     name: Option<&Text>,
     content: Content,
 ) -> Result<Outcome, AssertError>
-    requires loose { config.now.require_full_match ≡ false }
     ensures answered { IfOk result (λ outcome. (printed : Tree)
         × PrintsAs (λ v. (⟦<dyn Redactor as Redactor>⟧ v).allows) settings.now (tree content) printed
         × IsAnswered config.now (assertion_of (blocks_if config.now.literal)

@@ -1,22 +1,25 @@
-//! Whether the tree passes by what the file of the snapshot holds, and what is to be said of that file.
-ghost use Rattle.std.specs.Prelude.{◌≡◌, [], ◌∷◌, false, IfOk};
+//! Whether a new snapshot passes by what the file of the old one holds, and what is to be said of that file.
+ghost use Rattle.std.specs.Prelude.{◌≡◌, ◌↔◌, [], ◌∷◌, false, IfOk, IsTrue, option_map};
 ghost use Rattle.snap_io.specs.Outside.{Given};
 ghost use Rattle.snap_assert.specs.Outcomes.{WorkCause, said};
+ghost use Rattle.snap_assert.specs.Relations.{asked_relation, PassesBy};
 ghost use Rattle.snap_assert.specs.Steps.{Asked};
-ghost use Rattle.snap_assert.specs.Prepared.{IsPrepared, IsJudged, NoPass, RefusedEnd, DifferAs, OlderAs, IsCompared};
+ghost use Rattle.snap_assert.specs.Prepared.{IsPrepared, IsJudged, NoPass, RefusedEnd, OlderTexts, OlderPair, OlderAs, IsCompared};
 ghost use Rattle.snap_assert.specs.Kept.{NamesOnly};
-ghost use Rattle.snap_store.specs.Views.{text_in};
+ghost use Rattle.snap_store.specs.Views.{snapshot_of};
 ghost use Rattle.snap_content.specs.List.{items_of};
 
+use crate::comparator::Comparator;
 use crate::error::AssertError;
 use crate::outcome::{Warning, Warnings};
 use crate::prepare::Prepared;
 use snap_content::{Error, OutOfMemory};
 use snap_io::Store;
 use snap_store::{Snapshot, SnapshotContents};
+use snap_text::TextSnapshotContents;
 use std::alloc::Global;
 
-/// Whether the tree passes, and what is to be said of the file.
+/// Whether it passes, and what is to be said of the file.
 #[derive(Drop)]
 pub struct Judged {
     pub passed: bool,
@@ -65,33 +68,47 @@ fn refused(alloc: Global, error: Error) -> Result<Judged, AssertError>
     }
 }
 
-/// Whether both are texts with different normal forms.
-fn texts_differ(
+/// Whether both texts match by their older forms alone.
+fn are_older(
+    alloc: Global,
+    old: &TextSnapshotContents,
+    new: &TextSnapshotContents,
+) -> Result<bool, OutOfMemory>
+    ensures { IfOk result (λ older. OlderTexts older old.now new.now) }
+{
+    if old.matches_latest(alloc, new)? {
+        return Ok(false);
+    }
+    old.matches_legacy(alloc, new)
+}
+
+/// Whether both are texts that match by their older forms alone.
+fn match_by_older_forms(
     alloc: Global,
     old: &SnapshotContents,
     new: &SnapshotContents,
 ) -> Result<bool, OutOfMemory>
-    ensures { IfOk result (λ differ. DifferAs differ (text_in old.now) (text_in new.now)) }
+    ensures { IfOk result (λ older. OlderPair older old.now new.now) }
 {
     match (old.as_text(), new.as_text()) {
-        (Some(old), Some(new)) => Ok(!old.matches_latest(alloc, new)?),
+        (Some(old), Some(new)) => are_older(alloc, old, new),
         _ => Ok(false),
     }
 }
 
-/// Whether the pass is one by the older forms alone.
-fn passes_by_older_form(
+/// Whether the pass is one by the older forms alone, which no comparator tells by itself.
+fn passes_by_older_forms(
     alloc: Global,
     passed: bool,
     old: &SnapshotContents,
     new: &SnapshotContents,
 ) -> Result<bool, OutOfMemory>
-    ensures { IfOk result (λ older. OlderAs passed older (text_in old.now) (text_in new.now)) }
+    ensures { IfOk result (λ older. OlderAs passed older old.now new.now) }
 {
     if !passed {
         return Ok(false);
     }
-    texts_differ(alloc, old, new)
+    match_by_older_forms(alloc, old, new)
 }
 
 /// What is to be said of a file that was read.
@@ -117,44 +134,80 @@ fn file_warnings(
     Ok(warnings)
 }
 
-/// What a file that was read comes to: a pass exactly where its contents agree with the new ones.
-fn compare(
+/// Whether the new snapshot matches the old one, fully where that is asked.
+fn do_match<C: Comparator>(
     alloc: Global,
-    was_legacy: bool,
-    number_as_text: bool,
-    old: &SnapshotContents,
-    new: &SnapshotContents,
-) -> Result<Judged, OutOfMemory>
-    ensures { IfOk result (λ judged.
-        IsCompared was_legacy number_as_text old.now new.now judged) }
+    comparator: &C,
+    fully: bool,
+    old: &Snapshot,
+    new: &Snapshot,
+) -> Result<bool, OutOfMemory>
+    ensures { IfOk result (λ same. IsTrue same
+        ↔ asked_relation (C.agrees comparator.now) (C.agrees_fully comparator.now) fully
+        (snapshot_of old.now) (snapshot_of new.now)) }
 {
-    let passed = old.agrees(alloc, new)?;
-    let older = passes_by_older_form(alloc, passed, old, new)?;
-    let warnings = file_warnings(alloc, was_legacy, number_as_text, older)?;
+    if fully {
+        comparator.matches_fully(alloc, old, new)
+    } else {
+        comparator.matches(alloc, old, new)
+    }
+}
+
+/// Whether the new snapshot passes: where there is an old one, it matches that, fully where that is asked.
+pub fn judge<C: Comparator>(
+    alloc: Global,
+    comparator: &C,
+    fully: bool,
+    old: Option<&Snapshot>,
+    new: &Snapshot,
+) -> Result<bool, OutOfMemory>
+    ensures { IfOk result (λ passed. PassesBy
+        (asked_relation (C.agrees comparator.now) (C.agrees_fully comparator.now) fully)
+        (option_map (λ held. snapshot_of held.now) old.entry) (snapshot_of new.now) passed) }
+{
+    match old {
+        None => Ok(false),
+        Some(old) => do_match(alloc, comparator, fully, old, new),
+    }
+}
+
+/// What a file that was read comes to: a pass by the comparator, and what is said of it.
+fn compare<C: Comparator>(
+    alloc: Global,
+    comparator: &C,
+    fully: bool,
+    old: &Snapshot,
+    new: &Snapshot,
+) -> Result<Judged, OutOfMemory>
+    ensures { IfOk result (λ judged. IsCompared
+        (asked_relation (C.agrees comparator.now) (C.agrees_fully comparator.now) fully)
+        (snapshot_of old.now) (snapshot_of new.now) judged) }
+{
+    let passed = judge(alloc, comparator, fully, Some(old), new)?;
+    let older = passes_by_older_forms(alloc, passed, old.contents(), new.contents())?;
+    let warnings = file_warnings(alloc, old.was_legacy(), old.has_number_text(), older)?;
     Ok(Judged { passed, warnings })
 }
 
 /// Reads the file of the snapshot and compares. Nothing is changed.
-pub fn judge<S: Store>(
+pub fn judge_file<S: Store, C: Comparator>(
     alloc: Global,
     store: &mut S,
+    comparator: &C,
+    fully: bool,
     prepared: &Prepared,
 ) -> Result<Judged, AssertError>
     ensures judged { IfOk result (λ judged. (asked : Asked) → IsPrepared asked prepared.now
-        → Given (S.files store.old) (λ m. IsJudged asked m judged)) }
+        → Given (S.files store.old) (λ m. IsJudged
+        (asked_relation (C.agrees comparator.now) (C.agrees_fully comparator.now) fully)
+        asked m judged)) }
     ensures same { S.files store.new ≡ S.files store.old }
     ensures named { NamesOnly prepared.now.path result }
     ensures cause { WorkCause (S.faults store.old) (S.faults store.new) result }
 {
     match Snapshot::from_file(alloc, store, &prepared.path) {
         Ok(old) => {
-            let judged = compare(
-                alloc,
-                old.was_legacy(),
-                old.has_number_text(),
-                old.contents(),
-                prepared.snapshot.contents(),
-            );
+            let judged = compare(alloc, comparator, fully, &old, &prepared.snapshot);
             drop(old);
             Ok(judged?)
         }

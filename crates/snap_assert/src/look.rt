@@ -4,14 +4,16 @@ ghost use Rattle.snap_io.specs.Files.{Files};
 ghost use Rattle.snap_io.specs.Outside.{Given};
 ghost use Rattle.snap_assert.specs.Outcomes.{WorkCause};
 ghost use Rattle.snap_assert.specs.Steps.{Asked, cleared};
+ghost use Rattle.snap_assert.specs.Relations.{asked_relation};
 ghost use Rattle.snap_assert.specs.Prepared.{IsPrepared, IsJudged, IsSeen};
 ghost use Rattle.snap_assert.specs.Kept.{KeptBy, NamesOwn};
 ghost use Rattle.snap_assert.specs.Listed.{IsCovered, IsCoveredAt};
 ghost use Rattle.snap_assert.specs.Strays.{AllStray};
 ghost use Rattle.snap_assert_settings.specs.declared.config.Update.{Update};
 
+use crate::comparator::Comparator;
 use crate::error::AssertError;
-use crate::judge::{Judged, judge};
+use crate::judge::{Judged, judge_file};
 use crate::listed::Listed;
 use crate::prepare::Prepared;
 use crate::removal::clear;
@@ -26,15 +28,19 @@ pub struct Seen {
     pub strays: Vec<Text>,
 }
 
-/// Reads the file of the snapshot, compares, and lists its folder, where that was not done before. Nothing is changed.
-fn look<S: Store>(
+/// Reads the file of the snapshot, compares by the comparator, and lists its folder, where that was not done before. Nothing is changed.
+fn look<S: Store, C: Comparator>(
     alloc: Global,
     listed: &mut Listed,
     store: &mut S,
+    comparator: &C,
+    fully: bool,
     prepared: &Prepared,
 ) -> Result<Seen, AssertError>
     ensures seen { IfOk result (λ seen. (asked : Asked) → IsPrepared asked prepared.now
-        → Given (S.files store.old) (λ m. IsCovered m listed.old → IsSeen asked m seen)) }
+        → Given (S.files store.old) (λ m. IsCovered m listed.old → IsSeen
+        (asked_relation (C.agrees comparator.now) (C.agrees_fully comparator.now) fully)
+        asked m seen)) }
     ensures covered { OnOk result (Given (S.files store.old)
         (λ m. IsCovered m listed.old → IsCovered m listed.new)) }
     ensures strays { IfOk result (λ seen. (asked : Asked) → IsPrepared asked prepared.now
@@ -44,20 +50,24 @@ fn look<S: Store>(
         → NamesOwn mode asked.path result }
     ensures cause { WorkCause (S.faults store.old) (S.faults store.new) result }
 {
-    let judged = judge(alloc, store, prepared)?;
+    let judged = judge_file(alloc, store, comparator, fully, prepared)?;
     let strays = listed.stray_paths(store, &prepared.folder, &prepared.path)?;
     Ok(Seen { judged, strays })
 }
 
-/// Reads the file of the snapshot and compares, and then removes the strays. No file is written, and none removed but strays.
-pub fn look_and_clear<S: Store>(
+/// Reads the file of the snapshot and compares by the comparator, and then removes the strays. No file is written, and none removed but strays.
+pub fn look_and_clear<S: Store, C: Comparator>(
     alloc: Global,
     listed: &mut Listed,
     store: &mut S,
+    comparator: &C,
+    fully: bool,
     prepared: &Prepared,
 ) -> Result<Judged, AssertError>
     ensures judged { IfOk result (λ judged. (asked : Asked) → IsPrepared asked prepared.now
-        → Given (S.files store.old) (λ m. IsCovered m listed.old → IsJudged asked m judged)) }
+        → Given (S.files store.old) (λ m. IsCovered m listed.old → IsJudged
+        (asked_relation (C.agrees comparator.now) (C.agrees_fully comparator.now) fully)
+        asked m judged)) }
     ensures cleared { OnOk result ((asked : Asked) → IsPrepared asked prepared.now → (m : Files)
         → S.files store.old ≡ Some m → IsCovered m listed.old
         → S.files store.new ≡ Some (cleared asked.path m)) }
@@ -70,7 +80,7 @@ pub fn look_and_clear<S: Store>(
         → NamesOwn mode asked.path result }
     ensures cause { WorkCause (S.faults store.old) (S.faults store.new) result }
 {
-    let seen = look(alloc, listed, store, prepared)?;
+    let seen = look(alloc, listed, store, comparator, fully, prepared)?;
     clear(alloc, listed, store, prepared, &seen.strays)?;
     Ok(seen.judged)
 }

@@ -1,12 +1,12 @@
 //! What is ready before anything is looked at.
-ghost use Rattle.std.specs.Prelude.{◌≡◌, Some, IfOk};
+ghost use Rattle.std.specs.Prelude.{◌≡◌, false, Some, IfOk};
 ghost use Rattle.snap_content.specs.Plain.{plain};
 ghost use Rattle.snap_print.specs.Readable.{IsWithin};
 ghost use Rattle.snap_content.specs.View.{tree};
 ghost use Rattle.snap_print.specs.Blocks.{blocks_if};
 ghost use Rattle.snap_assert_settings.specs.Settings.{settings_of};
 ghost use Rattle.snap_assert_place.specs.Place.{place_of};
-ghost use Rattle.snap_store.specs.Views.{meta_in, module_in, name_in, contents_in};
+ghost use Rattle.snap_store.specs.Views.{meta_in, module_in, name_in, contents_in, legacy_in, number_text_in};
 ghost use Rattle.snap_assert_place.specs.SnapshotPath.{flat_module, new_meta};
 ghost use Rattle.snap_assert.specs.Assertions.{new_contents};
 ghost use Rattle.snap_assert.specs.Steps.{asked_as};
@@ -69,6 +69,8 @@ fn new_snapshot(
     ensures module_name { IfOk result (λ snapshot. module_in snapshot
         ≡ flat_module (place_of place.now).module_name) }
     ensures name { IfOk result (λ snapshot. name_in snapshot ≡ Some name.now) }
+    ensures legacy { IfOk result (λ snapshot. legacy_in snapshot ≡ false) }
+    ensures number { IfOk result (λ snapshot. number_text_in snapshot ≡ false) }
 {
     let text = body_to_string(alloc, content, literal)?;
     let module_name = module_text(alloc, place)?;

@@ -8,7 +8,7 @@ ghost use Rattle.snap_store.specs.Meta.{Meta, without_line};
 ghost use Rattle.snap_store.specs.MetaTree.{TellsFields, without_nil_info};
 ghost use Rattle.snap_store.specs.Views.{meta_of};
 
-use snap_content::{Content, OutOfMemory, Text};
+use snap_content::{Content, OutOfMemory, Text, characters};
 use snap_emit::body_to_string;
 use snap_fields::fields::text_named;
 use snap_store::{MetaData, SnapshotKind};
@@ -31,6 +31,13 @@ fn is_same(old: Option<&str>, new: Option<&str>) -> bool
         (Some(old), Some(new)) => is_same_text(old, new),
         (None, Some(_)) | (Some(_), None) => false,
     }
+}
+
+/// Whether both are one text, or none.
+fn is_same_held(old: &Option<Text>, new: &Option<Text>) -> bool
+    ensures { IsTrue result ↔ (old.now ≡ new.now) }
+{
+    old == new
 }
 
 /// Whether both are one kind.
@@ -93,7 +100,7 @@ fn is_same_description(alloc: Global, old: &MetaData, new: &MetaData) -> Result<
 {
     let old = description(alloc, old)?;
     let new = description(alloc, new)?;
-    Ok(old == new)
+    Ok(is_same_held(&old, &new))
 }
 
 /// The text of an info, and none where its plain form is null, whose text is `~`.
@@ -101,7 +108,7 @@ fn filled_text(alloc: Global, info: &Content) -> Result<Option<Text>, OutOfMemor
     ensures { IfOk result (λ text. PrintsInfo (filled (plain (tree info.now))) text) }
 {
     let text = body_to_string(alloc, info, false)?;
-    if is_same_text(text.as_str(), "~\n") {
+    if characters::is_same(text.as_str(), "~\n") {
         return Ok(None);
     }
     Ok(Some(text))
@@ -130,7 +137,7 @@ fn is_same_info(
 {
     let old = info_text(alloc, old)?;
     let new = info_text(alloc, new)?;
-    Ok(old == new)
+    Ok(is_same_held(&old, &new))
 }
 
 /// Whether both are the same but for the line. The one error is out of memory.

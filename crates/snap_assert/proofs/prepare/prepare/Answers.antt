@@ -1,6 +1,8 @@
-use Rattle.snap_assert.proofs.Prelude.{◌∙◌, ◌++◌, ap, codes, parent_of, settings_of, place_of}
+use Rattle.snap_assert.proofs.Prelude.{◌∙◌, ◌++◌, refl, ap, codes, parent_of, settings_of, place_of, blocks_if, asked_as}
+use Rattle.snap_content.specs.View.{tree}
 use Rattle.snap_assert_place.proofs.FilePaths.{path_of-file}
 use Rattle.snap_assert.proofs.Below.{trimmed-if}
+use Rattle.snap_assert.proofs.Printing.{view_is}
 use Rattle.snap_assert.proofs.prepare.prepare.Goals as goal
 
 pub returns : goal.returns
@@ -15,4 +17,6 @@ returns g c = record {
   metadata = c.in_ok-snapshot.ensures.metadata;
   module_name = c.in_ok-snapshot.ensures.module_name;
   name = c.in_ok-snapshot.ensures.name;
+  view = view_is c.in_ok-snapshot.snapshot (asked_as (blocks_if c.args.literal) (settings_of c.args.settings.now) (place_of c.args.place.now) c.args.name.now (tree c.args.printed.now)) c.in_ok-snapshot.ensures.module_name c.in_ok-snapshot.ensures.name c.in_ok-snapshot.ensures.metadata c.in_ok-snapshot.ensures.contents c.in_ok-snapshot.ensures.legacy c.in_ok-snapshot.ensures.number;
+  kind = refl;
 }
