@@ -62,15 +62,6 @@ pub(crate) fn outcome_of(
     place: &Place,
     (key, value): (&str, Value<'_>),
 ) -> Result<Outcome, AssertError> {
-    // Made here, so that it is known to ask for no full match.
-    let config = Config {
-        update: config.update,
-        force_update: config.force_update,
-        require_full_match: false,
-        force_pass: config.force_pass,
-        literal: config.literal,
-        run_id: Text::empty(),
-    };
     let name = Text::from_str(alloc, "one")?;
     let content = pair_tree(alloc, key, value)?;
     let mut session = Session::new(alloc);
@@ -78,7 +69,7 @@ pub(crate) fn outcome_of(
         alloc,
         &mut session,
         store,
-        &config,
+        config,
         settings,
         place,
         Some(&name),

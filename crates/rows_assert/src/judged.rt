@@ -41,7 +41,7 @@ fn outcome_line(alloc: Global, outcome: &Outcome) -> Result<Text, anyhow::Error>
 }
 
 /// A store that holds this file at the path of the snapshot.
-fn store_of(alloc: Global, column: &str) -> Result<SteadyStore, OutOfMemory> {
+pub(crate) fn store_of(alloc: Global, column: &str) -> Result<SteadyStore, OutOfMemory> {
     let file = text_of(alloc, column)?;
     let mut store = SteadyStore::new(alloc);
     store.put(&Text::from_str(alloc, PATH)?, file.as_str().as_bytes())?;
@@ -93,7 +93,7 @@ fn judged_at(
     judged_by(alloc, store, config, &settings, place, value)
 }
 
-fn judged_by(
+pub(crate) fn judged_by(
     alloc: Global,
     store: &mut SteadyStore,
     config: &Config,

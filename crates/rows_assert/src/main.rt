@@ -7,6 +7,8 @@
 //! - `judged`: a stored file, and the verdict on the tree `a: 1` with its warnings.
 //! - `judged_text`: `blocks` or `quotes`, a text and a stored file. The answer is the verdict on the tree `a` to that text, printed
 //!   with literal blocks or without.
+//! - `full`: a description, an info and a stored file, `-` where nothing is set. The answer is as for `judged`, where a full match is
+//!   required.
 //! - `new_settings`: what new settings say.
 //! - `settings`: what is done with new settings, a column each, as `settings` says. The answer is what became of each, and the file
 //!   that is saved of the tree `id: 42` with those settings.
@@ -24,6 +26,7 @@
 mod asserted;
 mod columns;
 mod errors;
+mod full;
 mod judged;
 mod lists;
 mod news;
@@ -33,6 +36,7 @@ mod settings;
 mod stored;
 
 use crate::errors::error_line;
+use crate::full::full_line;
 use crate::judged::{judged_line, judged_text_line};
 use crate::lists::list_line;
 use crate::news::new_settings_line;
@@ -51,6 +55,7 @@ fn answer_case(alloc: Global, call: &str, columns: &str) -> Result<Text, anyhow:
         "path" => path_line(alloc, columns),
         "judged" => judged_line(alloc, columns),
         "judged_text" => judged_text_line(alloc, columns),
+        "full" => full_line(alloc, columns),
         "new_settings" => new_settings_line(alloc),
         "settings" => settings_line(alloc, columns),
         "function" => function_line(alloc, columns),
