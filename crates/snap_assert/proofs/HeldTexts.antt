@@ -1,5 +1,5 @@
 -- What the contents of a file that was read say of a text that they match.
-use Rattle.snap_assert.proofs.Prelude.{◌≡◌, ℕ, Bool, true, false, List, refl, sym, ap, ◌∙◌, subst, inl, inr, raw_of, kind_of, compared_as, TextSnapshotKind, File, normal, Meta, Agree, HoldsBody, SnapshotContents, Text, Binary, SnapshotKind, OlderPair}
+use Rattle.snap_assert.proofs.Prelude.{◌≡◌, ℕ, true, false, List, sym, ap, ◌∙◌, subst, inl, inr, raw_of, kind_of, compared_as, TextSnapshotKind, File, normal, Meta, Agree, HoldsBody, SnapshotContents, Text, Binary, SnapshotKind, OlderPair}
 use Rattle.snap_store.specs.declared.metadata.SnapshotKind.TheVariants as kind
 use Rattle.snap_assert.specs.Default.{SameMeta, MetaCounts, MatchFully}
 

@@ -1,18 +1,18 @@
 -- What a reading of a file says of a pass.
-use Rattle.snap_assert.proofs.Prelude.{◌≡◌, ◌↔◌, inl, inr, IsTrue, ℕ, Bool, true, false, cond, List, Option, None, Some, refl, sym, ap, ◌∙◌, subst, codes, Plain, dict, Entries, Blocks, is_trimmed, text_of, Error, FailedParsingYaml, UnexpectedDataType, MissingField, FileIo, FloatText, JsonKey, NotText, NoFile, OutOfMemory, raw_of, kind_of, compared_as, legacy_as, TextSnapshotKind, File, legacy, Agree, is_headed, body_of, Meta, IsTextFile, HasHeader, HoldsBody, IsReadAs, IsRefused, Tells, meta_in, contents_in, legacy_in, text_in, IsFileText, SnapshotContents, Text, Binary, SnapshotKind, Snapshot, BodyAgrees, BodyMatches, HasTextHeader, HasBinaryHeader, IsLegacyFile, IsUnread, HeaderGives, LinesGive, MatchesAll, May, MayFully, Allowed, Asked, some_same, false_from_ne_true, normal}
+use Rattle.snap_assert.proofs.Prelude.{◌≡◌, ◌↔◌, inl, inr, IsTrue, ℕ, Bool, true, false, cond, List, Option, None, Some, refl, sym, ap, ◌∙◌, subst, codes, Plain, dict, Entries, Blocks, is_trimmed, text_of, Error, FailedParsingYaml, UnexpectedDataType, MissingField, FileIo, FloatText, JsonKey, NotText, NoFile, OutOfMemory, raw_of, kind_of, compared_as, legacy_as, TextSnapshotKind, File, legacy, Agree, is_headed, body_of, Meta, IsTextFile, HasHeader, HoldsBody, IsReadAs, IsRefused, Tells, meta_in, contents_in, legacy_in, text_in, IsFileText, SnapshotContents, Text, Binary, SnapshotKind, Snapshot, BodyAgrees, HasTextHeader, HasBinaryHeader, IsLegacyFile, IsUnread, HeaderGives, LinesGive, MatchesAll, May, MayFully, Allowed, Asked, some_same, false_from_ne_true, normal}
 use Rattle.snap_text.proofs.Agreeing.{files_older}
 use Rattle.snap_content.specs.Plain.{pairs_made}
 use Rattle.snap_fields.specs.Fields.{text_at}
 use Rattle.snap_store.specs.Fields.{is_binary, kind_in, binary_kind, fields}
 use Rattle.snap_store.specs.Meta.{legacy_meta}
-use Rattle.snap_store.specs.Views.{SnapshotView, snapshot_of}
+use Rattle.snap_store.specs.Views.{snapshot_of}
 use Rattle.snap_assert.specs.Assertions.{new_contents}
-use Rattle.snap_assert.specs.Default.{SameMeta, MetaCounts, MatchFully, default_relation}
+use Rattle.snap_assert.specs.Default.{SameMeta, MatchFully, default_relation}
 use Rattle.snap_assert.specs.Prepared.{new_view}
 use Rattle.snap_assert.proofs.HeldTexts.{fresh, full_held, held_full, full_binary}
 use Rattle.snap_store.specs.declared.metadata.SnapshotKind.TheVariants as kind
 use Rattle.snap_store.proofs.Readings.{one_text, no_text_file, text_or_none, one_reading, headed_or_not, entries_same}
-use Rattle.snap_assert.proofs.Saved.{against_saved}
+use Rattle.snap_assert.proofs.Saved.{against_saved, fully_saved}
 
 -- a pass that is decided by three facts and three refusals
 judged : (passed : Bool) (file : Option (List ℕ)) (w : Blocks) (tree : Plain) → is_trimmed w ≡ true → (file ≡ None → passed ≡ false)
@@ -40,15 +40,19 @@ given_lines file told h = record { whole = h.whole; there = h.there; unheaded = 
 no_pass : (file : Option (List ℕ)) (w : Blocks) (tree : Plain) → is_trimmed w ≡ true → (HasTextHeader file → ⊥) → (IsLegacyFile file → ⊥) → May false file w tree
 no_pass file w tree trimmed none headed = judged false file w tree trimmed (λ e. refl) (λ e. cc) (λ h b. absurd (none h)) (λ h b. absurd (headed h)) (λ h. refl) (λ h. refl)
 
-no_full_pass : (file : Option (List ℕ)) (meta : Meta) (w : Blocks) (tree : Plain) → (HasTextHeader file → ⊥) → (IsLegacyFile file → ⊥) → MayFully false file meta w tree
-no_full_pass file meta w tree none headed = record {
-  absent = λ e. refl;
-  matches = λ e. absurd (cc e);
-  headed = λ told h. (λ e. absurd (cc e), λ m. absurd (none (given_header file told h)));
-  legacy = λ told h. (λ e. absurd (cc e), λ m. absurd (headed (given_lines file told h)));
-  binary = λ h. refl;
-  unread = λ h. refl;
-}
+no_full_pass : (file : Option (List ℕ)) (meta : Meta) (w : Blocks) (tree : Plain) → is_trimmed w ≡ true → (HasTextHeader file → ⊥) → (IsLegacyFile file → ⊥) → MayFully false file meta w tree
+no_full_pass file meta w tree trimmed none headed =
+    let never : (told : Meta) → HeaderGives file told → (false ≡ true) ↔ MatchesAll file told meta (text_of w tree)
+    = λ told h. (λ e. absurd (cc e), λ m. absurd (none (given_header file told h))) in
+    record {
+      absent = λ e. refl;
+      matches = λ e. absurd (cc e);
+      headed = never;
+      legacy = λ told h. (λ e. absurd (cc e), λ m. absurd (headed (given_lines file told h)));
+      binary = λ h. refl;
+      unread = λ h. refl;
+      saved = fully_saved false file meta w tree trimmed never;
+    }
 
 -- no file with a header is one of the oldest format
 has_header : (file : Option (List ℕ)) (text : List ℕ) → IsTextFile file text → is_headed text ≡ true → IsLegacyFile file → ⊥
@@ -99,7 +103,7 @@ pub refused_no_pass : (fully : Bool) (asked : Asked) (path : List ℕ) (file : O
 refused_no_pass false asked path file error trimmed h io memory =
     let s = refused_shut path file error h io memory in no_pass file asked.blocks asked.tree trimmed s.unheaded s.headed
 refused_no_pass true asked path file error trimmed h io memory =
-    let s = refused_shut path file error h io memory in no_full_pass file asked.meta asked.blocks asked.tree s.unheaded s.headed
+    let s = refused_shut path file error h io memory in no_full_pass file asked.meta asked.blocks asked.tree trimmed s.unheaded s.headed
 
 -- a file that was read: a text passes where the contents agree, and a payload never does
 pub record Compares (passed : Bool) (k : SnapshotKind) (old new : SnapshotContents) (printed : List ℕ) : Type 0 where
@@ -235,11 +239,14 @@ matches_all file w tree snapshot told meta passed r tells told_is text =
           tells.1 (held_full (body_of r.text) (text_of w tree) (contents_in snapshot) (meta_in snapshot) meta (subst Holds text r.contents) body (subst (λ t. SameMeta t meta) told_is m.metadata)),
     )
 
-full_judged : (file : Option (List ℕ)) (meta : Meta) (w : Blocks) (tree : Plain) (snapshot : Snapshot) (passed : Bool) (r : IsReadAs file snapshot)
+full_judged : (file : Option (List ℕ)) (meta : Meta) (w : Blocks) (tree : Plain) (snapshot : Snapshot) (passed : Bool) → is_trimmed w ≡ true → (r : IsReadAs file snapshot)
     → IsTrue passed ↔ MatchFully (contents_in snapshot) (fresh (text_of w tree)) (meta_in snapshot) meta → MayFully passed file meta w tree
-full_judged file meta w tree snapshot passed r tells =
+full_judged file meta w tree snapshot passed trimmed r tells =
     let old = meta_in snapshot in
     let was = legacy_in snapshot in
+    let under : (told : Meta) → HeaderGives file told → (passed ≡ true) ↔ MatchesAll file told meta (text_of w tree)
+    = λ told h. matches_all file w tree snapshot told meta passed r tells (told_headed file was r.text old told _ r.there r.metadata h)
+    (kind_headed file was r.text old _ r.there r.metadata (given_header file told h)) in
     record {
       absent = λ none. absurd (no_text_file file r.text none r.there);
       matches = λ yes. record {
@@ -247,14 +254,14 @@ full_judged file meta w tree snapshot passed r tells =
         there = r.there;
         same = (full_held old.kind (body_of r.text) (text_of w tree) (contents_in snapshot) old meta r.contents (tells.0 yes)).0;
       };
-      headed = λ told h. matches_all file w tree snapshot told meta passed r tells (told_headed file was r.text old told _ r.there r.metadata h)
-          (kind_headed file was r.text old _ r.there r.metadata (given_header file told h));
+      headed = under;
       legacy = λ told h. matches_all file w tree snapshot told meta passed r tells (told_legacy file was r.text old told _ r.there r.metadata h)
           (kind_legacy file was r.text old _ r.there r.metadata (given_lines file told h));
       binary = λ h.
           let found = kind_binary file was r.text old _ r.there r.metadata h in
           false_from_ne_true passed (λ yes. full_binary old.kind (body_of r.text) (text_of w tree) (contents_in snapshot) old meta found.0 found.1 r.contents (tells.0 yes));
       unread = λ h. absurd (read_or_unread file was r.text old _ r.there r.metadata h);
+      saved = fully_saved passed file meta w tree trimmed under;
     }
 
 -- a text of a file against what the default comparator says of the snapshot that was read
@@ -263,4 +270,4 @@ pub read_allowed : (fully : Bool) (asked : Asked) (file : Option (List ℕ)) (sn
 read_allowed false asked file snapshot passed trimmed text r tells =
     read_judged file asked.blocks asked.tree snapshot (new_contents asked) passed trimmed r
     (record { tells = (λ yes. ((tells.0 yes).0, (tells.0 yes).1 ∙ text), λ both. tells.1 (both.0, both.1 ∙ sym text)); printed_is = refl; in_file = refl })
-read_allowed true asked file snapshot passed trimmed text r tells = full_judged file asked.meta asked.blocks asked.tree snapshot passed r tells
+read_allowed true asked file snapshot passed trimmed text r tells = full_judged file asked.meta asked.blocks asked.tree snapshot passed trimmed r tells

@@ -1,5 +1,5 @@
 -- What was seen of a file, and of what is asked.
-use Rattle.snap_assert.proofs.Prelude.{◌≡◌, ◌↔◌, IsTrue, ℕ, Bool, true, false, List, [], ◌∷◌, Option, Some, Result, Ok, Err, refl, sym, ap, ◌∙◌, subst, inl, inr, IfOk, get, is_trimmed, text_of, Error, FailedParsingYaml, UnexpectedDataType, MissingField, FileIo, FloatText, JsonKey, NotText, NoFile, OutOfMemory, Files, Agree, normal, body_of, Meta, IsTextFile, IsReadAs, IsReadFrom, IsRefused, Tells, meta_in, contents_in, legacy_in, number_text_in, Snapshot, Allowed, Asked, new_contents, AreWarnings, PassWarns, IsHeadedFile, IsNotUnderstood, IsPrepared, IsJudged, OlderAs, NoPass, RefusedEnd, IsCompared, SpeakOfOne, said_if, said, NamesOnly, AssertError, Judged, Prepared}
+use Rattle.snap_assert.proofs.Prelude.{◌≡◌, ℕ, Bool, true, false, List, [], ◌∷◌, Option, Some, Result, Ok, Err, refl, sym, ap, ◌∙◌, subst, inl, inr, IfOk, get, is_trimmed, text_of, Error, FailedParsingYaml, UnexpectedDataType, MissingField, FileIo, FloatText, JsonKey, NotText, NoFile, OutOfMemory, Files, Agree, normal, body_of, Meta, IsTextFile, IsReadAs, IsReadFrom, IsRefused, Tells, meta_in, contents_in, legacy_in, number_text_in, Snapshot, Allowed, Asked, new_contents, AreWarnings, PassWarns, IsHeadedFile, IsNotUnderstood, IsPrepared, IsJudged, OlderAs, NoPass, RefusedEnd, IsCompared, SpeakOfOne, said_if, said, NamesOnly, AssertError, Judged, Prepared}
 use Rattle.snap_content.specs.List.{items_of}
 use Rattle.snap_store.specs.Reading.{FileEnd}
 use Rattle.snap_store.specs.Views.{snapshot_of}

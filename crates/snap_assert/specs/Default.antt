@@ -12,7 +12,7 @@ use Rattle.snap_store.specs.Agreement.{Agree}
 use Rattle.snap_store.specs.Meta.{Meta}
 use Rattle.snap_store.specs.Views.{SnapshotView}
 use Rattle.snap_store.specs.declared.contents.SnapshotContents.{SnapshotContents}
-use Rattle.snap_store.specs.declared.contents.SnapshotContents.TheVariants.{Text, Binary}
+use Rattle.snap_store.specs.declared.contents.SnapshotContents.TheVariants.{Text}
 use Rattle.snap_assert.specs.Relations.{Relation, asked_relation}
 
 -- both contents agree, and both are of one kind

@@ -129,6 +129,8 @@ pub record MayFully (passed : Bool) (file : Option (List ℕ)) (meta : Meta) (w 
   pub binary : HasBinaryHeader file → passed ≡ false
   -- nor where the file isn't understood
   pub unread : IsUnread file → passed ≡ false
+  -- against a file that was saved for a tree in the same way exactly where both trees are equal, and the metadata of its header match
+  pub saved : (stored : Plain) (s : IsSavedFor file w stored) → IsWithin tree → (passed ≡ true) ↔ ((stored ≡ tree) × SameMeta (fields s.entries Text) meta)
 
 -- whether what is asked may pass against the file, fully where that is asked
 abbrev pub Allowed : Bool → Asked → Bool → Option (List ℕ) → Type 0

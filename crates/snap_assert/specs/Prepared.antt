@@ -1,5 +1,5 @@
 -- What is ready before anything is looked at, and what was seen.
-use Rattle.std.specs.Prelude.{◌≡◌, ◌⊎◌, ℕ, Bool, true, List, [], ◌∷◌, false, Option, Some, Result, Ok, Err}
+use Rattle.std.specs.Prelude.{◌≡◌, ◌⊎◌, Bool, true, List, [], ◌∷◌, false, Option, Some, Result, Ok, Err}
 use Rattle.std.specs.FinMap.{get}
 use Rattle.snap_content.specs.List.{items_of}
 use Rattle.snap_print.specs.Readable.{IsWithin}
@@ -9,7 +9,7 @@ use Rattle.snap_print.specs.Printed.{is_trimmed}
 use Rattle.snap_text.specs.Contents.{legacy_of, MatchLatest}
 use Rattle.snap_text.specs.declared.contents.TextSnapshotContents.{TextSnapshotContents}
 use Rattle.snap_store.specs.declared.contents.SnapshotContents.{SnapshotContents}
-use Rattle.snap_store.specs.declared.contents.SnapshotContents.TheVariants.{Text, Binary}
+use Rattle.snap_store.specs.declared.contents.SnapshotContents.TheVariants.{Text}
 use Rattle.snap_store.specs.declared.metadata.SnapshotKind.TheVariants as kind
 use Rattle.snap_store.specs.declared.snapshot.Snapshot.{Snapshot}
 use Rattle.snap_store.specs.Reading.{FileEnd}

@@ -1,5 +1,5 @@
 use Rattle.std.specs.Str.{chars}
-use Rattle.snap_assert.proofs.Prelude.{◌≡◌, ◌∙◌, sym, off, text_of, bytes_eq-Decides}
+use Rattle.snap_assert.proofs.Prelude.{◌∙◌, sym, off, text_of, bytes_eq-Decides}
 use Rattle.snap_content.specs.Plain.{plain, null}
 use Rattle.snap_content.specs.View.{tree}
 use Rattle.snap_assert.proofs.SameInfo.{prints_null, prints_other}

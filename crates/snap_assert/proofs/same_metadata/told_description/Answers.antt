@@ -1,4 +1,4 @@
-use Rattle.snap_assert.proofs.Prelude.{◌≡◌, ◌∙◌, sym, ap, None, Some, chars}
+use Rattle.snap_assert.proofs.Prelude.{◌≡◌, ◌∙◌, sym, ap, None, Some}
 use Rattle.snap_content.specs.Tree.{map}
 use Rattle.snap_content.specs.View.{tree, pair_trees}
 use Rattle.snap_content.proofs.Views.{tree-Map}
