@@ -5,7 +5,7 @@ use Rattle.snap_store.specs.Reading.{FileEnd}
 use Rattle.snap_store.specs.Views.{snapshot_of}
 use Rattle.snap_store.specs.declared.metadata.SnapshotKind.TheVariants as kind
 use Rattle.snap_assert.specs.Default.{default_relation}
-use Rattle.snap_assert.specs.Prepared.{JudgedBy, new_view}
+use Rattle.snap_assert.specs.Prepared.{JudgedBy, IsPassedBy, new_view}
 use Rattle.snap_assert.specs.Relations.{Relation}
 use Rattle.snap_assert.specs.declared.error.AssertError.TheVariants as stop
 use Rattle.snap_assert.specs.declared.outcome.Warning.{Warning}
@@ -55,18 +55,18 @@ default_agrees false asked snapshot h = h.0
 default_agrees true asked snapshot h = full_agrees (contents_in snapshot) (text_of asked.blocks asked.tree) (meta_in snapshot) asked.meta h
 
 -- by what was read, and how it was compared, it may pass
-pub judged_allowed : (fully : Bool) (asked : Asked) (m : Files) (judged : Judged) → is_trimmed asked.blocks ≡ true → asked.meta.kind ≡ kind.Text
-    → IsJudged (default_relation fully) asked m judged → Allowed fully asked judged.passed (get m asked.path)
-judged_allowed fully asked m judged trimmed text j = by_read j.read j.end j.comes_to
+pub judged_allowed : (fully : Bool) (asked : Asked) (file : Option (List ℕ)) (passed : Bool) (warnings : List Warning) → is_trimmed asked.blocks ≡ true → asked.meta.kind ≡ kind.Text
+    → IsPassedBy (default_relation fully) asked file passed warnings → Allowed fully asked passed file
+judged_allowed fully asked file passed warnings trimmed text j = by_read j.read j.end j.comes_to
   where
-    none : (error : Error) → IsRefused asked.path (get m asked.path) error → ((named : List ℕ) → error ≡ FileIo named → ⊥) → (error ≡ OutOfMemory → ⊥) → judged.passed ≡ false
-        → Allowed fully asked judged.passed (get m asked.path)
+    none : (error : Error) → IsRefused asked.path file error → ((named : List ℕ) → error ≡ FileIo named → ⊥) → (error ≡ OutOfMemory → ⊥) → passed ≡ false
+        → Allowed fully asked passed file
     none error h io memory e =
-        subst (λ b. Allowed fully asked b (get m asked.path)) (sym e) (refused_no_pass fully asked asked.path (get m asked.path) error trimmed h io memory)
+        subst (λ b. Allowed fully asked b file) (sym e) (refused_no_pass fully asked asked.path file error trimmed h io memory)
 
-    by_read : (read : Result Snapshot Error) → FileEnd asked.path (get m asked.path) read → JudgedBy (default_relation fully) read (new_view asked) judged
-        → Allowed fully asked judged.passed (get m asked.path)
-    by_read (Ok snapshot) r c = read_allowed fully asked (get m asked.path) snapshot judged.passed trimmed text r c.passes
+    by_read : (read : Result Snapshot Error) → FileEnd asked.path file read → JudgedBy (default_relation fully) read (new_view asked) passed warnings
+        → Allowed fully asked passed file
+    by_read (Ok snapshot) r c = read_allowed fully asked file snapshot passed trimmed text r c.passes
     by_read (Err (NoFile named)) h c = none (NoFile named) h (λ n e. cc e) (λ e. cc e) c.0
     by_read (Err (NotText named)) h c = none (NotText named) h (λ n e. cc e) (λ e. cc e) c.0
     by_read (Err (FailedParsingYaml named)) h c = none (FailedParsingYaml named) h (λ n e. cc e) (λ e. cc e) c.0
@@ -78,27 +78,24 @@ judged_allowed fully asked m judged trimmed text j = by_read j.read j.end j.come
     by_read (Err JsonKey) h c = absurd c
 
 -- and this is said
-pub judged_warned : (fully : Bool) (asked : Asked) (m : Files) (judged : Judged) → IsJudged (default_relation fully) asked m judged
-    → AreWarnings asked.path (get m asked.path) judged.passed (text_of asked.blocks asked.tree) (items_of judged.warnings)
-judged_warned fully asked m judged j = by_read j.read j.end j.comes_to
+pub judged_warned : (fully : Bool) (asked : Asked) (file : Option (List ℕ)) (passed : Bool) (warnings : List Warning) → IsPassedBy (default_relation fully) asked file passed warnings
+    → AreWarnings asked.path file passed (text_of asked.blocks asked.tree) warnings
+judged_warned fully asked file passed warnings j = by_read j.read j.end j.comes_to
   where
     printed : List ℕ
     printed = text_of asked.blocks asked.tree
 
-    file : Option (List ℕ)
-    file = get m asked.path
+    one : (error : Error) → warnings ≡ Unreadable error ∷ [] → passed ≡ false → IsNotUnderstood asked.path file error
+        → AreWarnings asked.path file passed printed warnings
+    one error is none h = one_warning asked.path file passed printed warnings error is none h
 
-    one : (error : Error) → items_of judged.warnings ≡ Unreadable error ∷ [] → judged.passed ≡ false → IsNotUnderstood asked.path file error
-        → AreWarnings asked.path file judged.passed printed (items_of judged.warnings)
-    one error is none h = one_warning asked.path file judged.passed printed (items_of judged.warnings) error is none h
-
-    by_read : (read : Result Snapshot Error) → FileEnd asked.path file read → JudgedBy (default_relation fully) read (new_view asked) judged
-        → AreWarnings asked.path file judged.passed printed (items_of judged.warnings)
+    by_read : (read : Result Snapshot Error) → FileEnd asked.path file read → JudgedBy (default_relation fully) read (new_view asked) passed warnings
+        → AreWarnings asked.path file passed printed warnings
     by_read (Ok snapshot) r c =
-        let pass = warned_pass file snapshot judged.passed c.older printed r (λ yes. default_agrees fully asked snapshot (c.passes.0 yes)) c.older_is in
-        subst (λ ws. AreWarnings asked.path file judged.passed printed ws) (sym c.said_is)
-        (warned_file asked.path file (legacy_in snapshot) (number_text_in snapshot) c.older judged.passed r.text printed (meta_in snapshot) r.there r.metadata pass)
-    by_read (Err (NoFile named)) h c = no_warning asked.path file judged.passed printed (items_of judged.warnings) c.1 (inl (h.1, refl))
+        let pass = warned_pass file snapshot passed c.older printed r (λ yes. default_agrees fully asked snapshot (c.passes.0 yes)) c.older_is in
+        subst (λ ws. AreWarnings asked.path file passed printed ws) (sym c.said_is)
+        (warned_file asked.path file (legacy_in snapshot) (number_text_in snapshot) c.older passed r.text printed (meta_in snapshot) r.there r.metadata pass)
+    by_read (Err (NoFile named)) h c = no_warning asked.path file passed printed warnings c.1 (inl (h.1, refl))
     by_read (Err (NotText named)) h c = one (NotText named) c.1 c.0 h
     by_read (Err (FailedParsingYaml named)) h c = one (FailedParsingYaml named) c.1 c.0 h
     by_read (Err UnexpectedDataType) h c = one UnexpectedDataType c.1 c.0 h
@@ -109,22 +106,22 @@ judged_warned fully asked m judged j = by_read j.read j.end j.comes_to
     by_read (Err JsonKey) h c = absurd c
 
 -- of one reading
-pub judged_of_one : (relation : Relation) (asked : Asked) (m : Files) (judged : Judged) → IsJudged relation asked m judged → SpeakOfOne asked.path (get m asked.path) judged.passed (items_of judged.warnings)
-judged_of_one relation asked m judged j = by_read j.read j.end j.comes_to
+pub judged_of_one : (relation : Relation) (asked : Asked) (file : Option (List ℕ)) (passed : Bool) (warnings : List Warning) → IsPassedBy relation asked file passed warnings → SpeakOfOne asked.path file passed warnings
+judged_of_one relation asked file passed warnings j = by_read j.read j.end j.comes_to
   where
-    by_read : (read : Result Snapshot Error) → FileEnd asked.path (get m asked.path) read → JudgedBy relation read (new_view asked) judged
-        → SpeakOfOne asked.path (get m asked.path) judged.passed (items_of judged.warnings)
+    by_read : (read : Result Snapshot Error) → FileEnd asked.path file read → JudgedBy relation read (new_view asked) passed warnings
+        → SpeakOfOne asked.path file passed warnings
     by_read (Ok snapshot) r c = record { read = Ok snapshot; end = r; says = (c.older, c.said_is) }
     by_read (Err error) h c = record { read = Err error; end = h; says = c }
 
 -- a file that was read is judged by the comparison
 pub judge_read : (relation : Relation) (asked : Asked) (m : Files) (prepared : Prepared) (files : Option Files) (snapshot : Snapshot) (judged : Judged)
     → IsPrepared asked prepared → files ≡ Some m → IsReadFrom prepared.path files (Ok snapshot)
-    → IsCompared relation (snapshot_of snapshot) (snapshot_of prepared.snapshot) judged → IsJudged relation asked m judged
+    → IsCompared relation (snapshot_of snapshot) (snapshot_of prepared.snapshot) judged.passed (items_of judged.warnings) → IsJudged relation asked m judged
 judge_read relation asked m prepared files snapshot judged p told r c = record {
   read = Ok snapshot;
   end = subst (λ f. IsReadAs f snapshot) (r.told m told ∙ ap (get m) p.path) r.comes_to;
-  comes_to = subst (λ v. IsCompared relation (snapshot_of snapshot) v judged) p.view c;
+  comes_to = subst (λ v. IsCompared relation (snapshot_of snapshot) v judged.passed (items_of judged.warnings)) p.view c;
 }
 
 by_error : (relation : Relation) (asked : Asked) (m : Files) (error : Error) (result : Result Judged AssertError) → IsRefused asked.path (get m asked.path) error

@@ -1,5 +1,7 @@
 -- Why an assertion comes to no answer, in turn: the name, the files, the block, and the files once more.
-use Rattle.snap_assert.proofs.Prelude.{◌≡◌, ◌⊎◌, inl, inr, ℕ, List, Option, None, Some, Result, Ok, Err, refl, sym, ap, ◌∙◌, Files, cleared, Assertion, asked_under, key_under, new_contents, SessionView, Update, AssertError, FaultIsOwn, IsAnswered, IsDone, Config}
+use Rattle.snap_assert.specs.Compared.{IsDoneBy, IsAnsweredBy}
+use Rattle.snap_assert.specs.Relations.{Relation}
+use Rattle.snap_assert.proofs.Prelude.{◌≡◌, ◌⊎◌, inl, inr, ℕ, List, Option, None, Some, Result, Ok, Err, refl, sym, ap, ◌∙◌, Files, cleared, Assertion, asked_under, key_under, new_contents, SessionView, Update, AssertError, FaultIsOwn, Config}
 use Rattle.std.specs.Result.{IfErr, OnOk}
 use Rattle.std.specs.Prelude.{IfOk}
 use Rattle.snap_content.specs.Tree.{Tree}
@@ -226,9 +228,9 @@ named_stops a files files' s t s' name refusal.JsonKey is h = record {
 }
 
 -- the name is taken, and the block goes along
-pub answered : (config : Config) (a : Assertion) (outcome : Outcome) (files files' : Option Files) (s t s' : SessionView) (name : List ℕ) → name_step a.settings a.place a.given s ≡ Ok (record { name = name; session = t })
-    → keep_step (key_under a.place name) (new_contents (asked_under a name)) t ≡ Ok s' → IsDone config (asked_under a name) outcome files files' → IsAnswered config a outcome files files' s s'
-answered config a outcome files files' s t s' name is kept done = record {
+pub answered : (relation : Relation) (config : Config) (a : Assertion) (outcome : Outcome) (files files' : Option Files) (s t s' : SessionView) (name : List ℕ) → name_step a.settings a.place a.given s ≡ Ok (record { name = name; session = t })
+    → keep_step (key_under a.place name) (new_contents (asked_under a name)) t ≡ Ok s' → IsDoneBy relation config (asked_under a name) outcome files files' → IsAnsweredBy relation config a outcome files files' s s'
+answered relation config a outcome files files' s t s' name is kept done = record {
   course = record { name = name; session = s' };
   course_is = ap (named_course a s) is ∙ ap (kept_course (record { name = name; session = t })) kept;
   remembered = refl;

@@ -13,4 +13,5 @@ pub mod Removed
 pub mod Strays
 pub mod Listed
 pub mod Prepared
+pub mod Compared
 pub mod Unsaved

@@ -1,5 +1,5 @@
 -- What is ready before anything is looked at, and what was seen.
-use Rattle.std.specs.Prelude.{◌≡◌, ◌⊎◌, Bool, true, List, [], ◌∷◌, false, Option, Some, Result, Ok, Err}
+use Rattle.std.specs.Prelude.{◌≡◌, ◌⊎◌, ℕ, Bool, true, List, [], ◌∷◌, false, Option, Some, Result, Ok, Err}
 use Rattle.std.specs.FinMap.{get}
 use Rattle.snap_content.specs.List.{items_of}
 use Rattle.snap_print.specs.Readable.{IsWithin}
@@ -74,22 +74,26 @@ OlderAs passed true old new = (passed ≡ true) × OlderPair true old new
 OlderAs passed false old new = passed ≡ true → OlderPair false old new
 
 -- a pass by the relation, and what is said of it
-pub record IsCompared (relation : Relation) (old new : SnapshotView) (judged : Judged) : Type 0 where
-  pub passes : PassesBy relation (Some old) new judged.passed
+pub record IsCompared (relation : Relation) (old new : SnapshotView) (passed : Bool) (warnings : List Warning) : Type 0 where
+  pub passes : PassesBy relation (Some old) new passed
   pub older : Bool
-  pub older_is : OlderAs judged.passed older old.contents new.contents
-  pub said_is : items_of judged.warnings ≡ said old.was_legacy old.number_as_text older
+  pub older_is : OlderAs passed older old.contents new.contents
+  pub said_is : warnings ≡ said old.was_legacy old.number_as_text older
 
 -- what a reading of the file comes to: of a snapshot a comparison, and of any other file no pass
-abbrev pub JudgedBy : Relation → Result Snapshot Error → SnapshotView → Judged → Type 0
-JudgedBy relation (Ok old) new judged = IsCompared relation (snapshot_of old) new judged
-JudgedBy relation (Err error) new judged = SaysOf (Err error) judged.passed (items_of judged.warnings)
+abbrev pub JudgedBy : Relation → Result Snapshot Error → SnapshotView → Bool → List Warning → Type 0
+JudgedBy relation (Ok old) new passed warnings = IsCompared relation (snapshot_of old) new passed warnings
+JudgedBy relation (Err error) new passed warnings = SaysOf (Err error) passed warnings
+
+-- what is asked passes against the file by the relation, or not, and this is said: as one reading of the file comes to
+pub record IsPassedBy (relation : Relation) (asked : Asked) (file : Option (List ℕ)) (passed : Bool) (warnings : List Warning) : Type 0 where
+  pub read : Result Snapshot Error
+  pub end : FileEnd asked.path file read
+  pub comes_to : JudgedBy relation read (new_view asked) passed warnings
 
 -- whether it passes by the relation, and what is to be said of the file
-pub record IsJudged (relation : Relation) (asked : Asked) (m : Files) (judged : Judged) : Type 0 where
-  pub read : Result Snapshot Error
-  pub end : FileEnd asked.path (get m asked.path) read
-  pub comes_to : JudgedBy relation read (new_view asked) judged
+abbrev pub IsJudged : Relation → Asked → Files → Judged → Type 0
+IsJudged relation asked m judged = IsPassedBy relation asked (get m asked.path) judged.passed (items_of judged.warnings)
 
 -- what was found in the files: whether the tree passes, and the strays that are to go
 pub record IsSeen (relation : Relation) (asked : Asked) (m : Files) (seen : Seen) : Type 0 where

@@ -2,7 +2,7 @@
 ghost use Rattle.std.specs.Prelude.{◌≡◌, ◌⊎◌, ◌&&◌, not, Ok, Err, Some, Option, IsSome, IfOk, IfErr, OnOk, option_copied};
 ghost use Rattle.snap_content.specs.Tree.{Tree};
 ghost use Rattle.snap_content.specs.View.{tree};
-ghost use Rattle.snap_assert.specs.Outcomes.{IsDone, IsAnswered, IsStopped, IsUnprinted, AssertCause};
+ghost use Rattle.snap_assert.specs.Outcomes.{IsAnswered, IsStopped, IsUnprinted, AssertCause};
 ghost use Rattle.snap_assert.specs.Assertions.{assertion_of, key_under, new_contents};
 ghost use Rattle.snap_assert.specs.Blocks.{keep_step};
 ghost use Rattle.snap_assert.specs.Kept.{KeptBy, NamesOwn};
@@ -16,6 +16,7 @@ ghost use Rattle.snap_io.specs.Files.{Files};
 ghost use Rattle.snap_io.specs.Outside.{Given, Becomes};
 ghost use Rattle.snap_print.specs.Blocks.{blocks_if};
 ghost use Rattle.snap_store.specs.Views.{contents_in, text_in};
+ghost use Rattle.snap_assert.specs.Compared.{IsDoneBy, IsAnsweredBy};
 ghost use Rattle.snap_assert.specs.Relations.{asked_relation};
 ghost use Rattle.snap_assert.specs.Prepared.{IsPrepared, IsSettled, KeepStops};
 ghost use Rattle.snap_assert.specs.Steps.{Asked, asked_as, cleared, step, verdict_of, is_failure};
@@ -153,19 +154,22 @@ fn assert_prepared<S: Store, C: Comparator>(
 }
 
 /// Asserts the tree that is printed under the name that is taken, with all that is written printed before the store is touched.
-fn assert_named<S: Store>(
+fn assert_named<S: Store, C: Comparator>(
     alloc: Global,
     session: &mut Session,
     listed: &mut Listed,
     store: &mut S,
     config: &Config,
+    comparator: &C,
     settings: &Settings,
     place: &Place,
     name: &Text,
     printed: &Content,
 ) -> Result<Outcome, AssertError>
     ensures done { IfOk result (λ outcome. (known : Option Files)
-        → IsKnown known (S.files store.old) listed.old → IsDone config.now
+        → IsKnown known (S.files store.old) listed.old → IsDoneBy
+        (asked_relation (C.agrees comparator.now) (C.agrees_fully comparator.now)
+        config.now.require_full_match) config.now
         (asked_as (blocks_if config.now.literal) (settings_of settings.now) (place_of place.now)
         name.now (tree printed.now)) outcome known (S.files store.new)) }
     ensures covered { OnOk result (StaysCovered (S.files store.old) (S.files store.new) listed.old
@@ -191,15 +195,7 @@ fn assert_named<S: Store>(
 {
     let prepared = prepare(alloc, settings, place, name, printed, config.literal)?;
     let judged = assert_prepared(
-        alloc,
-        session,
-        listed,
-        store,
-        config,
-        &DefaultComparator,
-        place,
-        name,
-        &prepared,
+        alloc, session, listed, store, config, comparator, place, name, &prepared,
     );
     let path = prepared.into_path();
     let judged = judged?;
@@ -213,19 +209,22 @@ fn assert_named<S: Store>(
 }
 
 /// Takes the name, and asserts the tree that is printed under it.
-fn assert_printed<S: Store>(
+fn assert_printed<S: Store, C: Comparator>(
     alloc: Global,
     session: &mut Session,
     listed: &mut Listed,
     store: &mut S,
     config: &Config,
+    comparator: &C,
     settings: &Settings,
     place: &Place,
     given: Option<&Text>,
     printed: &Content,
 ) -> Result<Outcome, AssertError>
     ensures answered { IfOk result (λ outcome. (known : Option Files)
-        → IsKnown known (S.files store.old) listed.old → IsAnswered config.now
+        → IsKnown known (S.files store.old) listed.old → IsAnsweredBy
+        (asked_relation (C.agrees comparator.now) (C.agrees_fully comparator.now)
+        config.now.require_full_match) config.now
         (assertion_of (blocks_if config.now.literal) (settings_of settings.now)
         (place_of place.now) (option_copied given.entry) (tree printed.now)) outcome
         known (S.files store.new) (session_of session.old) (session_of session.new)) }
@@ -252,10 +251,68 @@ fn assert_printed<S: Store>(
 {
     let name = take_name(alloc, session, settings, place, given)?;
     let outcome = assert_named(
-        alloc, session, listed, store, config, settings, place, &name, printed,
+        alloc, session, listed, store, config, comparator, settings, place, &name, printed,
     );
     drop(name);
     outcome
+}
+
+/// Asserts the tree by the comparator, as the settings print it.
+pub(crate) fn assert_sorted<S: Store, C: Comparator>(
+    alloc: Global,
+    session: &mut Session,
+    listed: &mut Listed,
+    store: &mut S,
+    config: &Config,
+    comparator: &C,
+    settings: &Settings,
+    place: &Place,
+    name: Option<&Text>,
+    content: Content,
+) -> Result<Outcome, AssertError>
+    ensures answered { IfOk result (λ outcome. (printed : Tree)
+        × PrintsAs (λ v. (⟦<dyn Redactor as Redactor>⟧ v).allows) settings.now (tree content) printed
+        × ((known : Option Files) → IsKnown known (S.files store.old) listed.old
+        → IsAnsweredBy
+        (asked_relation (C.agrees comparator.now) (C.agrees_fully comparator.now)
+        config.now.require_full_match) config.now (assertion_of (blocks_if config.now.literal)
+        (settings_of settings.now) (place_of place.now) (option_copied name.entry) printed) outcome
+        known (S.files store.new) (session_of session.old) (session_of session.new))) }
+    ensures stopped { IfErr result (λ e. IsUnprinted e (session_of session.old)
+        (session_of session.new) ⊎ ((printed : Tree)
+        × PrintsAs (λ v. (⟦<dyn Redactor as Redactor>⟧ v).allows) settings.now (tree content) printed
+        × ((known : Option Files) → IsKnown known (S.files store.old) listed.old
+        → IsStopped (assertion_of (blocks_if config.now.literal) (settings_of settings.now)
+        (place_of place.now) (option_copied name.entry) printed) e
+        known (S.files store.new) (session_of session.old) (session_of session.new)))) }
+    // What is known of the store's folders goes on with the files of the step.
+    ensures covered { OnOk result (StaysCovered (S.files store.old) (S.files store.new) listed.old
+        listed.new) }
+    // Whatever is returned: no file is written but the one of the mode, so the approved one only in place.
+    ensures kept { (named : Named) → name_step (settings_of settings.now) (place_of place.now)
+        (option_copied name.entry) (session_of session.old) ≡ Ok named
+        → KeptBy config.now.update
+        (path_of (settings_of settings.now) (place_of place.now) named.name)
+        (S.files store.old) (S.files store.new) }
+    ensures named { (named : Named) → name_step (settings_of settings.now) (place_of place.now)
+        (option_copied name.entry) (session_of session.old) ≡ Ok named
+        → NamesOwn config.now.update
+        (path_of (settings_of settings.now) (place_of place.now) named.name) result }
+    ensures untouched { (error : AssertError) → name_step (settings_of settings.now)
+        (place_of place.now) (option_copied name.entry) (session_of session.old) ≡ Err error
+        → store.new ≡ store.old }
+    ensures cause { AssertCause (S.faults store.old) (S.faults store.new) result }
+{
+    match settings.printed_tree(alloc, content) {
+        Ok(printed) => {
+            let outcome = assert_printed(
+                alloc, session, listed, store, config, comparator, settings, place, name, &printed,
+            );
+            drop(printed);
+            outcome
+        }
+        Err(_) => Err(AssertError::OutOfMemory),
+    }
 }
 
 /// Asserts as `assert_content` does, for a caller that keeps what is known of the store from one assertion to the next: a folder that
@@ -305,16 +362,18 @@ pub fn assert_listed<S: Store>(
         → store.new ≡ store.old }
     ensures cause { AssertCause (S.faults store.old) (S.faults store.new) result }
 {
-    match settings.printed_tree(alloc, content) {
-        Ok(printed) => {
-            let outcome = assert_printed(
-                alloc, session, listed, store, config, settings, place, name, &printed,
-            );
-            drop(printed);
-            outcome
-        }
-        Err(_) => Err(AssertError::OutOfMemory),
-    }
+    assert_sorted(
+        alloc,
+        session,
+        listed,
+        store,
+        config,
+        &DefaultComparator,
+        settings,
+        place,
+        name,
+        content,
+    )
 }
 
 /// Asserts that the tree, redacted, is that of the snapshot of its name, by what the file of that holds.

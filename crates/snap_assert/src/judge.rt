@@ -181,7 +181,7 @@ fn compare<C: Comparator>(
 ) -> Result<Judged, OutOfMemory>
     ensures { IfOk result (λ judged. IsCompared
         (asked_relation (C.agrees comparator.now) (C.agrees_fully comparator.now) fully)
-        (snapshot_of old.now) (snapshot_of new.now) judged) }
+        (snapshot_of old.now) (snapshot_of new.now) judged.passed (items_of judged.warnings)) }
 {
     let passed = judge(alloc, comparator, fully, Some(old), new)?;
     let older = passes_by_older_forms(alloc, passed, old.contents(), new.contents())?;

@@ -3,9 +3,10 @@
 //! In the order in which data flows: `session` (what is remembered), `names` (the name that is taken), `kept` (what an open block keeps),
 //! `duplicates` (a block round a closure), `comparator` and `default` with `same_metadata` (whether a new snapshot matches an old one),
 //! `prepare`, `judge`, `strays`, `listed` and `look` (what is there), `settle` and `removal` (what is left), `engine`
-//! (one assertion), `outcome` and `error` (its answer), `laws`.
+//! and `by_comparator` (one assertion), `outcome` and `error` (its answer), `laws`.
 #![tactic(auto)]
 
+pub mod by_comparator;
 pub mod comparator;
 pub mod default;
 pub mod duplicates;
@@ -25,6 +26,7 @@ pub mod session;
 mod settle;
 mod strays;
 
+pub use by_comparator::assert_content_by;
 pub use comparator::Comparator;
 pub use default::DefaultComparator;
 pub use duplicates::with_allow_duplicates;

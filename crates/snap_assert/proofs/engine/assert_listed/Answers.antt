@@ -1,19 +1,15 @@
-use Rattle.snap_assert.proofs.Prelude.{refl, inl, inr, IfOk-weaker}
-use Rattle.snap_content.specs.View.{tree}
-use Rattle.snap_assert.proofs.Refusals.{err_weaker}
-use Rattle.snap_assert.proofs.Settling.{kept_unwritten}
+use Rattle.snap_assert.proofs.Prelude.{IfOk-weaker, settings_of, place_of, blocks_if, assertion_of}
+use Rattle.std.specs.Option.{option_copied}
+use Rattle.snap_assert.specs.Session.{session_of}
+use Rattle.snap_assert.proofs.Answering.{default_answered}
+use Rattle.snap_assert.proofs.Below.{trimmed-if}
 use Rattle.snap_assert.proofs.engine.assert_listed.Goals as goal
 
-pub returns-in-Ok-clause-answered : goal.returns-in-Ok-clause-answered
-returns-in-Ok-clause-answered g c =
-    IfOk-weaker c.assert_printed-outcome.result _ _ (λ outcome h. (tree c.in-Ok.printed, c.in-Ok.ensures.printed, h)) c.assert_printed-outcome.ensures.answered
-
-pub returns-in-Ok-clause-stopped : goal.returns-in-Ok-clause-stopped
-returns-in-Ok-clause-stopped g c =
-    err_weaker c.assert_printed-outcome.result (λ error h. inr (tree c.in-Ok.printed, c.in-Ok.ensures.printed, h)) c.assert_printed-outcome.ensures.stopped
-
-pub returns-in-Err-clause-stopped : goal.returns-in-Err-clause-stopped
-returns-in-Err-clause-stopped g c = inl (refl, refl)
-
-pub returns-in-Err-clause-kept : goal.returns-in-Err-clause-kept
-returns-in-Err-clause-kept g c = λ named is. kept_unwritten _ _ _ _ refl
+pub returns-clause-answered : goal.returns-clause-answered
+returns-clause-answered g c = IfOk-weaker c.assert_sorted.result _ _ (λ outcome h. (
+  h.0,
+  h.1,
+  λ known held. default_answered c.args.config.now
+      (assertion_of (blocks_if c.args.config.now.literal) (settings_of c.args.settings.now) (place_of c.args.place.now) (option_copied c.args.name) h.0)
+      outcome known _ (session_of c.args.session.now) _ (trimmed-if c.args.config.now.literal) (h.2 known held),
+)) c.assert_sorted.ensures.answered

@@ -37,4 +37,4 @@ returns-clause-covered g c = c.in_ok-judged.ensures.covered _ c.in_ok-prepared.e
 
 pub returns-clause-done : goal.returns-clause-done
 returns-clause-done g c = λ known held.
-    rw c.into_path-path.ensures (done_by c.args.config.now _ c.in_ok-prepared.prepared c.in_ok-judged.judged _ _ _ _ known c.args.listed.now held c.in_ok-prepared.ensures c.verdict-verdict.ensures c.fails.ensures c.in_ok-judged.ensures.settled)
+    rw c.into_path-path.ensures (done_by _ c.args.config.now _ c.in_ok-prepared.prepared c.in_ok-judged.judged _ _ _ _ known c.args.listed.now held c.in_ok-prepared.ensures c.verdict-verdict.ensures c.fails.ensures c.in_ok-judged.ensures.settled)

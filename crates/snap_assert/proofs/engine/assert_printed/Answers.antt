@@ -31,7 +31,7 @@ pub returns-clause-answered : goal.returns-clause-answered
 returns-clause-answered g c =
     let a = assertion_of (blocks_if c.args.config.now.literal) (settings_of c.args.settings.now) (place_of c.args.place.now) (option_copied c.args.given) (tree c.args.printed.now) in
     done_and_kept c.assert_named-outcome.result (λ outcome done kept known held.
-    answered c.args.config.now a outcome known (g.S.Store.files c.assert_named-outcome.new.store) (session_of c.args.session.now) _ _ c.in_ok-name.name c.in_ok-name.ensures.ok kept (done known held))
+    answered _ c.args.config.now a outcome known (g.S.Store.files c.assert_named-outcome.new.store) (session_of c.args.session.now) _ _ c.in_ok-name.name c.in_ok-name.ensures.ok kept (done known held))
     c.assert_named-outcome.ensures.done c.assert_named-outcome.ensures.remembered
 
 pub returns-clause-stopped : goal.returns-clause-stopped
