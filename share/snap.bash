@@ -1,6 +1,6 @@
 # Completion of snap's words for bash.
 _snap() {
-  local word=${COMP_WORDS[COMP_CWORD]} flags=" --force --force-pass --literal " at
+  local word=${COMP_WORDS[COMP_CWORD]} flags=" --force --force-pass --full --literal " at
   [ "$COMP_CWORD" -eq 1 ] || [ "${COMP_WORDS[1]}" = run ] || return 0
   case $COMP_CWORD in
     1) COMPREPLY=($(compgen -W "run --help --version" -- "$word")) ;;

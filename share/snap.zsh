@@ -12,7 +12,7 @@ _snap() {
     _files -/
   else
     # A flag is given once.
-    flags=(--force --force-pass --literal)
+    flags=(--force --force-pass --full --literal)
     given=("${(@)words[5,CURRENT-1]}" "${(@)words[CURRENT+1,-1]}")
     compadd -- ${flags:|given}
   fi

@@ -19,6 +19,8 @@ pub struct Flags {
     pub force_update: bool,
     /// `--force-pass`: no answer fails.
     pub force_pass: bool,
+    /// `--full`: a tree passes only where its metadata are those of the file too.
+    pub full: bool,
     /// `--literal`: texts of several lines are written as literal blocks.
     pub literal: bool,
 }

@@ -1,5 +1,5 @@
 -- What one document leaves.
-use Rattle.snap_run.proofs.Prelude.{◌≡◌, ◌⊎◌, ◌&&◌, not, inl, inr, Bool, true, false, ℕ, List, ◌++◌, map, Option, None, Some, refl, sym, ap, ◌∙◌, subst, Result, Ok, Err, encode_utf8_all, append-nil, Files, outside, HoldsFront, verdict_of, is_failure, step, SessionView, is_open, opened, closed, AssertionView, RequestView, asserts, begins, ends, Spells, ReadsAs, RunWords, place_by, settings_by, printed_by, assertion_by, line_text, line_by, course_line, course_files, MayPass, KeptBy, FaultIsOwn, is_written, may_change, words_of, RanOne, StopsAt, AssertionStops, IsInWork, IsRefusedWith, LineFails, IsMade, IsSeenFrom, name_in, path_in, CountedIf, is_store_fault, DocumentError, Outcome, Runner}
+use Rattle.snap_run.proofs.Prelude.{◌≡◌, ◌⊎◌, ◌&&◌, not, inl, inr, Bool, true, false, ℕ, List, ◌++◌, map, Option, None, Some, refl, sym, ap, ◌∙◌, subst, Result, Ok, Err, encode_utf8_all, append-nil, Files, outside, HoldsFront, verdict_of, is_failure, SessionView, is_open, opened, closed, AssertionView, RequestView, asserts, begins, ends, Spells, ReadsAs, RunWords, place_by, settings_by, printed_by, assertion_by, line_text, line_by, course_line, course_files, MayPass, KeptBy, FaultIsOwn, is_written, may_change, words_of, RanOne, StopsAt, AssertionStops, IsInWork, IsRefusedWith, LineFails, IsMade, IsSeenFrom, name_in, path_in, CountedIf, is_store_fault, DocumentError, Outcome, Runner}
 use Rattle.std.specs.Result.{IfErr, OnOk, is_ok}
 use Rattle.snap_content.proofs.Booleans.{some_same}
 use Rattle.snap_content.specs.Tree.{Tree}

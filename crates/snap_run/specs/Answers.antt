@@ -10,7 +10,7 @@ use Rattle.snap_print.specs.Blocks.{blocks_if}
 use Rattle.snap_assert_settings.specs.Replaced.{redacted_by}
 use Rattle.snap_assert_settings.specs.Settings.{SettingsView, new_settings, sorted_where}
 use Rattle.snap_assert_place.specs.Place.{PlaceView}
-use Rattle.snap_assert.specs.Judging.{May}
+use Rattle.snap_assert.specs.Judging.{Allowed}
 use Rattle.snap_assert.specs.Steps.{Asked, step, verdict_of, is_failure}
 use Rattle.snap_run_requests.specs.Requests.{AssertionView, RequestView, asserts, begins, ends}
 use Rattle.snap_store.specs.Meta.{shown_text}
@@ -30,6 +30,7 @@ pub record RunWords : Type 0 where
   pub update : Update
   pub force_update : Bool
   pub force_pass : Bool
+  pub full : Bool
   pub literal : Bool
 
 -- the modes
@@ -41,13 +42,16 @@ mode_of word =
     else None
 
 abbrev pub no_flags : Flags
-no_flags = record { force_update = false; force_pass = false; literal = false }
+no_flags = record { force_update = false; force_pass = false; full = false; literal = false }
 
 abbrev pub is_force : List ℕ → Bool
 is_force word = bytes_eq word (codes "--force")
 
 abbrev pub is_force_pass : List ℕ → Bool
 is_force_pass word = bytes_eq word (codes "--force-pass")
+
+abbrev pub is_full : List ℕ → Bool
+is_full word = bytes_eq word (codes "--full")
 
 abbrev pub is_literal : List ℕ → Bool
 is_literal word = bytes_eq word (codes "--literal")
@@ -57,6 +61,7 @@ abbrev pub with_flag : List ℕ → Flags → Option Flags
 with_flag word flags =
     if is_force word && not flags.force_update then Some (record flags { force_update = true })
     else if is_force_pass word && not flags.force_pass then Some (record flags { force_pass = true })
+    else if is_full word && not flags.full then Some (record flags { full = true })
     else if is_literal word && not flags.literal then Some (record flags { literal = true })
     else None
 
@@ -76,13 +81,14 @@ stands word words = list_any (λ other. bytes_eq other word) words
 -- each is a flag, and none stands twice
 abbrev pub are_flags : List (List ℕ) → Bool
 are_flags [] = true
-are_flags (word ∷ words) = (is_force word || (is_force_pass word || is_literal word)) && (not (stands word words) && are_flags words)
+are_flags (word ∷ words) = (is_force word || (is_force_pass word || (is_full word || is_literal word))) && (not (stands word words) && are_flags words)
 
 -- the flags that stand among the words
 abbrev pub flags_told : List (List ℕ) → Flags
 flags_told words = record {
   force_update = stands (codes "--force") words;
   force_pass = stands (codes "--force-pass") words;
+  full = stands (codes "--full") words;
   literal = stands (codes "--literal") words;
 }
 
@@ -93,6 +99,7 @@ words_at workspace update flags = record {
   update = update;
   force_update = flags.force_update;
   force_pass = flags.force_pass;
+  full = flags.full;
   literal = flags.literal;
 }
 
@@ -182,9 +189,9 @@ step_by words (asserts a) passed session files = course_files words a passed (co
 step_by words begins passed session files = files
 step_by words ends passed session files = files
 
--- whether an assertion may pass is decided by the file that stands at its path at that moment
+-- whether an assertion may pass is decided by the file that stands at its path at that moment, fully where the words ask for that
 abbrev pub MayPass : RunWords → AssertionView → Bool → Result Course Refused → Files → Type 0
-MayPass words a passed (Ok course) files = May passed (get files (asked_by words a course.name).path) (asked_by words a course.name).blocks (asked_by words a course.name).tree
+MayPass words a passed (Ok course) files = Allowed words.full (asked_by words a course.name) passed (get files (asked_by words a course.name).path)
 MayPass words a passed (Err refused) files = Unit {0}
 
 abbrev pub IsAllowed : RunWords → RequestView → Bool → SessionView → Files → Type 0

@@ -1,5 +1,4 @@
 -- What the documents of a run share.
-use Rattle.std.specs.Prelude.{◌≡◌, false}
 use Rattle.snap_run.specs.Answers.{RunWords}
 use Rattle.snap_run.specs.declared.runner.Runner.{Runner}
 
@@ -10,9 +9,6 @@ words_of runner = record {
   update = runner.config.update;
   force_update = runner.config.force_update;
   force_pass = runner.config.force_pass;
+  full = runner.config.require_full_match;
   literal = runner.config.literal;
 }
-
--- the words ask for no flag that is not built
-pub record IsReady (runner : Runner) : Type 0 where
-  pub loose : runner.config.require_full_match ≡ false

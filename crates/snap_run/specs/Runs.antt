@@ -4,12 +4,12 @@ use Rattle.std.specs.FinMap.{get}
 use Rattle.snap_io.specs.Files.{Files}
 use Rattle.snap_io.specs.Outside.{Outside, Given, Becomes}
 use Rattle.snap_io.specs.Streams.{HoldsFront}
-use Rattle.snap_run_requests.specs.Requests.{AssertionView, RequestView, asserts, begins, ends, Spells, ReadsAs, Reads}
+use Rattle.snap_run_requests.specs.Requests.{AssertionView, RequestView, asserts, ends, Spells, ReadsAs, Reads}
 use Rattle.snap_run.specs.Refused.{status_at, kind_of}
 use Rattle.snap_run.specs.Answers.{Answer, RunWords, place_by, settings_by, assertion_by, asked_by, is_taken, AreTaken, remembered_after, IsAllowed, step_by, line_by, requests_of, AreAllowed, files_after, lines_of, answer_fails}
 use Rattle.snap_assert_place.specs.SnapshotPath.{path_of}
 use Rattle.snap_assert.specs.Courses.{Course, Refused, course_of, cleared_at}
-use Rattle.snap_assert.specs.Judging.{May}
+use Rattle.snap_assert.specs.Judging.{Allowed}
 use Rattle.snap_assert.specs.Names.{Named, name_step}
 use Rattle.snap_assert.specs.Session.{SessionView, is_open}
 use Rattle.snap_assert.specs.Steps.{step, verdict_of, is_failure}
@@ -81,7 +81,7 @@ pub record IsMade (words : RunWords) (a : AssertionView) (outcome : Outcome) (se
   pub verdict : outcome.verdict ≡ verdict_of words.update passed
   pub fails : outcome.fails ≡ (is_failure (verdict_of words.update passed) && not words.force_pass)
   pub path : outcome.path ≡ (asked_by words a course.name).path
-  pub allowed : Given files (λ m. May passed (get m (asked_by words a course.name).path) (asked_by words a course.name).blocks (asked_by words a course.name).tree)
+  pub allowed : Given files (λ m. Allowed words.full (asked_by words a course.name) passed (get m (asked_by words a course.name).path))
   pub stands : Becomes files files' (λ m. step words.update words.force_update (asked_by words a course.name) passed m)
   pub work : IsInWork words a session files files'
 

@@ -7,7 +7,7 @@ ghost use Rattle.snap_run_requests.specs.Cut.{documents};
 ghost use Rattle.snap_assert_place.specs.Place.{names_file, place_of};
 ghost use Rattle.snap_assert.specs.Session.{session_of, opened, closed, is_open};
 ghost use Rattle.snap_assert.specs.Listed.{IsKnown, StaysCovered};
-ghost use Rattle.snap_run.specs.Runner.{IsReady, words_of};
+ghost use Rattle.snap_run.specs.Runner.{words_of};
 ghost use Rattle.snap_run.specs.Answers.{line_text, place_at};
 ghost use Rattle.snap_run.specs.Status.{Ended, says_file_fault, says_write_fault};
 ghost use Rattle.snap_run.specs.Runs.{RanOne, StopsAt, Stopped, IsMade, AssertionStops, IsSeenFrom, is_store_fault, is_sink_fault};
@@ -83,8 +83,7 @@ fn make_assertion<F: Store>(
     assertion: Assertion,
     store: &mut F,
 ) -> Result<Outcome, DocumentError>
-    requires ready { IsReady runner.now }
-    requires of_file { names_file assertion.file ≡ true }
+    requires { names_file assertion.file ≡ true }
     ensures ok { IfOk result (λ outcome. (known : Option Files)
         → IsKnown known (F.files store.old) listed.old
         → IsMade (words_of runner.now) (assertion_of assertion) outcome
@@ -146,8 +145,7 @@ fn run_assertion<K: Sink, F: Store>(
     sink: &mut K,
     store: &mut F,
 ) -> Result<bool, DocumentError>
-    requires ready { IsReady runner.now }
-    requires of_file { names_file assertion.file ≡ true }
+    requires { names_file assertion.file ≡ true }
     ensures ok { IfOk result (λ fails. (document : List ℕ) (known : Option Files)
         → ReadsAs document (asserts (assertion_of assertion))
         → IsKnown known (F.files store.old) listed.old
@@ -207,7 +205,6 @@ fn run_document<K: Sink, F: Store>(
     sink: &mut K,
     store: &mut F,
 ) -> Result<bool, DocumentError>
-    requires ready { IsReady runner.now }
     ensures ok { IfOk result (λ fails. (known : Option Files)
         → IsKnown known (F.files store.old) listed.old
         → RanOne (words_of runner.now) document.now fails
@@ -244,8 +241,7 @@ pub fn run_documents<K: Sink, F: Store>(
     sink: &mut K,
     store: &mut F,
 ) -> Result<bool, Status>
-    requires ready { IsReady runner.now }
-    requires short { length input.now < 2 ^ 63 }
+    requires { length input.now < 2 ^ 63 }
     ensures finished { IfOk result (λ fails. Ended fails (words_of runner.now) (documents input.now)
         (session_of session.old) (outside (F.files store.old) (K.written sink.old))
         (outside (F.files store.new) (K.written sink.new))) }

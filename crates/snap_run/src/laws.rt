@@ -1,7 +1,7 @@
 //! Laws of a run, and worked examples.
 ghost use Rattle.std.specs.Prelude.{◌≡◌, ◌∷◌, ℕ, List, [], None, Some, false, true, codes, if◌then◌else◌};
 ghost use Rattle.snap_run.specs.Answers.{Answer, RunWords, are_flags, flags_mean, flags_told, some_fails, text_asked, words_mean};
-ghost use Rattle.snap_assert_settings.specs.declared.config.Update.TheVariants.{InPlace};
+ghost use Rattle.snap_assert_settings.specs.declared.config.Update.TheVariants.{InPlace, NoUpdate};
 
 /// Where the mode writes in place no answer fails, so a run does not end with failures.
 pub const fn nothing_fails_in_place()
@@ -24,8 +24,20 @@ pub const fn worked_examples()
           update = InPlace;
           force_update = true;
           force_pass = false;
+          full = false;
           literal = true;
         }) }
     ensures twice { words_mean (codes "run" ∷ codes "inplace" ∷ codes "w" ∷ codes "--literal"
         ∷ codes "--literal" ∷ []) ≡ None }
+    ensures full { words_mean (codes "run" ∷ codes "no" ∷ codes "w" ∷ codes "--full" ∷ [])
+        ≡ Some (record {
+          workspace = codes "w";
+          update = NoUpdate;
+          force_update = false;
+          force_pass = false;
+          full = true;
+          literal = false;
+        }) }
+    ensures full_twice { words_mean (codes "run" ∷ codes "no" ∷ codes "w" ∷ codes "--full"
+        ∷ codes "--force" ∷ codes "--full" ∷ []) ≡ None }
 {}

@@ -14,7 +14,7 @@ pub struct Runner {
 
 impl Runner {
     ghost use Rattle.snap_run.specs.Answers.{words_at};
-    ghost use Rattle.snap_run.specs.Runner.{IsReady, words_of};
+    ghost use Rattle.snap_run.specs.Runner.{words_of};
 
     /// A run below this workspace, with this mode and these flags.
     pub fn new(
@@ -25,12 +25,11 @@ impl Runner {
     ) -> Result<Runner, OutOfMemory>
         ensures words { IfOk result (λ runner. words_of runner
             ≡ words_at workspace.now update flags) }
-        ensures ready { IfOk result (λ runner. IsReady runner) }
     {
         let config = Config {
             update,
             force_update: flags.force_update,
-            require_full_match: false,
+            require_full_match: flags.full,
             force_pass: flags.force_pass,
             literal: flags.literal,
             run_id: Text::empty(),

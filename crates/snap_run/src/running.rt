@@ -61,8 +61,8 @@ fn run_words<S: Source, K: Sink, F: Store>(
 /// Reads the source to its end, asserts its requests in turn over the store, and writes a line for each.
 ///
 /// The words are `run`, a mode, a workspace and flags: `inplace` writes what did not pass, `new` writes it beside the
-/// approved snapshot, and `no` writes nothing; `--force` writes what passes too, `--force-pass` lets no answer fail, and `--literal`
-/// prints texts of several lines as literal blocks.
+/// approved snapshot, and `no` writes nothing; `--force` writes what passes too, `--force-pass` lets no answer fail, `--full` lets a
+/// value pass only where its file's header tells what the request does, and `--literal` prints texts of several lines as literal blocks.
 /// The words are those of the command line, without the program's name. The line of a request is written before
 /// the next document runs, and the first refusal ends the run; what was done before stays.
 ///

@@ -28,6 +28,7 @@ WORKSPACE is the folder below which the snapshots stand.
 FLAG, each at most once:
   --force        what passes is written too, in today's format
   --force-pass   no answer fails the run
+  --full         a value passes only under the header that it would be saved with
   --literal      texts of several lines are written as literal blocks
 
 REQUESTS are YAML documents on standard input, each headed by ---, with the keys:

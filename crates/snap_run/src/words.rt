@@ -42,6 +42,11 @@ fn with_flag(word: &Text, flags: Flags) -> Option<Flags>
             force_pass: true,
             ..flags
         })
+    } else if is_same(word.as_str(), "--full") && !flags.full {
+        Some(Flags {
+            full: true,
+            ..flags
+        })
     } else if is_same(word.as_str(), "--literal") && !flags.literal {
         Some(Flags {
             literal: true,
@@ -59,6 +64,7 @@ fn flags_in(words: &[Text]) -> Option<Flags>
     let mut flags = Flags {
         force_update: false,
         force_pass: false,
+        full: false,
         literal: false,
     };
     for word in words {

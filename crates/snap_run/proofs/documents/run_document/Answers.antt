@@ -10,8 +10,8 @@ returns-in_err-assertion-clause-err g c =
     rw (told.1, told.2) (λ known held. inl (unread_stops (words_of c.args.runner.now) c.args.document.now _ _ _ c.in_err-assertion.field-0.0 (λ why is.
     c.read_request.ensures.refused why (c.in_err-assertion.was ∙ ap Err is))))
 
-pub run_assertion-requires-clause-of_file : goal.run_assertion-requires-clause-of_file
-run_assertion-requires-clause-of_file g c =
+pub run_assertion-requires : goal.run_assertion-requires
+run_assertion-requires g c =
     (subst (λ r. ReadsAs c.args.document.now (request_of r)) c.in-Assertion.is c.in_ok-assertion.ensures.ok).request_is.of_file
 
 pub returns-in-Assertion-clause-ok : goal.returns-in-Assertion-clause-ok
