@@ -14,6 +14,7 @@ mod Answering
 mod OpenBlocks
 mod Innermost
 mod Counters
+mod Forgetting
 pub mod Refusals
 mod Printing
 mod NameSteps

@@ -1,5 +1,6 @@
 pub mod Session
 pub mod Names
+pub mod LiteralNames
 pub mod Blocks
 pub mod Relations
 pub mod Default

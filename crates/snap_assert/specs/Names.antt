@@ -56,11 +56,13 @@ named_by key session (Ok next) = Ok (record { name = numbered (is_open session) 
 abbrev pub counted_step : NameKey → Bool → SessionView → Result Named AssertError
 counted_step key is_test session = named_by key session (next_use (is_open session) is_test (use_of session key))
 
+-- the name that comes from the function
+abbrev pub function_step : SettingsView → PlaceView → SessionView → Result Named AssertError
+function_step settings place session = counted_step (key_of settings place) (is_test (last_name place.function)) session
+
 -- the name of an assertion for which none is given: it comes from its function, but not in a doctest
 abbrev pub automatic_step : SettingsView → PlaceView → SessionView → Result Named AssertError
-automatic_step settings place session =
-    if is_doctest place.function then Err DoctestNeedsName
-    else counted_step (key_of settings place) (is_test (last_name place.function)) session
+automatic_step settings place session = if is_doctest place.function then Err DoctestNeedsName else function_step settings place session
 
 -- a name that is given gets the suffix of the settings, and the session stays
 abbrev pub name_step : SettingsView → PlaceView → Option (List ℕ) → SessionView → Result Named AssertError

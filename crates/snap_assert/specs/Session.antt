@@ -1,10 +1,13 @@
 -- What a session remembers: lists of entries in the order of their keys, as the standard library's maps show them.
 use Rattle.std.specs.Prelude.{ℕ, Bool, true, false, List, [], ◌∷◌, Option, None, map, reverse}
 use Rattle.std.specs.BTreeMap.{insert_entry, is_at}
+use Rattle.std.specs.BTreeSet.{insert_key}
 use Rattle.std.specs.Cmp.Lexicographic.{slice_cmp}
+use Rattle.std.specs.List.{list_any}
 use Rattle.std.specs.Map.{lookup}
 use Rattle.std.specs.Option.{option_cmp}
 use Rattle.std.specs.Ordering.{nat_cmp, ordering_then}
+use Rattle.std.specs.Set.{remove_key}
 use Rattle.std.specs.declared.cmp.Ordering.{Ordering}
 use Rattle.snap_store.specs.declared.contents.SnapshotContents.{SnapshotContents}
 use Rattle.snap_assert_place.specs.Names.{NameKey}
@@ -27,24 +30,34 @@ BlockKey = List ℕ × List ℕ × Option ℕ
 abbrev pub block_cmp : BlockKey → BlockKey → Ordering
 block_cmp a b = ordering_then (ordering_then (text_cmp a.0 b.0) (text_cmp a.1 b.1)) (option_cmp nat_cmp a.2 b.2)
 
+-- a literal in the source: its function, its file and its line
+abbrev pub LiteralKey : Type 0
+LiteralKey = List ℕ × List ℕ × ℕ
+
+-- the order of literals
+abbrev pub literal_cmp : LiteralKey → LiteralKey → Ordering
+literal_cmp a b = ordering_then (ordering_then (text_cmp a.0 b.0) (text_cmp a.1 b.1)) (nat_cmp a.2 b.2)
+
 -- what an open block keeps: for each key the contents that were asserted first
 abbrev pub Block : Type 0
 Block = List (BlockKey × SnapshotContents)
 
--- how each automatic name was used, and what each open block keeps, the innermost first
+-- how each automatic name was used, what each open block keeps, the innermost first, and the literals that were met outside of blocks
 pub record SessionView : Type 0 where
   pub uses : List (NameKey × Use)
   pub blocks : List Block
+  pub literals : List LiteralKey
 
--- before the first assertion: no name was made, and no block is open
+-- before the first assertion: no name was made, no block is open, and no literal was met
 abbrev pub empty_session : SessionView
-empty_session = record { uses = []; blocks = [] }
+empty_session = record { uses = []; blocks = []; literals = [] }
 
 -- what a session is seen as; its last block is the innermost
 abbrev pub session_of : Session → SessionView
 session_of session = record {
   uses = session.uses.entries;
   blocks = reverse (map (λ block. block.entries) session.blocks.items);
+  literals = session.literals.keys;
 }
 
 -- with one more block, which keeps nothing
@@ -73,6 +86,18 @@ use_of session key = lookup (is_at (key_cmp key)) session.uses
 
 abbrev pub with_use : SessionView → NameKey → Use → SessionView
 with_use session key value = record session { uses = insert_entry key_cmp session.uses key value }
+
+-- whether the literal was met
+abbrev pub is_met : SessionView → LiteralKey → Bool
+is_met session key = list_any (is_at (literal_cmp key)) session.literals
+
+-- the literal is met
+abbrev pub with_literal : SessionView → LiteralKey → SessionView
+with_literal session key = record session { literals = insert_key literal_cmp session.literals key }
+
+-- the literal is as if it had not been met
+abbrev pub without_literal : SessionView → LiteralKey → SessionView
+without_literal session key = record session { literals = remove_key (is_at (literal_cmp key)) session.literals }
 
 -- what the innermost block keeps for the key
 abbrev pub kept_in : BlockKey → List Block → Option SnapshotContents

@@ -60,6 +60,7 @@ pub const fn worked_examples()
           session = record {
             uses = ((codes "m", codes "a"), record { prefixed = Some true; count = 1 }) ∷ [];
             blocks = [];
+            literals = [];
           };
         }) }
     ensures again { (place : PlaceView) → name_step new_settings
@@ -71,6 +72,7 @@ pub const fn worked_examples()
           session = record {
             uses = ((codes "m", codes "a"), record { prefixed = Some true; count = 2 }) ∷ [];
             blocks = [];
+            literals = [];
           };
         }) }
     ensures doctest { (place : PlaceView) → name_step new_settings

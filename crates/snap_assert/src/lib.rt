@@ -1,6 +1,6 @@
 //! One assertion over a store: what it leaves and answers is one stated step. The clauses of `assert_content` say so.
 //!
-//! In the order in which data flows: `session` (what is remembered), `names` (the name that is taken), `kept` (what an open block keeps),
+//! In the order in which data flows: `session` (what is remembered), `names` and `literal_names` (the name that is taken), `kept` (what an open block keeps),
 //! `duplicates` (a block round a closure), `comparator` and `default` with `same_metadata` (whether a new snapshot matches an old one),
 //! `prepare`, `judge`, `strays`, `listed` and `look` (what is there), `settle` and `removal` (what is left), `engine`
 //! and `by_comparator` (one assertion), `outcome` and `error` (its answer), `laws`.
@@ -16,6 +16,7 @@ mod judge;
 mod kept;
 pub mod laws;
 pub mod listed;
+mod literal_names;
 mod look;
 mod names;
 pub mod outcome;

@@ -5,7 +5,7 @@ ghost use Rattle.snap_assert_place.specs.Names.{last_name, is_test, key_of};
 ghost use Rattle.snap_assert_place.specs.Place.{place_of};
 ghost use Rattle.std.specs.Str.{chars};
 ghost use Rattle.snap_assert.specs.Session.{session_of};
-ghost use Rattle.snap_assert.specs.Names.{next_use, counted, numbered, counted_step, automatic_step, name_step, clashes, RefusedAs};
+ghost use Rattle.snap_assert.specs.Names.{next_use, counted, numbered, counted_step, function_step, automatic_step, name_step, clashes, RefusedAs};
 
 use crate::error::AssertError;
 use crate::session::{Session, Use};
@@ -94,6 +94,24 @@ fn take_counted(
     Ok(name)
 }
 
+/// The name that comes from the function. After a refusal and after running out of memory the session is as it was.
+pub fn take_function_name(
+    alloc: Global,
+    session: &mut Session,
+    settings: &Settings,
+    place: &Place,
+) -> Result<Text, AssertError>
+    ensures ok { IfOk result (λ name.
+        function_step (settings_of settings.now) (place_of place.now) (session_of session.old)
+        ≡ Ok (record { name = name; session = session_of session.new })) }
+    ensures err { IfErr result (λ e. RefusedAs e
+        (function_step (settings_of settings.now) (place_of place.now) (session_of session.old))) }
+    ensures same { OnErr result (session_of session.new ≡ session_of session.old) }
+{
+    let key = name_key(alloc, settings, place)?;
+    take_counted(alloc, session, key, is_test_function(place.function().as_str()))
+}
+
 /// The name of an assertion for which none is given, which comes from its function.
 fn take_automatic(
     alloc: Global,
@@ -108,12 +126,10 @@ fn take_automatic(
         (automatic_step (settings_of settings.now) (place_of place.now) (session_of session.old))) }
     ensures same { OnErr result (session_of session.new ≡ session_of session.old) }
 {
-    let function = place.function().as_str();
-    if is_doctest_function(function) {
+    if is_doctest_function(place.function().as_str()) {
         return Err(AssertError::DoctestNeedsName);
     }
-    let key = name_key(alloc, settings, place)?;
-    take_counted(alloc, session, key, is_test_function(function))
+    take_function_name(alloc, session, settings, place)
 }
 
 /// The name that an assertion takes: a given one gets the suffix of the settings, and any other comes from its function, from its second use on with a

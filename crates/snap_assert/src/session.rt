@@ -3,7 +3,7 @@ use snap_assert_place::names::flat_module_text;
 use snap_content::{OutOfMemory, Text};
 use snap_store::SnapshotContents;
 use std::alloc::Global;
-use std::collections::BTreeMap;
+use std::collections::{BTreeMap, BTreeSet};
 
 /// How an automatic name was used: whether the function that it came from began with `test_`, where one was met, and how often it was
 /// counted.
@@ -13,7 +13,8 @@ pub struct Use {
     pub count: u64,
 }
 
-/// What assertions remember from one to the next: the names that were made, and what open blocks of duplicates keep.
+/// What assertions remember from one to the next: the names that were made, what open blocks of duplicates keep, and the literals that
+/// were met.
 #[derive(Drop)]
 pub struct Session {
     alloc: Global,
@@ -21,13 +22,15 @@ pub struct Session {
     uses: BTreeMap<(Text, Text), Use>,
     /// The contents that each open block keeps, the innermost block last.
     blocks: Vec<BTreeMap<(Text, Text, Option<u32>), SnapshotContents>>,
+    /// The literals that were met while no block was open, by function, file and line.
+    literals: BTreeSet<(Text, Text, u32)>,
 }
 
 impl Session {
     ghost use Rattle.std.specs.Prelude.{◌≡◌, IfOk, OnOk, OnErr, option_copied};
-    ghost use Rattle.snap_assert.specs.Session.{session_of, empty_session, opened, closed, is_open, use_of, with_use, kept_for, with_kept, with_counter, with_counters};
+    ghost use Rattle.snap_assert.specs.Session.{session_of, empty_session, opened, closed, is_open, use_of, with_use, kept_for, with_kept, with_counter, with_counters, is_met, with_literal, without_literal};
 
-    /// The empty session: no name was made, and no block is open.
+    /// The empty session: no name was made, no block is open, and no literal was met.
     pub fn new(alloc: Global) -> Session
         ensures { session_of result ≡ empty_session }
     {
@@ -35,6 +38,7 @@ impl Session {
             alloc,
             uses: BTreeMap::new(alloc),
             blocks: Vec::new(alloc),
+            literals: BTreeSet::new(alloc),
         }
     }
 
@@ -107,6 +111,29 @@ impl Session {
     {
         self.uses.insert(key, value)?;
         Ok(())
+    }
+
+    /// Whether the literal was met.
+    pub(crate) fn is_met(&self, key: &(Text, Text, u32)) -> bool
+        ensures { result ≡ is_met (session_of self.now) key.now }
+    {
+        self.literals.contains(key)
+    }
+
+    /// Remembers that the literal was met. After running out of memory the session is as it was.
+    pub(crate) fn meet(&mut self, key: (Text, Text, u32)) -> Result<(), OutOfMemory>
+        ensures ok { OnOk result (session_of self.new ≡ with_literal (session_of self.old) key) }
+        ensures err { OnErr result (session_of self.new ≡ session_of self.old) }
+    {
+        self.literals.insert(key)?;
+        Ok(())
+    }
+
+    /// Forgets the literal.
+    pub(crate) fn forget(&mut self, key: &(Text, Text, u32))
+        ensures { session_of self.new ≡ without_literal (session_of self.old) key.now }
+    {
+        let _ = self.literals.remove(key);
     }
 
     /// What the innermost block keeps for the key.

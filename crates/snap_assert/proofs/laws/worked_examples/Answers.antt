@@ -5,4 +5,4 @@ use Rattle.snap_assert.proofs.laws.worked_examples.Goals as goal
 
 pub returns-clause-again : goal.returns-clause-again
 returns-clause-again c = λ place.
-    ap (λ d. Ok (record { name = 97 ∷ 45 ∷ d; session = record { uses = ((109 ∷ [], 97 ∷ []), use_at true 2) ∷ []; blocks = [] } })) (decimal_digit 2 (omega arith))
+    ap (λ d. Ok (record { name = 97 ∷ 45 ∷ d; session = record { uses = ((109 ∷ [], 97 ∷ []), use_at true 2) ∷ []; blocks = []; literals = [] } })) (decimal_digit 2 (omega arith))
