@@ -15,6 +15,8 @@ mod OpenBlocks
 mod Innermost
 mod Counters
 mod Forgetting
+mod LiteralRefusals
+mod LiteralRecords
 pub mod Refusals
 mod Printing
 mod NameSteps

@@ -16,3 +16,6 @@ pub mod Listed
 pub mod Prepared
 pub mod Compared
 pub mod Unsaved
+pub mod Literals
+pub mod LiteralCourses
+pub mod LiteralOutcomes

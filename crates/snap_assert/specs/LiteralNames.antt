@@ -1,5 +1,5 @@
 -- The name that an assertion of a literal takes, and what is remembered of it.
-use Rattle.std.specs.Prelude.{ℕ, Bool, List, Option, None, Some, Result, Ok, Err, if◌then◌else◌}
+use Rattle.std.specs.Prelude.{ℕ, List, Option, None, Some, Result, Ok, Err, if◌then◌else◌}
 use Rattle.snap_assert_place.specs.Place.{PlaceView}
 use Rattle.snap_assert_place.specs.SnapshotPath.{is_doctest}
 use Rattle.snap_assert_settings.specs.Settings.{SettingsView}

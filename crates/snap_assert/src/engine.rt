@@ -43,7 +43,7 @@ use snap_select::Redactor;
 use std::alloc::Global;
 
 /// The verdict of an assertion.
-fn verdict(mode: Update, passed: bool) -> Verdict
+pub(crate) fn verdict(mode: Update, passed: bool) -> Verdict
     ensures { result ≡ verdict_of mode passed }
 {
     if passed {
@@ -57,7 +57,7 @@ fn verdict(mode: Update, passed: bool) -> Verdict
 }
 
 /// Whether the verdict fails a run.
-fn fails(verdict: Verdict, force_pass: bool) -> bool
+pub(crate) fn fails(verdict: Verdict, force_pass: bool) -> bool
     ensures { result ≡ (is_failure verdict && not force_pass) }
 {
     match verdict {

@@ -97,7 +97,7 @@ fn match_by_older_forms(
 }
 
 /// Whether the pass is one by the older forms alone, which no comparator tells by itself.
-fn passes_by_older_forms(
+pub fn passes_by_older_forms(
     alloc: Global,
     passed: bool,
     old: &SnapshotContents,

@@ -4,6 +4,7 @@ ghost use Rattle.snap_assert_place.specs.Place.{place_of};
 ghost use Rattle.snap_assert.specs.Session.{SessionView, session_of};
 ghost use Rattle.snap_assert.specs.Blocks.{do_agree, parts_of, keep_by, keep_step};
 ghost use Rattle.snap_assert.specs.Names.{RefusedAs};
+ghost use Rattle.snap_assert.specs.LiteralCourses.{inline_key};
 ghost use Rattle.snap_assert.specs.declared.error.DuplicateKey.TheVariants.{Named};
 
 use crate::error::{AssertError, DuplicateKey};
@@ -126,5 +127,34 @@ pub fn keep(
         return Ok(());
     }
     let key = named_key(alloc, place, name)?;
+    keep_in_block(alloc, session, key, new)
+}
+
+/// The key of a literal.
+fn inline_key(alloc: Global, place: &Place) -> Result<DuplicateKey, OutOfMemory>
+    ensures { IfOk result (λ key. key ≡ inline_key (place_of place.now)) }
+{
+    let function = place.function().try_clone(alloc)?;
+    let file = place.file().try_clone(alloc)?;
+    Ok(DuplicateKey::Inline(function, file, place.line()))
+}
+
+/// The same of a literal: the block keeps the contents that are asserted first under its function, file and line, and refuses others.
+pub fn keep_literal(
+    alloc: Global,
+    session: &mut Session,
+    place: &Place,
+    new: &SnapshotContents,
+) -> Result<(), AssertError>
+    ensures ok { OnOk result (keep_step (inline_key (place_of place.now)) new.now
+        (session_of session.old) ≡ Ok (session_of session.new)) }
+    ensures err { IfErr result (λ e. RefusedAs e (keep_step (inline_key (place_of place.now)) new.now
+        (session_of session.old))) }
+    ensures same { OnErr result (session_of session.new ≡ session_of session.old) }
+{
+    if !session.is_open() {
+        return Ok(());
+    }
+    let key = inline_key(alloc, place)?;
     keep_in_block(alloc, session, key, new)
 }

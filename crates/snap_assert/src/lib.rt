@@ -1,9 +1,10 @@
 //! One assertion over a store: what it leaves and answers is one stated step. The clauses of `assert_content` say so.
 //!
-//! In the order in which data flows: `session` (what is remembered), `names` and `literal_names` (the name that is taken), `kept` (what an open block keeps),
-//! `duplicates` (a block round a closure), `comparator` and `default` with `same_metadata` (whether a new snapshot matches an old one),
-//! `prepare`, `judge`, `strays`, `listed` and `look` (what is there), `settle` and `removal` (what is left), `engine`
-//! and `by_comparator` (one assertion), `outcome` and `error` (its answer), `laws`.
+//! In the order in which data flows: `session` (what is remembered), `names` and `literal_names` (the name that is taken), `kept` (what
+//! an open block keeps), `duplicates` (a block round a closure), `comparator` and `default` with `same_metadata` (whether a new snapshot
+//! matches an old one), `prepare`, `judge`, `strays`, `listed` and `look` (what is there), `settle` and `removal` (what is left), `engine`
+//! and `by_comparator` (one assertion); of literals `literals` (their snapshots), `record` (their records) and `literal` (one assertion); `outcome` and
+//! `error` (its answer), `laws`.
 #![tactic(auto)]
 
 pub mod by_comparator;
@@ -16,11 +17,14 @@ mod judge;
 mod kept;
 pub mod laws;
 pub mod listed;
+pub mod literal;
 mod literal_names;
+mod literals;
 mod look;
 mod names;
 pub mod outcome;
 mod prepare;
+mod record;
 mod removal;
 mod same_metadata;
 pub mod session;
@@ -34,6 +38,7 @@ pub use duplicates::with_allow_duplicates;
 pub use engine::{assert_content, assert_listed};
 pub use error::{AssertError, DuplicateKey};
 pub use listed::Listed;
+pub use literal::assert_literal;
 pub use outcome::{Outcome, Verdict, Warning, Warnings};
 pub use session::Session;
 pub use snap_assert_place::{BadPlace, Place};

@@ -109,7 +109,12 @@ pub fn take_function_name(
     ensures same { OnErr result (session_of session.new ≡ session_of session.old) }
 {
     let key = name_key(alloc, settings, place)?;
-    take_counted(alloc, session, key, is_test_function(place.function().as_str()))
+    take_counted(
+        alloc,
+        session,
+        key,
+        is_test_function(place.function().as_str()),
+    )
 }
 
 /// The name of an assertion for which none is given, which comes from its function.
