@@ -1,0 +1,180 @@
+//! Assertions of literals one after the other, in the module `m` of the file `src/a.rs` below the workspace `w`.
+//!
+//! A column says what is done: `begin` and `end` open a block of duplicates and close one, `info` gives the settings an info whose key is a
+//! list, `fail CALL` lets that call of the store fail, and `FUNCTION LINE|REFERENCE|TEXT` asserts at this line of the function that the literal which
+//! reads as the reference stands for the text.
+use crate::answers::add_answer;
+use rows::{add_file, add_text_column, text_of};
+use snap_assert::{
+    AssertError, Config, DefaultComparator, Outcome, Place, Session, Settings, assert_literal,
+};
+use snap_content::{Content, List, OutOfMemory, Pairs, Text};
+use snap_io::MemoryStore;
+use std::alloc::Global;
+
+/// A place at this line of the function.
+fn place_in(alloc: Global, function: &str, digits: &str) -> Result<Place, anyhow::Error> {
+    let workspace = Text::from_ascii(alloc, "w")?;
+    let function = Text::from_str(alloc, function)?;
+    let module = Text::from_ascii(alloc, "m")?;
+    let file = Text::from_ascii(alloc, "src/a.rs")?;
+    let expression = Text::from_ascii(alloc, "x")?;
+    let line = digits.parse::<u32>().unwrap_or(0);
+    Ok(Place::new(workspace, function, module, file, line, expression)?)
+}
+
+/// What an assertion that a column says comes to.
+fn asserted(
+    alloc: Global,
+    session: &mut Session,
+    store: &mut MemoryStore,
+    config: &Config,
+    settings: &Settings,
+    column: &str,
+) -> Result<Result<Outcome, AssertError>, anyhow::Error> {
+    let (stands, texts) = column.split_once('|').unwrap_or((column, ""));
+    let (function, line) = stands.split_once(' ').unwrap_or((stands, ""));
+    let (reference, content) = texts.split_once('|').unwrap_or((texts, ""));
+    let reference = text_of(alloc, reference)?;
+    let content = text_of(alloc, content)?;
+    let place = place_in(alloc, function, line)?;
+    Ok(assert_literal(
+        alloc,
+        session,
+        store,
+        config,
+        settings,
+        &DefaultComparator,
+        &place,
+        &reference,
+        content,
+    ))
+}
+
+fn add_assertion(
+    alloc: Global,
+    line: &mut Text,
+    session: &mut Session,
+    store: &mut MemoryStore,
+    config: &Config,
+    settings: &Settings,
+    column: &str,
+) -> Result<(), anyhow::Error> {
+    let answer = asserted(alloc, session, store, config, settings, column)?;
+    let added = add_answer(alloc, line, &answer);
+    drop(answer);
+    Ok(added?)
+}
+
+/// A map of one pair, whose key is a list.
+fn listed(alloc: Global) -> Result<Content, OutOfMemory> {
+    let key = Content::Seq(List::new(alloc));
+    let mut pairs = Pairs::new(alloc);
+    pairs.push((key, Content::None))?;
+    Ok(Content::Map(pairs))
+}
+
+/// Gives the settings that map as their info.
+fn set_listed(alloc: Global, settings: &mut Settings) -> Result<(), OutOfMemory> {
+    let info = listed(alloc)?;
+    let set = settings.set_raw_info(&info);
+    drop(info);
+    set
+}
+
+/// Lets the call of this number fail.
+fn fail_at(alloc: Global, store: &mut MemoryStore, digits: &str) -> Result<(), OutOfMemory> {
+    let call = digits.parse::<u64>().unwrap_or(0);
+    store.fail_at(vec![in alloc; call]?);
+    Ok(())
+}
+
+fn add_closed(alloc: Global, line: &mut Text, session: &mut Session) -> Result<(), OutOfMemory> {
+    let told = if session.end_duplicates() {
+        "closed"
+    } else {
+        "none open"
+    };
+    add_text_column(alloc, line, told)
+}
+
+/// Does what a column says, and adds what it came to.
+fn add_step(
+    alloc: Global,
+    line: &mut Text,
+    session: &mut Session,
+    store: &mut MemoryStore,
+    config: &Config,
+    settings: &mut Settings,
+    column: &str,
+) -> Result<(), anyhow::Error> {
+    if let Some(call) = column.strip_prefix("fail ") {
+        return Ok(fail_at(alloc, store, call)?);
+    }
+    match column {
+        "begin" => Ok(session.begin_duplicates()?),
+        "end" => Ok(add_closed(alloc, line, session)?),
+        "info" => Ok(set_listed(alloc, settings)?),
+        _ => add_assertion(alloc, line, session, store, config, settings, column),
+    }
+}
+
+fn add_steps(
+    alloc: Global,
+    line: &mut Text,
+    session: &mut Session,
+    store: &mut MemoryStore,
+    config: &Config,
+    settings: &mut Settings,
+    steps: &str,
+) -> Result<(), anyhow::Error> {
+    for column in steps.split('\t') {
+        add_step(alloc, line, session, store, config, settings, column)?;
+    }
+    Ok(())
+}
+
+/// Adds the text of the file of records.
+fn add_records(alloc: Global, line: &mut Text, store: &MemoryStore) -> Result<(), OutOfMemory> {
+    let path = Text::from_ascii(alloc, "w/src/.a.rs.pending-snap")?;
+    line.push_ascii(alloc, "\t")?;
+    add_file(alloc, line, store.get(&path))
+}
+
+/// The line of a session and a store that are lent: where they are alive at an early return, that is dear to prove.
+fn line_of_steps(
+    alloc: Global,
+    session: &mut Session,
+    store: &mut MemoryStore,
+    config: &Config,
+    settings: &mut Settings,
+    steps: &str,
+) -> Result<Text, anyhow::Error> {
+    let mut line = Text::empty();
+    add_steps(alloc, &mut line, session, store, config, settings, steps)?;
+    add_records(alloc, &mut line, store)?;
+    Ok(line)
+}
+
+/// What each column comes to, and the text of the file of records after them.
+pub(crate) fn steps_line(
+    alloc: Global,
+    config: &Config,
+    steps: &str,
+) -> Result<Text, anyhow::Error> {
+    let mut settings = Settings::new(alloc)?;
+    let mut session = Session::new(alloc);
+    let mut store = MemoryStore::new(alloc);
+    let line = line_of_steps(
+        alloc,
+        &mut session,
+        &mut store,
+        config,
+        &mut settings,
+        steps,
+    );
+    drop(store);
+    drop(session);
+    drop(settings);
+    line
+}
