@@ -6,12 +6,13 @@ ghost use Rattle.snap_store.specs.Agreement.{Agree};
 ghost use Rattle.snap_store.specs.declared.contents.SnapshotContents.{SnapshotContents};
 ghost use Rattle.snap_assert.specs.Blocks.{parts_of, keep_step};
 ghost use Rattle.snap_assert.specs.Kept.{is_written, may_change};
+ghost use Rattle.snap_assert.specs.LiteralNames.{literal_name_step};
 ghost use Rattle.snap_assert.specs.Names.{name_step};
 ghost use Rattle.snap_assert.specs.Session.{SessionView, Block, block_cmp, empty_session, opened};
 ghost use Rattle.snap_assert_place.specs.Place.{PlaceView};
 ghost use Rattle.snap_assert_settings.specs.Settings.{new_settings};
 ghost use Rattle.snap_assert.specs.Steps.{pending_path};
-ghost use Rattle.snap_assert.specs.declared.error.AssertError.TheVariants.{DuplicateDiffers, DoctestNeedsName};
+ghost use Rattle.snap_assert.specs.declared.error.AssertError.TheVariants.{DuplicateDiffers, DoctestNeedsName, InlineDuplicate};
 ghost use Rattle.snap_assert.specs.declared.error.DuplicateKey.{DuplicateKey};
 ghost use Rattle.snap_assert_settings.specs.declared.config.Update.TheVariants.{InPlace, NewFile, NoUpdate};
 
@@ -78,4 +79,30 @@ pub const fn worked_examples()
     ensures doctest { (place : PlaceView) → name_step new_settings
         (record place { function = codes "rust_out::main::_doctest_main" }) None empty_session
         ≡ Err DoctestNeedsName }
+{}
+
+/// Names of literals at concrete values: that of the function, and the literal is remembered; again it is refused; and in a doctest there
+/// is none.
+pub const fn literals_at_concrete_values()
+    ensures named { (place : PlaceView) → literal_name_step new_settings
+        (record place
+        { function = codes "foo"; file = codes "a.rs"; line = 7; module_name = codes "m" })
+        empty_session
+        ≡ Ok (record {
+          name = Some (codes "foo");
+          session = record {
+            uses = ((codes "m", codes "foo"), record { prefixed = Some false; count = 1 }) ∷ [];
+            blocks = [];
+            literals = (codes "foo", codes "a.rs", 7) ∷ [];
+          };
+        }) }
+    ensures again { (place : PlaceView) → literal_name_step new_settings
+        (record place { function = codes "foo"; file = codes "a.rs"; line = 7 })
+        (record empty_session { literals = (codes "foo", codes "a.rs", 7) ∷ [] })
+        ≡ Err InlineDuplicate }
+    ensures doctest { (place : PlaceView) → literal_name_step new_settings
+        (record place
+        { function = codes "rust_out::main::_doctest_main"; file = codes "a.rs"; line = 7 })
+        (opened empty_session)
+        ≡ Ok (record { name = None; session = opened empty_session }) }
 {}
