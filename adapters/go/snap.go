@@ -216,12 +216,30 @@ func runProgram(mode, workspace, document string) (string, error) {
 	switch {
 	case errors.Is(err, exec.ErrNotFound) || errors.Is(err, os.ErrNotExist):
 		return "", fmt.Errorf("%s is not there: put snap on the path, or name it in SNAP", program)
-	case errors.As(err, &ended) && ended.ExitCode() == 3:
-		return "", fmt.Errorf("%s (is a selector wrong?)", strings.TrimSpace(words.String()))
 	case err != nil && out.Len() == 0:
-		return "", fmt.Errorf("%v: %s", err, strings.TrimSpace(words.String()))
+		said, why := strings.TrimSpace(words.String()), reasons(command.Path, workspace, document)
+		if !errors.As(err, &ended) || ended.ExitCode() != 3 {
+			return "", fmt.Errorf("%v: %s%s", err, said, why)
+		}
+		if why == "" {
+			why = " (is a selector wrong?)"
+		}
+		return "", fmt.Errorf("%s%s", said, why)
 	}
 	return out.String(), nil
+}
+
+// reasons is what snap-explain says of the document, each on a line of its own; "" where it isn't beside the program.
+func reasons(program, workspace, document string) string {
+	command := exec.Command(filepath.Join(filepath.Dir(program), "snap-explain"), "stream", ".")
+	command.Dir = workspace
+	command.Stdin = strings.NewReader(document)
+	command.Env = append(os.Environ(), "SNAP_AS_BUILT=1")
+	out, _ := command.Output() // its status 1 says that it found something
+	if len(out) == 0 {
+		return ""
+	}
+	return "\n" + strings.TrimSuffix(string(out), "\n")
 }
 
 // workspace is the nearest folder with a go.mod above the package's, which tests run in; folder leads from there to it.

@@ -263,6 +263,28 @@ func TestWhatIsRefusedFailsAlone(t *testing.T) {
 	}
 }
 
+func TestARefusalHasTheWordsOfTheProgramBeside(t *testing.T) {
+	scratch(t, "inplace")
+	program := os.Getenv("SNAP")
+	if program == "" {
+		program = "snap"
+	}
+	beside := t.TempDir()
+	// In its place stands a script, which is handed the same stream and tells of each document.
+	for name, text := range map[string]string{
+		"snap":         "exec '" + program + "' \"$@\"",
+		"snap-explain": "[ \"$*\" = 'stream .' ] && awk '/^---/ { print \"document \" ++n \", line 2: why\" }'; exit 1",
+	} {
+		if err := os.WriteFile(filepath.Join(beside, name), []byte("#!/bin/sh\n"+text+"\n"), 0o700); err != nil {
+			t.Fatal(err)
+		}
+	}
+	t.Setenv("SNAP", filepath.Join(beside, "snap"))
+	one := &fake{name: "TestWhy"}
+	Match(one, 1, Redact("no selector", 0))
+	wants(t, one.told, "snap: document 1 is no request\ndocument 1, line 2: why")
+}
+
 func TestMode(t *testing.T) {
 	rows := []struct{ mode, update, ci, wanted string }{
 		{"", "", "", "new"}, {"", "", "true", "no"}, {"", "1", "true", "inplace"}, {"new", "1", "true", "new"},

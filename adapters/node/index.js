@@ -109,9 +109,10 @@ export class Snapshots {
     const rest = requests.slice(lines.length);
     if (!rest.length) return;
     const one = REFUSES_ONE.includes(status);
+    const reasons = reasonsOf(lines.length, workspace, requests.map((request) => documentOf(request, workspace)));
     for (const request of one ? rest.slice(0, 1) : rest) {
-      const advice = status === 3 ? ' (is a selector wrong?)' : '';
-      this.#fail(`refused ${request.name}\n${request.file}:${request.line}: ${words}${advice}`);
+      const advice = status === 3 && !reasons ? ' (is a selector wrong?)' : '';
+      this.#fail(`refused ${request.name}\n${request.file}:${request.line}: ${words}${advice}${reasons}`);
     }
     if (one && rest.length > 1) this.#run(rest.slice(1));
   }
@@ -208,6 +209,23 @@ function runProgram(mode, workspace, documents) {
   if (run.error && run.error.code !== 'EPIPE') throw run.error;
   const words = run.stderr.trim() || `snap ended with ${run.signal ?? `status ${run.status}`}`;
   return { lines: run.stdout.split('\n').slice(0, -1), status: run.status, words };
+}
+
+/** What `snap-explain` says of the document at this place, each on a line of its own; '' where it isn't beside the program. */
+function reasonsOf(place, workspace, documents) {
+  const explain = path.join(path.dirname(foundProgram()), 'snap-explain');
+  const env = { ...process.env, SNAP_AS_BUILT: '1' };
+  const run = spawnSync(explain, ['stream', '.'], { cwd: workspace, input: documents.join(''), encoding: 'utf8', maxBuffer: Infinity, env });
+  const told = (run.stdout ?? '').split('\n').filter((line) => line.startsWith(`document ${place + 1}, `));
+  return told.map((line) => `\n${line}`).join('');
+}
+
+/** The program's file: what SNAP names, or else the first on the path. */
+function foundProgram() {
+  const program = process.env.SNAP || 'snap';
+  if (program.includes('/')) return path.resolve(program);
+  const folders = (process.env.PATH ?? '').split(path.delimiter);
+  return folders.map((folder) => path.resolve(folder, program)).find(existsSync) ?? program;
 }
 
 /** The text that the value of a request has in a snapshot. */

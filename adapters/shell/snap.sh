@@ -42,6 +42,7 @@ snapshot() (
   status=$?
   if [ "$status" -gt 1 ]; then
     echo "snapshot $name: $file:$line: $(cat "$scratch/words")" >&2
+    snap_reasons "$folder" <"$scratch/request" >&2
   elif [ "$status" -eq 1 ]; then
     echo "snapshot $name: $file:$line: $found; SNAP_UPDATE=1 approves it" >&2
     snap_explain "$scratch" "$folder" >&2
@@ -77,6 +78,12 @@ snap_quote() {
         else if ($at == 34 || $at == 92) printf "\\%c", $at + 0
         else printf "%c", $at + 0 }
     END { printf "\"" }'
+}
+
+# snap_reasons FOLDER prints what snap-explain says of the request on standard input, where it is beside the program.
+snap_reasons() {
+  found=$(command -v -- "${SNAP:-snap}") || return 0
+  SNAP_AS_BUILT=1 "$(dirname -- "$found")/snap-explain" stream "$1" 2>/dev/null || true
 }
 
 # snap_explain SCRATCH FOLDER prints a diff of the stored body, in FOLDER, and the new one, by a run in SCRATCH.

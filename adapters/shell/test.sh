@@ -128,6 +128,13 @@ END
   words=$(cd "$top" && "$shell" t/strict.sh 2>&1 | tail -n 2)
   expect "$shell: set -e, the diff" "-text: x
 +text: y" "$words"
+  # What a refusal says has the words of the program beside; scripts stand in the place of both.
+  printf '#!/bin/sh\necho "snap: document 1 is no request" >&2\nexit 3\n' >"$top/snap"
+  printf '#!/bin/sh\n[ "$*" = "stream t" ] && sed -n "s/^---$/document 1, line 2: why/p"\nexit 1\n' >"$top/snap-explain"
+  chmod +x "$top/snap" "$top/snap-explain"
+  SNAP=$top/snap run 'x' 'why'
+  expect "$shell: a refusal" "3 snapshot why: t/report.sh:$line: snap: document 1 is no request
+document 1, line 2: why" "$status $words"
   SNAP=/nowhere/snap run 'x' 'gone'
   expect "$shell: a program that is not there" 127 "$status"
 }

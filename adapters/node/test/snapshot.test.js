@@ -119,6 +119,21 @@ test('c', (t) => snapshot(t, 9, { nmae: 'd' }));
   assert.deepStrictEqual(shop.names(), wanted);
 });
 
+test('a refusal has the words of the program beside', (t) => {
+  const shop = project(t, `${head}test('a', (t) => { snapshot(t, 1); snapshot(t, 2, { redact: { 'no selector': 0 } }); });\n`);
+  // In its place stands a script, which is handed the same stream and tells of each document.
+  const script = (name, text) => {
+    shop.write(name, `#!/bin/sh\n${text}\n`);
+    chmodSync(path.join(shop.folder, name), 0o755);
+  };
+  script('snap', `exec '${program}' "$@"`);
+  script('snap-explain', `[ "$*" = 'stream .' ] && awk '/^---/ { print "document " ++n ", line 2: why" }'; exit 1`);
+  const { status, out } = shop.run({ SNAP: path.join(shop.folder, 'snap'), SNAP_UPDATE: '1' });
+  assert.strictEqual(status, 1);
+  assert.match(out, /snap: document 2 is no request\n *document 2, line 2: why\n/);
+  assert.doesNotMatch(out, /document 1, line/);
+});
+
 test('a folder in place of a snapshot fails its value alone', (t) => {
   const shop = project(t, `${head}test('a', (t) => { snapshot(t, 1); snapshot(t, 2); });\n`);
   mkdirSync(path.join(shop.folder, 'test/snapshots/shop.test__a.snap'), { recursive: true });

@@ -44,7 +44,8 @@ def judge(requests: Sequence[Request], mode: str, workspace: str, literal: bool)
             raise ProgramError(f"{ran.args[0]} ended with {ended}: {said}")
         answers += verdicts
         if is_stopped:
-            answers.append(ProgramError(f"{described(rest[len(verdicts)])} was not judged, {ended}: {said}"))
+            told = [said, *reasons(rest, len(verdicts), ran.args[0], workspace)]
+            answers.append(ProgramError(f"{described(rest[len(verdicts)])} was not judged, {ended}: " + "\n".join(told)))
     return answers
 
 
@@ -61,6 +62,19 @@ def run(requests: Sequence[Request], mode: str, workspace: str, literal: bool) -
             f"the program {program} can't be run ({error.strerror}): set SNAP to its path, or put it on the path as snap; "
             "README.md of snap's repository tells where it comes from"
         ) from None
+
+
+def reasons(requests: Sequence[Request], place: int, program: str, workspace: str) -> list[str]:
+    """What `snap-explain` says of the request at this place, where it is beside the program: why it is refused, in a line each."""
+    import shutil  # Only a failure waits for it.
+
+    words = [os.path.join(os.path.dirname(shutil.which(program) or ""), "snap-explain"), "stream", workspace]
+    stream = "".join(map(document, requests)).encode()
+    try:
+        said = subprocess.run(words, input=stream, capture_output=True, env={**os.environ, "SNAP_AS_BUILT": "1"}).stdout
+    except OSError:
+        return []
+    return [line for line in said.decode("utf-8", "replace").splitlines() if line.startswith(f"document {place + 1}, ")]
 
 
 def ended(process: "subprocess.Popen[bytes]", stream: bytes) -> tuple[int, bytes, bytes]:

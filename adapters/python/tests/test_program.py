@@ -1,6 +1,7 @@
 """Runs of the program over batches, and what becomes of its refusals and faults."""
 
 import os
+import shutil
 import tempfile
 import unittest
 from pathlib import Path
@@ -63,6 +64,18 @@ class Batches(unittest.TestCase):
         said = "the value bad of a.py:3 (is each of its selectors one: .[?) was not judged, status 3: snap: document 2 is no request"
         self.assertEqual(str(answers[1]), said)
         self.assertIn("a.py:9", str(answers[3]))
+
+    def test_a_refusal_has_the_words_of_the_program_beside(self) -> None:
+        # In its place stands a script, which is handed the same stream and tells of each document.
+        beside = self.root / "snap-explain"
+        beside.write_text(f'#!/bin/sh\necho "$@" >>"{self.root}/words"\nawk \'/^---/ {{ print "document " ++n ", line 2: why" }}\'\nexit 1\n')
+        beside.chmod(0o755)
+        bad = request("bad", redactions=[{"at": ".[", "put": 1}])
+        with self.program(f'exec "{shutil.which(os.environ.get("SNAP") or "snap")}" "$@"'):
+            answers = self.judge(request("a"), bad, request("b"))
+        self.assertTrue(str(answers[1]).endswith("status 3: snap: document 2 is no request\ndocument 2, line 2: why"), answers[1])
+        self.assertEqual((self.root / "words").read_text(), f"stream {self.root}\n")
+        self.assertEqual(answers[2], Verdict("updated", self.path("b")))
 
     def test_a_file_fault(self) -> None:
         os.makedirs(self.path("a"))
