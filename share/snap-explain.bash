@@ -2,11 +2,15 @@
 _snap_explain() {
   local word=${COMP_WORDS[COMP_CWORD]} at=2
   if [ "$COMP_CWORD" -eq 1 ]; then
-    COMPREPLY=($(compgen -W "stream mask --help --version" -- "$word"))
+    COMPREPLY=($(compgen -W "stream mask front --help --version" -- "$word"))
     return 0
   fi
   if [ "${COMP_WORDS[1]}" = stream ] && [ "$COMP_CWORD" -eq 2 ]; then
     COMPREPLY=($(compgen -d -- "$word"))
+    return 0
+  fi
+  if [ "${COMP_WORDS[1]}" = front ] && [ "$COMP_CWORD" -eq 2 ]; then
+    COMPREPLY=($(compgen -W "get set remove format" -- "$word"))
     return 0
   fi
   [ "${COMP_WORDS[1]}" = mask ] || return 0

@@ -24,6 +24,12 @@ function __snap_explain_at_workspace
     test (count $words) -eq 2; and test "$words[2]" = stream
 end
 
+# Whether it is the command of snap-front.
+function __snap_explain_at_command
+    set -l words (commandline -opc)
+    test (count $words) -eq 2; and test "$words[2]" = front
+end
+
 # Whether it is the first word.
 function __snap_explain_at_first
     test (count (commandline -opc)) -eq 1
@@ -33,6 +39,8 @@ complete -c snap-explain -f
 complete -c snap-explain -n __snap_explain_at_first -a stream -d 'Say which documents are no requests, and why'
 complete -c snap-explain -n __snap_explain_at_workspace -a '(__fish_complete_directories)'
 complete -c snap-explain -n __snap_explain_at_first -a mask -d 'Say which lines snap-mask refuses, and why'
+complete -c snap-explain -n __snap_explain_at_first -a front -d 'Say why snap-front has no answer of a page'
+complete -c snap-explain -n __snap_explain_at_command -a 'get set remove format'
 complete -c snap-explain -n __snap_explain_at_first -l help -d 'Say which words snap-explain takes'
 complete -c snap-explain -n __snap_explain_at_first -l version -d 'Say its version'
 complete -c snap-explain -n __snap_explain_at_rule -l put -d 'A rule of snap-mask: a text in place of what a selector reaches'

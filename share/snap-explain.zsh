@@ -3,11 +3,15 @@
 _snap-explain() {
   local -i at=3
   if (( CURRENT == 2 )); then
-    compadd -- stream mask --help --version
+    compadd -- stream mask front --help --version
     return
   fi
   if [[ $words[2] == stream ]] && (( CURRENT == 3 )); then
     _files -/
+    return
+  fi
+  if [[ $words[2] == front ]] && (( CURRENT == 3 )); then
+    compadd -- get set remove format
     return
   fi
   [[ $words[2] == mask ]] || return 1

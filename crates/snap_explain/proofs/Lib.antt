@@ -2,5 +2,6 @@ mod Prelude
 mod Turns
 mod Endings
 mod Documents
+mod Pages
 mod Asking
 mod Shown

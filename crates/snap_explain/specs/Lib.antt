@@ -5,4 +5,5 @@ pub mod Findings
 pub mod Runs
 pub mod Refusals
 pub mod Streams
+pub mod Pages
 pub mod Program

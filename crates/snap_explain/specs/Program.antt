@@ -7,6 +7,7 @@ use Rattle.snap_assert_settings.specs.Replaced.{ReplacementView}
 use Rattle.snap_mask.specs.Program.{IsNotBegun}
 use Rattle.snap_mask.specs.Rules.{rules_in}
 use Rattle.snap_explain.specs.Findings.{LeavesOf}
+use Rattle.snap_explain.specs.Pages.{FrontRun}
 use Rattle.snap_explain.specs.Streams.{StreamRun}
 use Rattle.snap_explain.specs.declared.usage.TheConstants.{USAGE, VERSION}
 use Rattle.snap_explain.specs.declared.status.ExplainStatus.{ExplainStatus}
@@ -37,6 +38,11 @@ abbrev pub asks_for_stream : List (List ℕ) → Bool
 asks_for_stream (tool ∷ workspace ∷ []) = bytes_eq tool (codes "stream")
 asks_for_stream _ = false
 
+-- the words after `front`
+abbrev pub front_words : List (List ℕ) → Option (List (List ℕ))
+front_words [] = None
+front_words (tool ∷ words) = if bytes_eq tool (codes "front") then Some words else None
+
 -- a text that was asked for was written, or a part of its front where the sink failed
 abbrev pub IsTold : List ℕ → ExplainStatus → Option (List ℕ) → Option (List ℕ) → Type 0
 IsTold text Nothing written written' = (w : List ℕ) → written ≡ Some w → written' ≡ Some (w ++ text)
@@ -49,10 +55,11 @@ RulesCause words BadWords = mask_rules words ≡ None
 RulesCause words OutOfMemory = Unit {0}
 RulesCause words _ = (rules : List ReplacementView) × (mask_rules words ≡ Some rules)
 
--- the words ask for something: they spell such rules, or ask for a stream or a text
+-- the words ask for something: they spell such rules, or ask for a stream, a page or a text
 pub data AreWords (words : List (List ℕ)) : Type 0 where
   of_rules : (rules : List ReplacementView) → mask_rules words ≡ Some rules → AreWords words
   of_stream : asks_for_stream words ≡ true → AreWords words
+  of_front : (rest : List (List ℕ)) → front_words words ≡ Some rest → AreWords words
   of_text : (text : List ℕ) → asked_of words ≡ Some text → AreWords words
 
 -- `BadWords` exactly where the words ask for nothing
@@ -66,6 +73,7 @@ pub record IsRunOf (words : List (List ℕ)) (status : ExplainStatus) (left left
   pub words_cause : WordsCause words status
   pub told : (text : List ℕ) → asked_of words ≡ Some text → IsTold text status written written'
   pub stream : asks_for_stream words ≡ true → StreamRun status left left' written written'
+  pub front : (rest : List (List ℕ)) → front_words words ≡ Some rest → FrontRun rest status left left' written written'
   pub leaves : (rules : List ReplacementView) → asked_of words ≡ None → mask_rules words ≡ Some rules → LeavesOf rules status left written written'
 
 -- the run of the words, where all arguments are texts, or no memory for them; and else wrong words. Nothing is begun but by the run

@@ -4,7 +4,8 @@
 //! In the order in which data flows: `fault` (why a line has no record, in words), `start` (what a line begins with that no JSON text
 //! begins with), `place` (where a number stands in a value), `cause` (the fault of a line), `saying` (the finding of a line, written),
 //! `lines` (the loop over the lines), `status` and `usage` (what is said of a run, and of the program), `mask` (what the filter of JSON
-//! lines refuses); `position` (lines and columns), `outline` (the nodes of a text), `pointing` (the node that a reason speaks of),
+//! lines refuses); `front` (a page that the program on pages gives no answer of), `failing` (that finding, written), `page`, `no_tree`,
+//! `page_words` and `page_path` (what is told of the page, its header, the words and the path); `position` (lines and columns), `outline` (the nodes of a text), `pointing` (the node that a reason speaks of),
 //! `nearest`, `number_path`, `hint` (what helps), `refusal` (the reason in words), `telling` (the finding of a document), `stream` (the
 //! loop over the documents), `explaining` (the tool that the words name), `command` (the run that the arguments ask for).
 #![tactic(auto)]
@@ -12,13 +13,19 @@
 pub mod cause;
 pub mod command;
 pub mod explaining;
+pub mod failing;
 pub mod fault;
+pub mod front;
 mod hint;
 pub mod lines;
 pub mod mask;
 mod nearest;
+mod no_tree;
 mod number_path;
 mod outline;
+mod page;
+mod page_path;
+mod page_words;
 pub mod place;
 mod pointing;
 pub mod position;

@@ -22,7 +22,7 @@ fn taken_text(key: Key) -> &'static str
 }
 
 /// What is wrong in a selector.
-fn select_text(fault: SelectFault) -> &'static str
+pub(crate) fn select_text(fault: SelectFault) -> &'static str
     ensures { result.now ≡ select_text fault }
 {
     match fault {

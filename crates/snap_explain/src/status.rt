@@ -4,7 +4,7 @@ ghost use Rattle.std.specs.Prelude.{◌≡◌};
 /// How a run ended.
 #[derive(Clone, Copy, Debug, PartialEq, Eq)]
 pub enum ExplainStatus {
-    /// All was read, and nothing is to be said.
+    /// All was read that the tool reads, and nothing is to be said.
     Nothing,
     /// All was read, or what was read before a line that is too long, and something was said.
     Found,
@@ -18,7 +18,7 @@ pub enum ExplainStatus {
     OutOfMemory,
     /// The source gave more than 1,099,511,627,776 bytes.
     InputTooLong,
-    /// The source gave more than 67,108,864 bytes, the most that a stream of requests may have. Nothing is written.
+    /// The source gave more than 67,108,864 bytes, the most that a stream of requests or a page may have. Nothing is written.
     StreamTooLong,
 }
 

@@ -17,6 +17,7 @@ Says why input is refused. Nothing is changed.
 
 Usage: snap-explain stream WORKSPACE < REQUESTS
        snap-explain mask [RULE...] < LINES
+       snap-explain front COMMAND... < PAGE
        snap-explain --help | --version
 
 stream says of each document of REQUESTS that is no request for snap run why
@@ -25,10 +26,14 @@ that is so. No file is read, so any WORKSPACE serves.
 mask says of each line of LINES that snap-mask refuses by these rules why that
 is so. The rules are those of snap-mask --help.
 
+front says why snap-front COMMAND... has no answer of PAGE, where it has none.
+The commands are those of snap-front --help. The page is not written.
+
 Each finding is a line, as
   document 3, line 41, column 1: an unknown key, exprs; the nearest is expr
   line 12: a number with a fraction at .price
   line 14, column 7: while parsing a quoted scalar, found unknown escape character
+  snap-front: a header is a map, line 2, column 1, and a list stands there
 What comes after it is read as well. Lines and columns are counted from 1 in
 the whole input, columns in characters. A line of LINES of more than 1,048,576
 bytes is the last that is read.
@@ -36,11 +41,11 @@ bytes is the last that is read.
 Exit status:
   0   nothing is refused
   1   something is, and each finding is written
-  2   wrong words, or a selector that cannot be read
+  2   wrong words, or a selector of a rule that cannot be read
   6   the input could not be read
   7   the findings could not be written
   8   out of memory
-  9   REQUESTS are longer than 67,108,864 bytes
+  9   REQUESTS or PAGE are longer than 67,108,864 bytes
   10  LINES are longer than 1,099,511,627,776 bytes
 ";
 

@@ -8,4 +8,4 @@ returns-in-Ok-Some g c =
     subst (λ given. RunOfArguments given c.explain.result (g.S.Source.left c.args.source.now) (g.S.Source.left c.explain.new.source)
     (g.K.Sink.written c.args.sink.now) (g.K.Sink.written c.explain.new.sink))
     (ap Some c.deref.ensures.value ∙ words)
-    (inl (record { words_cause = c.explain.ensures.words; told = c.explain.ensures.told; stream = c.explain.ensures.stream; leaves = c.explain.ensures.leaves }))
+    (inl (record { words_cause = c.explain.ensures.words; told = c.explain.ensures.told; stream = c.explain.ensures.stream; front = c.explain.ensures.front; leaves = c.explain.ensures.leaves }))

@@ -1,40 +1,40 @@
-use Rattle.snap_explain.proofs.Prelude.{◌≡◌, ◌∙◌, sym, true, false}
-use Rattle.snap_explain.proofs.Endings.{told_reads_nothing}
-use Rattle.snap_explain.proofs.Asking.{no_rules, no_text, cause_stream, cause_text, cause_rules}
+use Rattle.snap_explain.proofs.Prelude.{◌≡◌, ◌∙◌, sym, subst, true, false, None, Some, some_same}
+use Rattle.snap_explain.specs.Pages.{FrontRun}
+use Rattle.snap_explain.proofs.Asking.{front_no_stream, front_no_rules, front_no_text, cause_front}
 use Rattle.snap_explain.proofs.explaining.explain.Goals as goal
 
-pub returns-then-asks_for_stream-clause-words : goal.returns-then-asks_for_stream-clause-words
-returns-then-asks_for_stream-clause-words g c = cause_stream _ _ (sym c.asks_for_stream.ensures ∙ c.if-asks_for_stream.true) c.explain_stream.ensures.words
-
-pub returns-then-asks_for_stream-clause-told : goal.returns-then-asks_for_stream-clause-told
-returns-then-asks_for_stream-clause-told g c = λ text asked. absurd (no_text c.args.words.now text (sym c.asks_for_stream.ensures ∙ c.if-asks_for_stream.true) asked)
-
-pub returns-then-asks_for_stream-clause-untouched : goal.returns-then-asks_for_stream-clause-untouched
-returns-then-asks_for_stream-clause-untouched g c = λ text asked. absurd (no_text c.args.words.now text (sym c.asks_for_stream.ensures ∙ c.if-asks_for_stream.true) asked)
-
-pub returns-then-asks_for_stream-clause-refused : goal.returns-then-asks_for_stream-clause-refused
-returns-then-asks_for_stream-clause-refused g c = λ bad. absurd (c.explain_stream.ensures.words bad)
-
-pub returns-then-asks_for_stream-clause-stream : goal.returns-then-asks_for_stream-clause-stream
-returns-then-asks_for_stream-clause-stream g c = λ asks. record { leaves = c.explain_stream.ensures.leaves; taken = c.explain_stream.ensures.length }
-
-pub returns-then-asks_for_stream-clause-leaves : goal.returns-then-asks_for_stream-clause-leaves
-returns-then-asks_for_stream-clause-leaves g c = λ rules none spelled. absurd (no_rules c.args.words.now rules (sym c.asks_for_stream.ensures ∙ c.if-asks_for_stream.true) spelled)
-
-pub returns-then-asks_for_stream-clause-length : goal.returns-then-asks_for_stream-clause-length
-returns-then-asks_for_stream-clause-length g c = λ other. let clash : true ≡ false = sym c.if-asks_for_stream.true ∙ c.asks_for_stream.ensures ∙ other in cc
-
 pub returns-in-Some-clause-words : goal.returns-in-Some-clause-words
-returns-in-Some-clause-words g c = cause_text _ c.in-Some.text.now _ _ _ c.in-Some.ensures c.tell.ensures.told
+returns-in-Some-clause-words g c = cause_front _ _ _ c.in-Some.ensures c.explain_front.ensures.words
+
+pub returns-in-Some-clause-told : goal.returns-in-Some-clause-told
+returns-in-Some-clause-told g c = λ text asked. absurd (front_no_text c.args.words.now _ text c.in-Some.ensures asked)
+
+pub returns-in-Some-clause-untouched : goal.returns-in-Some-clause-untouched
+returns-in-Some-clause-untouched g c = λ text asked. absurd (front_no_text c.args.words.now _ text c.in-Some.ensures asked)
+
+pub returns-in-Some-clause-refused : goal.returns-in-Some-clause-refused
+returns-in-Some-clause-refused g c = λ bad. absurd (c.explain_front.ensures.words bad)
+
+pub returns-in-Some-clause-front : goal.returns-in-Some-clause-front
+returns-in-Some-clause-front g c = λ rest is.
+    subst (λ rs. FrontRun rs c.explain_front.result (g.S.Source.left c.args.source.now) (g.S.Source.left c.explain_front.new.source)
+    (g.K.Sink.written c.args.sink.now) (g.K.Sink.written c.explain_front.new.sink))
+    (some_same c.in-Some.rest.now rest (sym c.in-Some.ensures ∙ is)) c.explain_front.ensures.run
 
 pub returns-in-Some-clause-stream : goal.returns-in-Some-clause-stream
-returns-in-Some-clause-stream g c = λ asks. let clash : false ≡ true = sym c.if-asks_for_stream.false ∙ c.asks_for_stream.ensures ∙ asks in cc
+returns-in-Some-clause-stream g c = λ asks. let clash : false ≡ true = sym (front_no_stream c.args.words.now _ c.in-Some.ensures) ∙ asks in cc
+
+pub returns-in-Some-clause-leaves : goal.returns-in-Some-clause-leaves
+returns-in-Some-clause-leaves g c = λ rules none spelled. absurd (front_no_rules c.args.words.now _ rules c.in-Some.ensures spelled)
 
 pub returns-in-Some-clause-length : goal.returns-in-Some-clause-length
-returns-in-Some-clause-length g c = λ other. told_reads_nothing c.in-Some.text.now c.tell.result _ _ _ c.tell.ensures.told
+returns-in-Some-clause-length g c = λ asks none. let clash : None ≡ Some c.in-Some.rest.now = sym none ∙ c.in-Some.ensures in cc
 
 pub returns-in-None-clause-words : goal.returns-in-None-clause-words
-returns-in-None-clause-words g c = cause_rules _ _ (sym c.asks_for_stream.ensures ∙ c.if-asks_for_stream.false) c.in-None.ensures c.explain_lines.ensures.words
+returns-in-None-clause-words g c = c.explain_others.ensures.words c.in-None.ensures
 
-pub returns-in-None-clause-stream : goal.returns-in-None-clause-stream
-returns-in-None-clause-stream g c = λ asks. let clash : false ≡ true = sym c.if-asks_for_stream.false ∙ c.asks_for_stream.ensures ∙ asks in cc
+pub returns-in-None-clause-front : goal.returns-in-None-clause-front
+returns-in-None-clause-front g c = λ rest is. let clash : None ≡ Some rest = sym c.in-None.ensures ∙ is in cc
+
+pub returns-in-None-clause-length : goal.returns-in-None-clause-length
+returns-in-None-clause-length g c = λ asks _. c.explain_others.ensures.length asks
