@@ -1,5 +1,5 @@
 -- What words ask for.
-use Rattle.snap_explain.proofs.Prelude.{◌≡◌, ℕ, List, [], ◌∷◌, Bool, true, false, cond, Option, None, Some, refl, sym, ◌∙◌, subst, bytes_eq, ReplacementView}
+use Rattle.snap_explain.proofs.Prelude.{◌≡◌, ℕ, List, [], ◌∷◌, Bool, true, false, cond, Option, None, Some, refl, sym, ◌∙◌, subst, ReplacementView}
 use Rattle.std.specs.Prelude.{codes}
 use Rattle.snap_print.proofs.Words.{same_word}
 use Rattle.snap_explain.specs.Program.{AreWords, RulesCause, WordsCause, IsTold, asked_of, asks_for_stream, front_words, mask_rules}

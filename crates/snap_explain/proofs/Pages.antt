@@ -1,5 +1,5 @@
 -- What is said of a page, and what a run over one leaves.
-use Rattle.snap_explain.proofs.Prelude.{◌≡◌, ℕ, ◌+◌, ◌≤◌, List, [], ◌++◌, Option, None, Some, Result, Ok, Err, length, refl, sym, ◌∙◌, arith, append-nil, subst, inl, inr, chars, SayError}
+use Rattle.snap_explain.proofs.Prelude.{◌≡◌, ℕ, ◌+◌, ◌≤◌, List, [], Option, None, Some, Result, Ok, Err, length, refl, sym, ◌∙◌, arith, append-nil, subst, inl, inr, chars, SayError}
 use Rattle.std.specs.Prelude.{IfSome}
 use Rattle.snap_io.specs.Causes.{Counted, CountedIf}
 use Rattle.snap_io_streams.specs.Streams.{TakesAtMost, input_limit as page_limit}

@@ -1,8 +1,7 @@
 -- What is said of a page that a command has no answer for, and what a run over a page leaves.
-use Rattle.std.specs.Prelude.{◌≡◌, ◌⊎◌, ◌+◌, ℕ, List, [], ◌∷◌, ◌++◌, Option, None, Some, Result, Ok, Err, codes, decimal, encode_utf8_all}
+use Rattle.std.specs.Prelude.{◌≡◌, ◌⊎◌, ℕ, List, [], ◌∷◌, ◌++◌, Option, None, Some, Result, Ok, Err, codes, decimal, encode_utf8_all}
 use Rattle.std.specs.Str.{chars}
 use Rattle.snap_io.specs.Streams.{HoldsFront}
-use Rattle.snap_io_streams.specs.Streams.{TakesAtMost}
 use Rattle.snap_emit.specs.Readings.{IsReasonIn}
 use Rattle.snap_emit.specs.declared.refusal.Refusal.{Refusal}
 use Rattle.snap_front.specs.Describe.{description}
