@@ -1,6 +1,6 @@
 //! Assertions of literals one after the other, in the module `m` of the file `src/a.rs` below the workspace `w`.
 //!
-//! A column says what is done: `begin` and `end` open a block of duplicates and close one, `info` gives the settings an info whose key is a
+//! A column says what is done: `begin` and `end` open a block of duplicates and close one, after `info` the settings have an info whose key is a
 //! list, `fail CALL` lets that call of the store fail, and `FUNCTION LINE|REFERENCE|TEXT` asserts at this line of the function that the literal which
 //! reads as the reference stands for the text.
 use crate::answers::add_answer;
@@ -74,14 +74,6 @@ fn listed(alloc: Global) -> Result<Content, OutOfMemory> {
     Ok(Content::Map(pairs))
 }
 
-/// Gives the settings that map as their info.
-fn set_listed(alloc: Global, settings: &mut Settings) -> Result<(), OutOfMemory> {
-    let info = listed(alloc)?;
-    let set = settings.set_raw_info(&info);
-    drop(info);
-    set
-}
-
 /// Lets the call of this number fail.
 fn fail_at(alloc: Global, store: &mut MemoryStore, digits: &str) -> Result<(), OutOfMemory> {
     let call = digits.parse::<u64>().unwrap_or(0);
@@ -105,7 +97,7 @@ fn add_step(
     session: &mut Session,
     store: &mut MemoryStore,
     config: &Config,
-    settings: &mut Settings,
+    settings: &Settings,
     column: &str,
 ) -> Result<(), anyhow::Error> {
     if let Some(call) = column.strip_prefix("fail ") {
@@ -114,7 +106,6 @@ fn add_step(
     match column {
         "begin" => Ok(session.begin_duplicates()?),
         "end" => Ok(add_closed(alloc, line, session)?),
-        "info" => Ok(set_listed(alloc, settings)?),
         _ => add_assertion(alloc, line, session, store, config, settings, column),
     }
 }
@@ -125,11 +116,16 @@ fn add_steps(
     session: &mut Session,
     store: &mut MemoryStore,
     config: &Config,
-    settings: &mut Settings,
+    (plain, informed): (&Settings, &Settings),
     steps: &str,
 ) -> Result<(), anyhow::Error> {
+    let mut settings = plain;
     for column in steps.split('\t') {
-        add_step(alloc, line, session, store, config, settings, column)?;
+        if column == "info" {
+            settings = informed;
+        } else {
+            add_step(alloc, line, session, store, config, settings, column)?;
+        }
     }
     Ok(())
 }
@@ -141,18 +137,26 @@ fn add_records(alloc: Global, line: &mut Text, store: &MemoryStore) -> Result<()
     add_file(alloc, line, store.get(&path))
 }
 
-/// The line of a session and a store that are lent: where they are alive at an early return, that is dear to prove.
+/// The line of a new session over a new store.
 fn line_of_steps(
     alloc: Global,
-    session: &mut Session,
-    store: &mut MemoryStore,
     config: &Config,
-    settings: &mut Settings,
+    settings: (&Settings, &Settings),
     steps: &str,
 ) -> Result<Text, anyhow::Error> {
     let mut line = Text::empty();
-    add_steps(alloc, &mut line, session, store, config, settings, steps)?;
-    add_records(alloc, &mut line, store)?;
+    let mut session = Session::new(alloc);
+    let mut store = MemoryStore::new(alloc);
+    add_steps(
+        alloc,
+        &mut line,
+        &mut session,
+        &mut store,
+        config,
+        settings,
+        steps,
+    )?;
+    add_records(alloc, &mut line, &store)?;
     Ok(line)
 }
 
@@ -162,19 +166,9 @@ pub(crate) fn steps_line(
     config: &Config,
     steps: &str,
 ) -> Result<Text, anyhow::Error> {
-    let mut settings = Settings::new(alloc)?;
-    let mut session = Session::new(alloc);
-    let mut store = MemoryStore::new(alloc);
-    let line = line_of_steps(
-        alloc,
-        &mut session,
-        &mut store,
-        config,
-        &mut settings,
-        steps,
-    );
-    drop(store);
-    drop(session);
-    drop(settings);
-    line
+    let info = listed(alloc)?;
+    let plain = Settings::new(alloc)?;
+    let mut informed = Settings::new(alloc)?;
+    informed.set_raw_info(&info)?;
+    line_of_steps(alloc, config, (&plain, &informed), steps)
 }
