@@ -3,28 +3,27 @@ use crate::asserted::{Value, place_in};
 use crate::judged::{judged_by, store_of};
 use rows::{first_column, text_of, tree_of_column};
 use snap_assert::{Config, Settings, Update};
-use snap_content::{OutOfMemory, Text};
+use snap_content::{Content, OutOfMemory, Text};
 use snap_io::SteadyStore;
 use std::alloc::Global;
 
 /// A column in which nothing is set.
 const NONE: &str = "-";
 
-/// Sets the description that a column says.
-fn describe(alloc: Global, settings: &mut Settings, column: &str) -> Result<(), OutOfMemory> {
-    if column != NONE {
-        settings.set_description(text_of(alloc, column)?);
+/// The description that a column says.
+fn description_in(alloc: Global, column: &str) -> Result<Option<Text>, OutOfMemory> {
+    if column == NONE {
+        return Ok(None);
     }
-    Ok(())
+    Ok(Some(text_of(alloc, column)?))
 }
 
-/// Sets the info that a column says.
-fn inform(alloc: Global, settings: &mut Settings, column: &str) -> Result<(), anyhow::Error> {
-    if column != NONE {
-        let info = tree_of_column(alloc, column)?;
-        settings.set_raw_info(&info)?;
+/// The info that a column says.
+fn info_in(alloc: Global, column: &str) -> Result<Option<Content>, anyhow::Error> {
+    if column == NONE {
+        return Ok(None);
     }
-    Ok(())
+    Ok(Some(tree_of_column(alloc, column)?))
 }
 
 /// The answer of an assertion that requires a full match, with these settings.
@@ -50,9 +49,16 @@ fn judged_fully(
 pub(crate) fn full_line(alloc: Global, columns: &str) -> Result<Text, anyhow::Error> {
     let (description, rest) = first_column(columns);
     let (info, file) = first_column(rest);
-    let mut settings = Settings::new(alloc)?;
-    describe(alloc, &mut settings, description)?;
-    inform(alloc, &mut settings, info)?;
+    let description = description_in(alloc, description)?;
+    let info = info_in(alloc, info)?;
     let mut store = store_of(alloc, file)?;
+    // No function is lent the settings to change them: it might hide what the objects of redactions are.
+    let mut settings = Settings::new(alloc)?;
+    if let Some(description) = description {
+        settings.set_description(description);
+    }
+    if let Some(info) = &info {
+        settings.set_raw_info(info)?;
+    }
     judged_fully(alloc, &mut store, &settings)
 }
