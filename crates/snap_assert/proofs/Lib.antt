@@ -22,4 +22,5 @@ mod Printing
 mod NameSteps
 pub mod GivenNames
 mod Calls
+mod Foreseeing
 mod SameInfo

@@ -19,3 +19,4 @@ pub mod Unsaved
 pub mod Literals
 pub mod LiteralCourses
 pub mod LiteralOutcomes
+pub mod Previews

@@ -3,7 +3,7 @@
 //! In the order in which data flows: `session` (what is remembered), `names` and `literal_names` (the name that is taken), `kept` (what
 //! an open block keeps), `duplicates` (a block round a closure), `comparator` and `default` with `same_metadata` (whether a new snapshot
 //! matches an old one), `prepare`, `judge`, `strays`, `listed` and `look` (what is there), `settle` and `removal` (what is left), `engine`
-//! and `by_comparator` (one assertion); of literals `literals` (their snapshots), `record` (their records) and `literal` (one assertion); `outcome` and
+//! and `by_comparator` (one assertion), `preview` (what one would answer); of literals `literals` (their snapshots), `record` (their records) and `literal` (one assertion); `outcome` and
 //! `error` (its answer), `laws`.
 #![tactic(auto)]
 
@@ -24,6 +24,7 @@ mod look;
 mod names;
 pub mod outcome;
 mod prepare;
+pub mod preview;
 mod record;
 mod removal;
 mod same_metadata;
@@ -37,9 +38,11 @@ pub use default::DefaultComparator;
 pub use duplicates::with_allow_duplicates;
 pub use engine::{assert_content, assert_listed};
 pub use error::{AssertError, DuplicateKey};
+pub use judge::Judged;
 pub use listed::Listed;
 pub use literal::assert_literal;
 pub use outcome::{Outcome, Verdict, Warning, Warnings};
+pub use preview::{Preview, preview_content};
 pub use session::Session;
 pub use snap_assert_place::{BadPlace, Place};
 pub use snap_assert_settings::{Config, Flags, Redactions, Settings, Update};

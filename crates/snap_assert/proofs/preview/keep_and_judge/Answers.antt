@@ -1,0 +1,28 @@
+use Rattle.snap_assert.proofs.Prelude.{◌∙◌, sym, ap, subst, place_of, key_under}
+use Rattle.snap_assert.specs.Blocks.{keep_step}
+use Rattle.snap_assert.specs.Names.{RefusedAs}
+use Rattle.snap_assert.specs.Session.{session_of}
+use Rattle.std.proofs.lemmas.Result.{err_from_is_err_and}
+use Rattle.snap_assert.proofs.Refusals.{refused_stops, refused_cause, settled_stops, work_cause}
+use Rattle.snap_assert.proofs.preview.keep_and_judge.Goals as goal
+
+pub returns-in_err-keep-clause-stopped : goal.returns-in_err-keep-clause-stopped
+returns-in_err-keep-clause-stopped g c =
+    let told = err_from_is_err_and c.from_residual.result c.from_residual.ensures.1 in
+    rw (told.1, told.2) (refused_stops _ _ _ _ c.in_err-keep.field-0.0
+    (subst (λ contents. RefusedAs c.in_err-keep.field-0.0 (keep_step (key_under (place_of c.args.place.now) c.args.name.now) contents (session_of c.args.session.now))) c.contents.ensures c.in_err-keep.ensures.err)
+    c.in_err-keep.ensures.same tt)
+
+pub returns-in_err-keep-clause-cause : goal.returns-in_err-keep-clause-cause
+returns-in_err-keep-clause-cause g c =
+    let told = err_from_is_err_and c.from_residual.result c.from_residual.ensures.1 in
+    rw (told.1, told.2) (refused_cause _ _ c.in_err-keep.field-0.0 c.in_err-keep.ensures.err)
+
+pub returns-clause-stopped : goal.returns-clause-stopped
+returns-clause-stopped g c =
+    settled_stops _ _ _ _ _ _ c.judge_file.result
+    (sym (ap (λ contents. keep_step (key_under (place_of c.args.place.now) c.args.name.now) contents (session_of c.args.session.now)) c.contents.ensures) ∙ c.in_ok-keep.ensures.ok)
+    c.judge_file.ensures.cause
+
+pub returns-clause-cause : goal.returns-clause-cause
+returns-clause-cause g c = work_cause _ _ c.judge_file.result c.judge_file.ensures.cause
