@@ -160,6 +160,29 @@ fn line_of_steps(
     Ok(line)
 }
 
+/// The same with these settings after `info`.
+fn line_with_settings(
+    alloc: Global,
+    config: &Config,
+    informed: &Settings,
+    steps: &str,
+) -> Result<Text, anyhow::Error> {
+    let plain = Settings::new(alloc)?;
+    line_of_steps(alloc, config, (&plain, informed), steps)
+}
+
+/// The same with this info after `info`.
+fn line_with_info(
+    alloc: Global,
+    config: &Config,
+    info: &Content,
+    steps: &str,
+) -> Result<Text, anyhow::Error> {
+    let mut informed = Settings::new(alloc)?;
+    informed.set_raw_info(info)?;
+    line_with_settings(alloc, config, &informed, steps)
+}
+
 /// What each column comes to, and the text of the file of records after them.
 pub(crate) fn steps_line(
     alloc: Global,
@@ -167,8 +190,7 @@ pub(crate) fn steps_line(
     steps: &str,
 ) -> Result<Text, anyhow::Error> {
     let info = listed(alloc)?;
-    let plain = Settings::new(alloc)?;
-    let mut informed = Settings::new(alloc)?;
-    informed.set_raw_info(&info)?;
-    line_of_steps(alloc, config, (&plain, &informed), steps)
+    let line = line_with_info(alloc, config, &info, steps);
+    drop(info);
+    line
 }
