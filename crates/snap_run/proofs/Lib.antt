@@ -3,6 +3,7 @@ mod Stepping
 mod Statuses
 mod Completeness
 mod DocumentEnds
+mod Foretelling
 mod RunEnds
 mod RunKept
 mod Messages

@@ -47,7 +47,7 @@ fn line(alloc: Global, verdict: Verdict, path: &Text) -> Result<Text, OutOfMemor
 }
 
 /// Where the request of a document stands, of its texts.
-fn place_of_request(
+pub(crate) fn place_of_request(
     alloc: Global,
     runner: &Runner,
     function: Text,
@@ -65,7 +65,7 @@ fn place_of_request(
 }
 
 /// The name, where one is given.
-fn given_name(name: &Option<Text>) -> Option<&Text>
+pub(crate) fn given_name(name: &Option<Text>) -> Option<&Text>
     ensures { option_copied result ≡ name.now }
 {
     match name {

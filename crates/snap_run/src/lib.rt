@@ -3,7 +3,8 @@
 //! the clauses of `run` say so.
 //!
 //! In the order in which data flows: `words` (the command line), `runner`, `documents` and `document_error`
-//! (each request in turn, and why one stops the run), `running` (the whole run), `status` and `usage` (what is said of it, and
+//! (each request in turn, and why one stops the run), `previewing`
+//! (what one would answer), `running` (the whole run), `status` and `usage` (what is said of it, and
 //! of the program), `command` (the run that the arguments ask for, what standard error is told, and the exit status), `laws`.
 #![tactic(auto)]
 
@@ -11,12 +12,15 @@ pub mod command;
 mod document_error;
 mod documents;
 pub mod laws;
-mod runner;
+pub mod previewing;
+pub mod runner;
 pub mod running;
 pub mod status;
 pub mod usage;
 mod words;
 
 pub use command::program;
+pub use previewing::preview_assertion;
+pub use runner::Runner;
 pub use running::run;
 pub use status::{RefusalKind, Status};
