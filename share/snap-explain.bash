@@ -9,6 +9,10 @@ _snap_explain() {
     COMPREPLY=($(compgen -d -- "$word"))
     return 0
   fi
+  if [ "${COMP_WORDS[1]}" = stream ] && [ "$COMP_CWORD" -eq 3 ]; then
+    COMPREPLY=($(compgen -W "--literal" -- "$word"))
+    return 0
+  fi
   if [ "${COMP_WORDS[1]}" = front ] && [ "$COMP_CWORD" -eq 2 ]; then
     COMPREPLY=($(compgen -W "get set remove format" -- "$word"))
     return 0

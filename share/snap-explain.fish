@@ -24,6 +24,12 @@ function __snap_explain_at_workspace
     test (count $words) -eq 2; and test "$words[2]" = stream
 end
 
+# Whether it is the flag after the workspace.
+function __snap_explain_at_flag
+    set -l words (commandline -opc)
+    test (count $words) -eq 3; and test "$words[2]" = stream
+end
+
 # Whether it is the command of snap-front.
 function __snap_explain_at_command
     set -l words (commandline -opc)
@@ -36,8 +42,9 @@ function __snap_explain_at_first
 end
 
 complete -c snap-explain -f
-complete -c snap-explain -n __snap_explain_at_first -a stream -d 'Say which documents are no requests, and why'
+complete -c snap-explain -n __snap_explain_at_first -a stream -d 'Say which requests are none or would not pass, and why'
 complete -c snap-explain -n __snap_explain_at_workspace -a '(__fish_complete_directories)'
+complete -c snap-explain -n __snap_explain_at_flag -l literal -d 'Print texts of several lines as literal blocks'
 complete -c snap-explain -n __snap_explain_at_first -a mask -d 'Say which lines snap-mask refuses, and why'
 complete -c snap-explain -n __snap_explain_at_first -a front -d 'Say why snap-front has no answer of a page'
 complete -c snap-explain -n __snap_explain_at_command -a 'get set remove format'

@@ -10,6 +10,10 @@ _snap-explain() {
     _files -/
     return
   fi
+  if [[ $words[2] == stream ]] && (( CURRENT == 4 )); then
+    compadd -- --literal
+    return
+  fi
   if [[ $words[2] == front ]] && (( CURRENT == 3 )); then
     compadd -- get set remove format
     return

@@ -1,8 +1,8 @@
-//! The program: the system's words and streams, handed to `program`.
+//! The program: the system's words, streams and files, handed to `program`.
 #![tactic(auto)]
 
 use snap_explain::program;
-use snap_io::{StreamSink, StreamSource};
+use snap_io::{FolderStore, StreamSink, StreamSource};
 use std::env;
 use std::process::ExitCode;
 
@@ -12,5 +12,6 @@ fn main(rt: HostRuntime) -> ExitCode {
         env::args(&rt),
         &mut StreamSource::new(rt.stdin()),
         &mut StreamSink::new(rt.stdout()),
+        &mut FolderStore::new(&rt),
     ))
 }

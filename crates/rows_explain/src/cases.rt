@@ -12,6 +12,8 @@ pub(crate) struct Outside {
     pub read: u64,
     /// The number of the call of the sink that fails.
     pub write: u64,
+    /// The number of the call of the store that fails.
+    pub store: u64,
 }
 
 /// What is said with a blank between each two, as `piece=7 read=3`. What is not said is a source of pieces of 100 bytes, and no fault.
@@ -20,6 +22,7 @@ pub(crate) fn outside_of(column: &str) -> Outside {
         piece: 100,
         read: 0,
         write: 0,
+        store: 0,
     };
     for said in column.split(' ') {
         let (name, digits) = said.split_once('=').unwrap_or((said, ""));
@@ -34,6 +37,7 @@ fn with_said(mut outside: Outside, name: &str, digits: &str) -> Outside {
         "piece" => outside.piece = digits.parse().unwrap_or(0),
         "read" => outside.read = digits.parse().unwrap_or(0),
         "write" => outside.write = digits.parse().unwrap_or(0),
+        "store" => outside.store = digits.parse().unwrap_or(0),
         _ => {}
     }
     outside
@@ -69,4 +73,28 @@ fn bytes_of(alloc: Global, numbers: &str) -> Result<Blob, OutOfMemory> {
         bytes.push(digits.parse::<u8>().unwrap_or(0))?;
     }
     Blob::from_slice(alloc, bytes.as_slice())
+}
+
+/// The snapshot that the requests of most rows ask for.
+const USUAL: (&str, &str) = (
+    "snapshots/a__c.snap",
+    "---\nsource: b.rs\nexpression: d\n---\n1\n",
+);
+
+/// The files that stand in columns, each as its path and its bytes; where no column stands, the usual snapshot.
+pub(crate) fn files_of(alloc: Global, columns: &str) -> Result<Vec<(Text, Blob)>, OutOfMemory> {
+    let mut files = Vec::new(alloc);
+    if columns.is_empty() {
+        let (path, text) = USUAL;
+        files.push((text_of(alloc, path)?, input_of(alloc, text)?))?;
+        return Ok(files);
+    }
+    let mut held = None;
+    for column in columns.split('\t') {
+        match held.take() {
+            None => held = Some(text_of(alloc, column)?),
+            Some(path) => files.push((path, input_of(alloc, column)?))?,
+        }
+    }
+    Ok(files)
 }

@@ -1,6 +1,7 @@
 //! Prints what whole runs of the program that says why over forms in memory come to: a row for each of their cases.
 //! Each line of standard input is a case, a tab between each two columns, in which `\n`, `\r`, `\t`, `\0` and `\\` stand for these
-//! characters: `explain`, the words, how the outside behaves, and the input. The answer is the exit status and what was written.
+//! characters: `explain`, the words, how the outside behaves, the input, and the files, of each its path and its bytes; where none stand there,
+//! the snapshot `a__c.snap` of the requests of most rows. The answer is the exit status and what was written.
 //!
 //! An input that begins with `bytes ` is the bytes of the numbers after it. A line that begins with `# ` is a heading, and is answered
 //! by itself.

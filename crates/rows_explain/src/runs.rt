@@ -1,9 +1,9 @@
 //! Runs over forms of which a call may fail.
-use crate::cases::{Outside, input_of, outside_of, words_of};
+use crate::cases::{Outside, files_of, input_of, outside_of, words_of};
 use rows::{add_number_column, add_text_column, first_column};
 use snap_content::{Blob, OutOfMemory, Text};
 use snap_explain::{ExplainStatus, explain};
-use snap_io::{MemorySink, MemorySource};
+use snap_io::{MemorySink, MemorySource, MemoryStore};
 use std::alloc::Global;
 use std::str;
 
@@ -23,17 +23,30 @@ fn sink_of(alloc: Global, outside: Outside) -> Result<MemorySink, OutOfMemory> {
     Ok(sink)
 }
 
+/// The store of the files.
+fn store_of(alloc: Global, outside: Outside, files: &str) -> Result<MemoryStore, OutOfMemory> {
+    let failing = vec![in alloc; outside.store]?;
+    let mut store = MemoryStore::new(alloc);
+    for (path, bytes) in files_of(alloc, files)? {
+        store.put(&path, bytes.as_slice())?;
+    }
+    store.fail_at(failing);
+    Ok(store)
+}
+
 /// Runs over the input into the sink.
 fn run(
     alloc: Global,
     words: &str,
     outside: Outside,
     input: Blob,
+    files: &str,
     sink: &mut MemorySink,
 ) -> Result<ExplainStatus, OutOfMemory> {
     let words = words_of(alloc, words)?;
     let mut source = source_of(alloc, outside, input)?;
-    Ok(explain(alloc, &words, &mut source, sink))
+    let mut store = store_of(alloc, outside, files)?;
+    Ok(explain(alloc, &words, &mut source, sink, &mut store))
 }
 
 /// Adds a column with the text of these bytes.
@@ -47,11 +60,12 @@ fn add_bytes(alloc: Global, line: &mut Text, bytes: &[u8]) -> Result<(), OutOfMe
 /// How a run ended, and what was written.
 pub(crate) fn explain_line(alloc: Global, columns: &str) -> Result<Text, anyhow::Error> {
     let (words, rest) = first_column(columns);
-    let (outside, input) = first_column(rest);
+    let (outside, rest) = first_column(rest);
+    let (input, files) = first_column(rest);
     let outside = outside_of(outside);
     let input = input_of(alloc, input)?;
     let mut sink = sink_of(alloc, outside)?;
-    let status = run(alloc, words, outside, input, &mut sink)?;
+    let status = run(alloc, words, outside, input, files, &mut sink)?;
     let mut line = Text::empty();
     add_number_column(alloc, &mut line, "status", u64::from(status.code()))?;
     add_bytes(alloc, &mut line, sink.written())?;

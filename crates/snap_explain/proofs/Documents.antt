@@ -1,43 +1,52 @@
 -- What was said of the documents so far, and of one more.
-use Rattle.snap_explain.proofs.Prelude.{◌≡◌, ℕ, suc, ◌+◌, ◌≤◌, ◌||◌, List, [], ◌∷◌, ◌++◌, Bool, true, false, Option, Some, Result, Ok, Err, length, take, drop, refl, sym, ap, ◌∙◌, arith, append_assoc, append-nil, length-append, subst, HoldsFront, is_filled, Writes, SayError}
+use Rattle.snap_explain.proofs.Prelude.{◌≡◌, ℕ, suc, ◌+◌, ◌≤◌, ◌||◌, List, [], ◌∷◌, ◌++◌, Bool, true, false, Option, Some, Result, Ok, Err, length, take, drop, refl, sym, ap, ◌∙◌, arith, append_assoc, append-nil, length-append, subst, is_filled, Writes, SayError}
 use Rattle.snap_explain.specs.declared.saying.SayError.TheVariants as say
 use Rattle.snap_explain.specs.declared.status.ExplainStatus.TheVariants as status
 use Rattle.snap_io.specs.Causes.{Counted, CountedIf}
-use Rattle.snap_io.specs.Streams.{GivesFront}
+use Rattle.snap_io.specs.Files.{Files}
 use Rattle.snap_io_streams.specs.Streams.{TakesAtMost, input_limit as stream_limit}
+use Rattle.snap_assert.specs.Session.{SessionView, empty_session}
+use Rattle.snap_run.specs.Answers.{RunWords}
 use Rattle.snap_run_requests.specs.Cut.{documents}
+use Rattle.snap_run_requests.specs.Requests.{RequestView, ReadsAs}
 use Rattle.snap_run_requests.specs.declared.fault.Reason.{Reason}
 use Rattle.snap_explain.specs.Refusals.{refusal_text}
 use Rattle.snap_explain.specs.declared.position.Place.{Place}
-use Rattle.snap_explain.specs.Streams.{IsRead, IsNoRequest, TellsOf, Tells, DocumentEnds, ToldAll, ToldWithin, StreamTold, StreamLeaves, StreamLength, stream_status}
-use Rattle.snap_explain.specs.Streams.TellsOf.{of_request, of_refusal}
+use Rattle.snap_explain.specs.Streams.{IsNoRequest, IsRefusal, Said, TellsOf, Tells, DocumentEnds, ToldAll, ToldWithin, StreamTold, StreamLeaves, StreamLength, stream_status, whether_said}
+use Rattle.snap_explain.specs.Streams.TellsOf.{of_request, of_refusal, of_trouble}
 use Rattle.snap_explain.specs.Streams.Tells.{at_start as tells_nothing, at_document}
-use Rattle.snap_explain.specs.Findings.{is_write_fault, says_read_fault, says_write_fault}
+use Rattle.snap_explain.specs.Troubles.{IsClear, HasTrouble, IsTroubleLine, trouble_line, is_tell_file, is_tell_write}
+use Rattle.snap_explain.specs.Findings.{is_write_fault, says_read_fault, says_write_fault, says_file_fault}
+use Rattle.snap_explain.specs.declared.telling.TellError.{TellError}
+use Rattle.snap_explain.specs.declared.telling.TellError.TheVariants as tell
+use Rattle.snap_explain.specs.declared.trouble.Trouble.{Trouble}
 use Rattle.snap_explain.proofs.Turns.{all_held, held_after, filled-append}
 
-tells_more : (ds : List (List ℕ)) (d out said : List ℕ) → Tells ds out → TellsOf (suc (length ds)) d said → Tells (ds ++ d ∷ []) (out ++ said)
-tells_more ds d out said h k = at_document (ds ++ d ∷ []) ds d (out ++ said) out said h k refl refl
+tells_more : (words : RunWords) (files : Option Files) (ds : List (List ℕ)) (d : List ℕ) (s s' : SessionView) (out said : List ℕ) → Tells words files ds s out → TellsOf words files (suc (length ds)) d s s' said
+    → Tells words files (ds ++ d ∷ []) s' (out ++ said)
+tells_more words files ds d s s' out said h k = at_document (ds ++ d ∷ []) ds d s s' (out ++ said) out said h k refl refl
 
-counted : (ds : List (List ℕ)) (number : ℕ) (d said : List ℕ) → number ≡ length ds → TellsOf (number + 1) d said → TellsOf (suc (length ds)) d said
-counted ds number d said is k = let next : number + 1 ≡ suc (length ds) = omega (arith, is) in subst (λ n. TellsOf n d said) next k
+counted : (words : RunWords) (files : Option Files) (ds : List (List ℕ)) (number : ℕ) (d : List ℕ) (s s' : SessionView) (said : List ℕ) → number ≡ length ds → TellsOf words files (number + 1) d s s' said
+    → TellsOf words files (suc (length ds)) d s s' said
+counted words files ds number d s s' said is k = let next : number + 1 ≡ suc (length ds) = omega (arith, is) in subst (λ n. TellsOf words files n d s s' said) next k
 
 -- these documents at the front of the input were read, and what is said of them was written
-pub record ToldSoFar (input w rest : List ℕ) (now : Option (List ℕ)) (number : ℕ) (found : Bool) : Type 0 where
+pub record ToldSoFar (words : RunWords) (files : Option Files) (input w rest : List ℕ) (now : Option (List ℕ)) (number : ℕ) (session : SessionView) (found : Bool) : Type 0 where
   pub done : List (List ℕ)
   pub out : List ℕ
   pub cut : documents input ≡ done ++ documents rest
   pub number_is : number ≡ length done
-  pub tells : Tells done out
+  pub tells : Tells words files done session out
   pub told : now ≡ Some (w ++ out)
   pub found_is : found ≡ is_filled out
 
-pub told_start : (input w : List ℕ) (now : Option (List ℕ)) → now ≡ Some w → ToldSoFar input w input now 0 false
-told_start input w now written = record {
+pub told_start : (words : RunWords) (files : Option Files) (input w : List ℕ) (now : Option (List ℕ)) (session : SessionView) → session ≡ empty_session → now ≡ Some w → ToldSoFar words files input w input now 0 session false
+told_start words files input w now session fresh written = record {
   done = [];
   out = [];
   cut = refl;
   number_is = refl;
-  tells = tells_nothing [] [] refl refl;
+  tells = tells_nothing [] session [] refl fresh refl;
   told = written ∙ ap Some (sym (append-nil w));
   found_is = refl;
 }
@@ -49,86 +58,124 @@ one_more : (input d rest later : List ℕ) (done : List (List ℕ)) → document
 one_more input d rest later done cut first = cut ∙ ap (λ t. done ++ t) first ∙ sym (append_assoc done (d ∷ []) (documents later))
 
 -- what the writing of what is said of one document comes to, whatever was written before
-abbrev pub DocumentOf : ℕ → List ℕ → Option (List ℕ) → Option (List ℕ) → Result Bool SayError → Type 0
-DocumentOf number document now now' result = (v : List ℕ) → now ≡ Some v → DocumentEnds number document v now' result
+abbrev pub DocumentOf : RunWords → Option Files → ℕ → List ℕ → SessionView → SessionView → Option (List ℕ) → Option (List ℕ) → Result Bool TellError → Type 0
+DocumentOf words files number document s s' now now' result = (v : List ℕ) → now ≡ Some v → DocumentEnds words files number document s s' v now' result
 
-pub told_more : (input w rest d later : List ℕ) (now now' : Option (List ℕ)) (number : ℕ) (found this : Bool) → documents rest ≡ d ∷ documents later → ToldSoFar input w rest now number found
-    → DocumentOf (number + 1) d now now' (Ok this) → ToldSoFar input w later now' (number + 1) (found || this)
-told_more input w rest d later now now' number found this first s r =
+pub told_more : (words : RunWords) (files : Option Files) (input w rest d later : List ℕ) (now now' : Option (List ℕ)) (number : ℕ) (session session' : SessionView) (found this : Bool) → documents rest ≡ d ∷ documents later
+    → ToldSoFar words files input w rest now number session found → DocumentOf words files (number + 1) d session session' now now' (Ok this) → ToldSoFar words files input w later now' (number + 1) session' (found || this)
+told_more words files input w rest d later now now' number session session' found this first s r =
     let k = r (w ++ s.out) s.told in
     record {
       done = s.done ++ d ∷ [];
       out = s.out ++ k.0;
       cut = one_more input d rest later s.done s.cut first;
       number_is = omega (arith, s.number_is, length-append s.done (d ∷ []));
-      tells = tells_more s.done d s.out k.0 s.tells (counted s.done number d k.0 s.number_is k.1);
+      tells = tells_more words files s.done d session session' s.out k.0 s.tells (counted words files s.done number d session session' k.0 s.number_is k.1);
       told = k.2 ∙ ap Some (append_assoc w s.out k.0);
       found_is = ap (λ b. b || this) s.found_is ∙ ap (λ b. is_filled s.out || b) k.3 ∙ sym (filled-append s.out k.0);
     }
 
-pub told_end : (input w rest : List ℕ) (now : Option (List ℕ)) (number : ℕ) (found : Bool) → length rest ≡ 0 → ToldSoFar input w rest now number found → ToldAll input w now found
-told_end input w [] now number found none s = record {
+pub told_end : (words : RunWords) (files : Option Files) (input w rest : List ℕ) (now : Option (List ℕ)) (number : ℕ) (session : SessionView) (found : Bool) → length rest ≡ 0 → ToldSoFar words files input w rest now number session found
+    → ToldAll words files input w now found
+told_end words files input w [] now number session found none s = record {
   out = s.out;
-  tells = subst (λ ds. Tells ds s.out) (sym (s.cut ∙ append-nil s.done)) s.tells;
+  session = session;
+  tells = subst (λ ds. Tells words files ds session s.out) (sym (s.cut ∙ append-nil s.done)) s.tells;
   told = s.told;
   found_is = s.found_is;
 }
-told_end input w (b ∷ rest) now number found none s = absurd (omega arith)
+told_end words files input w (b ∷ rest) now number session found none s = absurd (omega arith)
 
-pub told_stop : (error : SayError) (input w rest d later : List ℕ) (now now' : Option (List ℕ)) (number : ℕ) (found : Bool) → documents rest ≡ d ∷ documents later → ToldSoFar input w rest now number found
-    → DocumentOf (number + 1) d now now' (Err error) → ToldWithin input w now'
-told_stop say.WriteFault input w rest d later now now' number found first s r =
+-- nothing more was said
+told_before : (words : RunWords) (files : Option Files) (input w rest : List ℕ) (now now' : Option (List ℕ)) (number : ℕ) (session : SessionView) (found : Bool) → (s : ToldSoFar words files input w rest now number session found)
+    → now' ≡ Some (w ++ s.out) → ToldWithin words files input w now'
+told_before words files input w rest now now' number session found s k =
+    record { done = s.done; later = documents rest; session = session; out = s.out; is = s.cut; tells = s.tells; part = all_held s.out w now' k }
+
+pub told_stop : (error : TellError) (words : RunWords) (files : Option Files) (input w rest d later : List ℕ) (now now' : Option (List ℕ)) (number : ℕ) (session session' : SessionView) (found : Bool) → documents rest ≡ d ∷ documents later
+    → ToldSoFar words files input w rest now number session found → DocumentOf words files (number + 1) d session session' now now' (Err error) → ToldWithin words files input w now'
+told_stop tell.WriteFault words files input w rest d later now now' number session session' found first s r =
     let k = r (w ++ s.out) s.told in
     record {
       done = s.done ++ d ∷ [];
       later = documents later;
+      session = session';
       out = s.out ++ k.0;
       is = one_more input d rest later s.done s.cut first;
-      tells = tells_more s.done d s.out k.0 s.tells (counted s.done number d k.0 s.number_is k.1);
+      tells = tells_more words files s.done d session session' s.out k.0 s.tells (counted words files s.done number d session session' k.0 s.number_is k.1);
       part = held_after s.out k.0 w now' k.2;
     }
-told_stop say.OutOfMemory input w rest d later now now' number found first s r =
-    let k : now' ≡ Some (w ++ s.out) = r (w ++ s.out) s.told in
-    record { done = s.done; later = documents rest; out = s.out; is = s.cut; tells = s.tells; part = all_held s.out w now' k }
+told_stop tell.FileFault words files input w rest d later now now' number session session' found first s r = told_before words files input w rest now now' number session found s (r (w ++ s.out) s.told)
+told_stop tell.OutOfMemory words files input w rest d later now now' number session session' found first s r = told_before words files input w rest now now' number session found s (r (w ++ s.out) s.told)
 
 -- what is written of a finding
-tells_refusal : (number : ℕ) (document : List ℕ) (why : Reason) (place : Place) (detail : List ℕ) → IsNoRequest document why → TellsOf number document (refusal_text number place why detail)
-tells_refusal number document why place detail refused = of_refusal (record { why = why; refused = refused; place = place; detail = detail; is = refl })
+pub said_of : {T : Type 0} → (result : Result T SayError) (holds : List ℕ → Type 0) (words : RunWords) (files : Option Files) (number : ℕ) (document : List ℕ) (s s' : SessionView) (w : List ℕ) (now : Option (List ℕ))
+    → ((said : List ℕ) → holds said → TellsOf words files number document s s' said × (is_filled said ≡ true)) → Said holds w now result → DocumentEnds words files number document s s' w now (whether_said result)
+said_of (Ok done) holds words files number document s s' w now then h = (h.0, (then h.0 h.1).0, h.2, sym (then h.0 h.1).1)
+said_of (Err say.WriteFault) holds words files number document s s' w now then h = (h.0, (then h.0 h.1).0, h.2)
+said_of (Err say.OutOfMemory) holds words files number document s s' w now then h = h
 
-pub refusal_said : (number : ℕ) (document : List ℕ) (why : Reason) (place : Place) (detail w : List ℕ) (now : Option (List ℕ)) → IsNoRequest document why
-    → now ≡ Some (w ++ refusal_text number place why detail) → DocumentEnds number document w now (Ok true)
-refusal_said number document why place detail w now refused h = (refusal_text number place why detail, tells_refusal number document why place detail refused, h, refl)
+pub refusal_said : {T : Type 0} → (result : Result T SayError) (words : RunWords) (files : Option Files) (number : ℕ) (document : List ℕ) (s : SessionView) (w : List ℕ) (now : Option (List ℕ))
+    → Said (IsRefusal number document) w now result → DocumentEnds words files number document s s w now (whether_said result)
+refusal_said result words files number document s w now h =
+    said_of result (IsRefusal number document) words files number document s s w now (λ said r. (of_refusal r refl, ap is_filled r.is)) h
 
-pub refusal_unsaid : (error : SayError) (number : ℕ) (document : List ℕ) (why : Reason) (place : Place) (detail w : List ℕ) (now : Option (List ℕ)) → IsNoRequest document why
-    → Writes {T = Unit {0}} (refusal_text number place why detail) w now (Err error) → DocumentEnds number document w now (Err error)
-refusal_unsaid say.WriteFault number document why place detail w now refused h = (refusal_text number place why detail, tells_refusal number document why place detail refused, h)
-refusal_unsaid say.OutOfMemory number document why place detail w now refused h = h
+pub trouble_said : {T : Type 0} → (result : Result T SayError) (words : RunWords) (files : Option Files) (number : ℕ) (document : List ℕ) (s s' : SessionView) (w : List ℕ) (now : Option (List ℕ)) (r : RequestView) (what : Trouble)
+    → ReadsAs document r → HasTrouble words files s s' r what → Said (IsTroubleLine number what) w now result → DocumentEnds words files number document s s' w now (whether_said result)
+trouble_said result words files number document s s' w now r what reads has h =
+    said_of result (IsTroubleLine number what) words files number document s s' w now (λ said line. (of_trouble r what reads has line, ap is_filled line.1)) h
 
-pub nothing_said_of : (number : ℕ) (document w : List ℕ) (now : Option (List ℕ)) → IsRead document → now ≡ Some w → DocumentEnds number document w now (Ok false)
-nothing_said_of number document w now read e = ([], of_request read refl, e ∙ ap Some (sym (append-nil w)), refl)
+pub nothing_said_of : (words : RunWords) (files : Option Files) (number : ℕ) (document : List ℕ) (s s' : SessionView) (w : List ℕ) (now : Option (List ℕ)) (r : RequestView) → ReadsAs document r → IsClear words files s s' r → now ≡ Some w
+    → DocumentEnds words files number document s s' w now (Ok false)
+nothing_said_of words files number document s s' w now r reads clear e = ([], of_request r reads clear refl, e ∙ ap Some (sym (append-nil w)), refl)
 
-pub never_bad_words : (result : Result Bool SayError) → stream_status result ≡ status.BadWords → ⊥
+-- where nothing was said, the sink didn't fail
+pub unsaid : (error : TellError) (words : RunWords) (files : Option Files) (number : ℕ) (document : List ℕ) (s s' : SessionView) (w : List ℕ) (now : Option (List ℕ)) → now ≡ Some w → is_tell_write error ≡ false
+    → DocumentEnds words files number document s s' w now (Err error)
+unsaid tell.WriteFault words files number document s s' w now e other = cc
+unsaid tell.FileFault words files number document s s' w now e other = e
+unsaid tell.OutOfMemory words files number document s s' w now e other = e
+
+pub unsaid_writes : (error : TellError) (before : ℕ) → is_tell_write error ≡ false → CountedIf (is_tell_write error) before before
+unsaid_writes tell.WriteFault before other = cc
+unsaid_writes tell.FileFault before other = refl
+unsaid_writes tell.OutOfMemory before other = refl
+
+pub said_writes : {T : Type 0} → (result : Result T SayError) (before now : ℕ) → Counted is_write_fault before now result → Counted is_tell_write before now (whether_said result)
+said_writes (Ok done) before now h = h
+said_writes (Err say.WriteFault) before now h = h
+said_writes (Err say.OutOfMemory) before now h = h
+
+pub said_files : {T : Type 0} → (result : Result T SayError) (before now : ℕ) → now ≡ before → Counted is_tell_file before now (whether_said result)
+said_files (Ok done) before now h = h
+said_files (Err say.WriteFault) before now h = h
+said_files (Err say.OutOfMemory) before now h = h
+
+pub never_bad_words : (result : Result Bool TellError) → stream_status result ≡ status.BadWords → ⊥
 never_bad_words (Ok false) is = cc
 never_bad_words (Ok true) is = cc
-never_bad_words (Err say.WriteFault) is = cc
-never_bad_words (Err say.OutOfMemory) is = cc
+never_bad_words (Err tell.WriteFault) is = cc
+never_bad_words (Err tell.FileFault) is = cc
+never_bad_words (Err tell.OutOfMemory) is = cc
 
 -- before anything was read
-pub told_nothing : (input w : List ℕ) (now : Option (List ℕ)) → now ≡ Some w → ToldWithin input w now
-told_nothing input w now told = record {
+pub told_nothing : (words : RunWords) (files : Option Files) (input w : List ℕ) (now : Option (List ℕ)) → now ≡ Some w → ToldWithin words files input w now
+told_nothing words files input w now told = record {
   done = [];
   later = documents input;
+  session = empty_session;
   out = [];
   is = refl;
-  tells = tells_nothing [] [] refl refl;
+  tells = tells_nothing [] empty_session [] refl refl refl;
   part = all_held [] w now (told ∙ ap Some (sym (append-nil w)));
 }
 
-pub stream_leaves : (result : Result Bool SayError) (input w : List ℕ) (now : Option (List ℕ)) → StreamTold input w now result → StreamLeaves (stream_status result) input w now
-stream_leaves (Ok false) input w now h = h
-stream_leaves (Ok true) input w now h = h
-stream_leaves (Err say.WriteFault) input w now h = h
-stream_leaves (Err say.OutOfMemory) input w now h = h
+pub stream_leaves : (result : Result Bool TellError) (words : RunWords) (files : Option Files) (input w : List ℕ) (now : Option (List ℕ)) → StreamTold words files input w now result → StreamLeaves words files (stream_status result) input w now
+stream_leaves (Ok false) words files input w now h = h
+stream_leaves (Ok true) words files input w now h = h
+stream_leaves (Err tell.WriteFault) words files input w now h = h
+stream_leaves (Err tell.FileFault) words files input w now h = h
+stream_leaves (Err tell.OutOfMemory) words files input w now h = h
 
 -- an input that was read to its end is none that is too long
 read_whole : (xs : List ℕ) (left left' : Option (List ℕ)) → ((input : List ℕ) → left ≡ Some input → xs ≡ input) → ((input : List ℕ) → left ≡ Some input → left' ≡ Some []) → length xs ≤ stream_limit
@@ -142,21 +189,45 @@ read_whole xs left left' all end within = λ input is. record {
 read_within : (xs : List ℕ) (left left' : Option (List ℕ)) → TakesAtMost stream_limit left left' → TakesAtMost (stream_limit + 1) left left'
 read_within xs left left' h = λ input is. let k = h input is in record { front = k.front; given = k.given; within = omega (arith, k.within) }
 
-pub stream_length : (result : Result Bool SayError) (xs : List ℕ) (left left' : Option (List ℕ)) → ((input : List ℕ) → left ≡ Some input → xs ≡ input)
+pub stream_length : (result : Result Bool TellError) (xs : List ℕ) (left left' : Option (List ℕ)) → ((input : List ℕ) → left ≡ Some input → xs ≡ input)
     → ((input : List ℕ) → left ≡ Some input → left' ≡ Some []) → length xs ≤ stream_limit → StreamLength (stream_status result) left left'
 stream_length (Ok false) xs left left' all end within = read_whole xs left left' all end within
 stream_length (Ok true) xs left left' all end within = read_whole xs left left' all end within
-stream_length (Err say.WriteFault) xs left left' all end within = read_whole xs left left' all end within
-stream_length (Err say.OutOfMemory) xs left left' all end within = read_within xs left left' (read_whole xs left left' all end within)
+stream_length (Err tell.WriteFault) xs left left' all end within = read_whole xs left left' all end within
+stream_length (Err tell.FileFault) xs left left' all end within = read_whole xs left left' all end within
+stream_length (Err tell.OutOfMemory) xs left left' all end within = read_within xs left left' (read_whole xs left left' all end within)
 
-pub stream_writes : (result : Result Bool SayError) (before now : ℕ) → Counted is_write_fault before now result → CountedIf (says_write_fault (stream_status result)) before now
+pub stream_writes : (result : Result Bool TellError) (before now : ℕ) → Counted is_tell_write before now result → CountedIf (says_write_fault (stream_status result)) before now
 stream_writes (Ok false) before now h = h
 stream_writes (Ok true) before now h = h
-stream_writes (Err say.WriteFault) before now h = h
-stream_writes (Err say.OutOfMemory) before now h = h
+stream_writes (Err tell.WriteFault) before now h = h
+stream_writes (Err tell.FileFault) before now h = h
+stream_writes (Err tell.OutOfMemory) before now h = h
 
-pub stream_reads : (result : Result Bool SayError) (before now : ℕ) → now ≡ before → CountedIf (says_read_fault (stream_status result)) before now
+pub stream_files : (result : Result Bool TellError) (before now : ℕ) → Counted is_tell_file before now result → CountedIf (says_file_fault (stream_status result)) before now
+stream_files (Ok false) before now h = h
+stream_files (Ok true) before now h = h
+stream_files (Err tell.WriteFault) before now h = h
+stream_files (Err tell.FileFault) before now h = h
+stream_files (Err tell.OutOfMemory) before now h = h
+
+pub stream_reads : (result : Result Bool TellError) (before now : ℕ) → now ≡ before → CountedIf (says_read_fault (stream_status result)) before now
 stream_reads (Ok false) before now h = h
 stream_reads (Ok true) before now h = h
-stream_reads (Err say.WriteFault) before now h = h
-stream_reads (Err say.OutOfMemory) before now h = h
+stream_reads (Err tell.WriteFault) before now h = h
+stream_reads (Err tell.FileFault) before now h = h
+stream_reads (Err tell.OutOfMemory) before now h = h
+
+pub said_refusal : {T : Type 0} → (result : Result T SayError) (number : ℕ) (document : List ℕ) (why : Reason) (place : Place) (detail w : List ℕ) (now : Option (List ℕ)) → IsNoRequest document why
+    → Writes (refusal_text number place why detail) w now result → Said (IsRefusal number document) w now result
+said_refusal (Ok done) number document why place detail w now refused h =
+    (refusal_text number place why detail, record { why = why; refused = refused; place = place; detail = detail; is = refl }, h)
+said_refusal (Err say.WriteFault) number document why place detail w now refused h =
+    (refusal_text number place why detail, record { why = why; refused = refused; place = place; detail = detail; is = refl }, h)
+said_refusal (Err say.OutOfMemory) number document why place detail w now refused h = h
+
+pub said_trouble : {T : Type 0} → (result : Result T SayError) (number : ℕ) (place : Place) (what : Trouble) (w : List ℕ) (now : Option (List ℕ)) → Writes (trouble_line number place what) w now result
+    → Said (IsTroubleLine number what) w now result
+said_trouble (Ok done) number place what w now h = (trouble_line number place what, (place, refl), h)
+said_trouble (Err say.WriteFault) number place what w now h = (trouble_line number place what, (place, refl), h)
+said_trouble (Err say.OutOfMemory) number place what w now h = h

@@ -78,6 +78,7 @@ pub rules_cause : (words : List (List ℕ)) (rules : List ReplacementView) (ende
 rules_cause words rules status.Nothing is other = (rules, is)
 rules_cause words rules status.Found is other = (rules, is)
 rules_cause words rules status.BadWords is other = absurd (other refl)
+rules_cause words rules status.FileFault is other = (rules, is)
 rules_cause words rules status.ReadFault is other = (rules, is)
 rules_cause words rules status.WriteFault is other = (rules, is)
 rules_cause words rules status.OutOfMemory is other = tt
@@ -89,6 +90,7 @@ told_length : (text : List ℕ) (ended : ExplainStatus) (written written' : Opti
 told_length text status.Nothing written written' told = omega arith
 told_length text status.Found written written' told = absurd told
 told_length text status.BadWords written written' told = absurd told
+told_length text status.FileFault written written' told = absurd told
 told_length text status.ReadFault written written' told = absurd told
 told_length text status.WriteFault written written' told = omega arith
 told_length text status.OutOfMemory written written' told = absurd told

@@ -4,4 +4,5 @@ mod Endings
 mod Documents
 mod Pages
 mod Asking
+mod Foretold
 mod Shown

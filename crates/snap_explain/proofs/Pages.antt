@@ -1,5 +1,5 @@
 -- What is said of a page, and what a run over one leaves.
-use Rattle.snap_explain.proofs.Prelude.{◌≡◌, ℕ, ◌+◌, ◌≤◌, List, [], Option, None, Some, Result, Ok, Err, length, refl, sym, ◌∙◌, arith, append-nil, subst, inl, inr, chars, SayError}
+use Rattle.snap_explain.proofs.Prelude.{◌≡◌, false, ℕ, ◌+◌, ◌≤◌, List, [], Option, None, Some, Result, Ok, Err, length, refl, sym, ◌∙◌, arith, append-nil, subst, inl, inr, chars, SayError}
 use Rattle.std.specs.Prelude.{IfSome}
 use Rattle.snap_io.specs.Causes.{Counted, CountedIf}
 use Rattle.snap_io_streams.specs.Streams.{TakesAtMost, input_limit as page_limit}
@@ -10,7 +10,7 @@ use Rattle.snap_front.specs.declared.status.FrontStatus.TheVariants.{Failed}
 use Rattle.snap_explain.specs.declared.saying.SayError.TheVariants as say
 use Rattle.snap_explain.specs.declared.status.ExplainStatus.{ExplainStatus}
 use Rattle.snap_explain.specs.declared.status.ExplainStatus.TheVariants as status
-use Rattle.snap_explain.specs.Findings.{is_write_fault, says_read_fault, says_write_fault}
+use Rattle.snap_explain.specs.Findings.{is_write_fault, says_read_fault, says_write_fault, says_file_fault}
 use Rattle.snap_explain.specs.Streams.{StreamLength}
 use Rattle.snap_explain.specs.Pages.{FrontRun, IsOfHeader, IsOfWords, IsSaidOf, IsUnanswered, IsWhy, PageLeaves, said_status}
 
@@ -55,6 +55,7 @@ pub page_length : (ended : ExplainStatus) (xs : List ℕ) (left left' : Option (
 page_length status.Nothing xs left left' all end within h = read_whole xs left left' all end within
 page_length status.Found xs left left' all end within h = read_whole xs left left' all end within
 page_length status.BadWords xs left left' all end within h = absurd h
+page_length status.FileFault xs left left' all end within h = absurd h
 page_length status.ReadFault xs left left' all end within h = absurd h
 page_length status.WriteFault xs left left' all end within h = read_whole xs left left' all end within
 page_length status.OutOfMemory xs left left' all end within h = read_within left left' (read_whole xs left left' all end within)
@@ -65,11 +66,23 @@ pub page_reads : (ended : ExplainStatus) (before now : ℕ) → now ≡ before �
 page_reads status.Nothing before now same h = same
 page_reads status.Found before now same h = same
 page_reads status.BadWords before now same h = absurd h
+page_reads status.FileFault before now same h = absurd h
 page_reads status.ReadFault before now same h = absurd h
 page_reads status.WriteFault before now same h = same
 page_reads status.OutOfMemory before now same h = same
 page_reads status.InputTooLong before now same h = absurd h
 page_reads status.StreamTooLong before now same h = absurd h
+
+pub page_files : (ended : ExplainStatus) → IsUnanswered ended → says_file_fault ended ≡ false
+page_files status.Nothing h = refl
+page_files status.Found h = refl
+page_files status.BadWords h = refl
+page_files status.FileFault h = absurd h
+page_files status.ReadFault h = refl
+page_files status.WriteFault h = refl
+page_files status.OutOfMemory h = refl
+page_files status.InputTooLong h = refl
+page_files status.StreamTooLong h = refl
 
 pub never_bad : (ended : ExplainStatus) → IsUnanswered ended → ended ≡ status.BadWords → ⊥
 never_bad ended h bad = subst IsUnanswered bad h

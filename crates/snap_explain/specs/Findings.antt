@@ -102,6 +102,7 @@ abbrev pub Leaves : List ReplacementView → ExplainStatus → List ℕ → List
 Leaves rules status.Nothing input w now = SaidAll rules input w now false
 Leaves rules status.Found input w now = SaidAll rules input w now true ⊎ SaidLong (λ text. now ≡ Some (w ++ text)) rules input
 Leaves rules status.BadWords input w now = ⊥
+Leaves rules status.FileFault input w now = ⊥
 Leaves rules status.ReadFault input w now = Stops rules input w now
 Leaves rules status.WriteFault input w now = Stops rules input w now
 Leaves rules status.OutOfMemory input w now = Stops rules input w now
@@ -129,3 +130,8 @@ says_read_fault _ = false
 abbrev pub says_write_fault : ExplainStatus → Bool
 says_write_fault status.WriteFault = true
 says_write_fault _ = false
+
+-- a status that tells that the store failed
+abbrev pub says_file_fault : ExplainStatus → Bool
+says_file_fault status.FileFault = true
+says_file_fault _ = false

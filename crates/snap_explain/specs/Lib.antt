@@ -4,6 +4,7 @@ pub mod Reasons
 pub mod Findings
 pub mod Runs
 pub mod Refusals
+pub mod Troubles
 pub mod Streams
 pub mod Pages
 pub mod Program

@@ -80,6 +80,7 @@ abbrev pub PageLeaves : List (List ℕ) → ExplainStatus → List ℕ → List 
 PageLeaves words status.Nothing page w now = HasAnswer words page × (now ≡ Some w)
 PageLeaves words status.Found page w now = (said : List ℕ) × IsPageFinding words page said × (now ≡ Some (w ++ said))
 PageLeaves words status.BadWords page w now = ⊥
+PageLeaves words status.FileFault page w now = ⊥
 PageLeaves words status.ReadFault page w now = now ≡ Some w
 PageLeaves words status.WriteFault page w now = (said : List ℕ) × IsPageFinding words page said × HoldsFront said w now
 PageLeaves words status.OutOfMemory page w now = now ≡ Some w
@@ -89,6 +90,7 @@ PageLeaves words status.StreamTooLong page w now = now ≡ Some w
 -- a run over a page that was read to its end may end so
 abbrev pub IsUnanswered : ExplainStatus → Type 0
 IsUnanswered status.BadWords = ⊥
+IsUnanswered status.FileFault = ⊥
 IsUnanswered status.ReadFault = ⊥
 IsUnanswered status.InputTooLong = ⊥
 IsUnanswered status.StreamTooLong = ⊥

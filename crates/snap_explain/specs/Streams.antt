@@ -5,19 +5,22 @@ use Rattle.snap_io_streams.specs.Streams.{TakesAtMost, TakesExactly, input_limit
 use Rattle.snap_run_requests.specs.Cut.{documents}
 use Rattle.snap_run_requests.specs.Faults.{IsReason}
 use Rattle.snap_run_requests.specs.Requests.{RequestView, ReadsAs, Spells}
+use Rattle.snap_io.specs.Files.{Files}
+use Rattle.snap_assert.specs.Session.{SessionView, empty_session}
+use Rattle.snap_assert_settings.specs.declared.config.Update.TheVariants.{NoUpdate}
+use Rattle.snap_run.specs.Answers.{RunWords, words_at}
 use Rattle.snap_run_requests.specs.declared.fault.Reason.{Reason}
 use Rattle.snap_explain.specs.Findings.{is_filled}
 use Rattle.snap_explain.specs.Refusals.{refusal_text}
+use Rattle.snap_explain.specs.Troubles.{IsClear, HasTrouble, IsTroubleLine}
+use Rattle.snap_explain.specs.declared.telling.TellError.{TellError}
+use Rattle.snap_explain.specs.declared.telling.TellError.TheVariants as tell
+use Rattle.snap_explain.specs.declared.trouble.Trouble.{Trouble}
 use Rattle.snap_explain.specs.declared.position.Place.{Place}
 use Rattle.snap_explain.specs.declared.saying.SayError.{SayError}
 use Rattle.snap_explain.specs.declared.saying.SayError.TheVariants as say
 use Rattle.snap_explain.specs.declared.status.ExplainStatus.{ExplainStatus}
 use Rattle.snap_explain.specs.declared.status.ExplainStatus.TheVariants as status
-
--- the document is read as a request
-pub record IsRead (document : List ℕ) : Type 0 where
-  pub request : RequestView
-  pub reads : ReadsAs document request
 
 -- the document is no request for this reason, which holds of it: it spells none
 pub record IsNoRequest (document : List ℕ) (why : Reason) : Type 0 where
@@ -32,61 +35,90 @@ pub record IsRefusal (number : ℕ) (document said : List ℕ) : Type 0 where
   pub detail : List ℕ
   pub is : said ≡ refusal_text number place why detail
 
--- what is said of the document with this number: nothing where it is read as a request, and else why it is none
-pub data TellsOf (number : ℕ) (document said : List ℕ) : Type 0 where
-  of_request : IsRead document → said ≡ [] → TellsOf number document said
-  of_refusal : IsRefusal number document said → TellsOf number document said
+-- what is said of the document with this number: nothing where it is read as a request that would pass, or begins or ends a block; and
+-- else why it is no request, which changes nothing that is remembered, or why that request would not pass
+pub data TellsOf (words : RunWords) (files : Option Files) (number : ℕ) (document : List ℕ) (session session' : SessionView) (said : List ℕ) : Type 0 where
+  of_request : (r : RequestView) → ReadsAs document r → IsClear words files session session' r → said ≡ [] → TellsOf words files number document session session' said
+  of_refusal : IsRefusal number document said → session' ≡ session → TellsOf words files number document session session' said
+  of_trouble : (r : RequestView) (what : Trouble) → ReadsAs document r → HasTrouble words files session session' r what → IsTroubleLine number what said
+      → TellsOf words files number document session session' said
 
--- what is said of documents, of each in turn, the first of which has the number 1
-pub data Tells : List (List ℕ) → List ℕ → Type 0 where
-  at_start : (all : List (List ℕ)) (out : List ℕ) → all ≡ [] → out ≡ [] → Tells all out
-  at_document : (all before : List (List ℕ)) (document out told said : List ℕ) → Tells before told → TellsOf (suc (length before)) document said
-      → all ≡ before ++ document ∷ [] → out ≡ told ++ said → Tells all out
+-- what is said of documents, of each in turn, the first of which has the number 1, and what is remembered then: before the first nothing
+pub data Tells (words : RunWords) (files : Option Files) : List (List ℕ) → SessionView → List ℕ → Type 0 where
+  at_start : (all : List (List ℕ)) (session : SessionView) (out : List ℕ) → all ≡ [] → session ≡ empty_session → out ≡ [] → Tells words files all session out
+  at_document : (all before : List (List ℕ)) (document : List ℕ) (session session' : SessionView) (out told said : List ℕ) → Tells words files before session told
+      → TellsOf words files (suc (length before)) document session session' said → all ≡ before ++ document ∷ [] → out ≡ told ++ said → Tells words files all session' out
+
+-- a text of which this holds was written after w, or a part of its front where the sink failed, or nothing
+abbrev pub Said : {T : Type 0} → (List ℕ → Type 0) → List ℕ → Option (List ℕ) → Result T SayError → Type 0
+Said holds w now (Ok done) = (said : List ℕ) × holds said × (now ≡ Some (w ++ said))
+Said holds w now (Err say.WriteFault) = (said : List ℕ) × holds said × HoldsFront said w now
+Said holds w now (Err say.OutOfMemory) = now ≡ Some w
+
+abbrev pub told_error : SayError → TellError
+told_error say.WriteFault = tell.WriteFault
+told_error say.OutOfMemory = tell.OutOfMemory
+
+-- that something was said, or why not
+abbrev pub whether_said : {T : Type 0} → Result T SayError → Result Bool TellError
+whether_said (Ok done) = Ok true
+whether_said (Err error) = Err (told_error error)
 
 -- what is said of a document was written after w, and it is told whether that is something; or a part of it, or nothing
-abbrev pub DocumentEnds : ℕ → List ℕ → List ℕ → Option (List ℕ) → Result Bool SayError → Type 0
-DocumentEnds number document w now (Ok found) = (said : List ℕ) × TellsOf number document said × (now ≡ Some (w ++ said)) × (found ≡ is_filled said)
-DocumentEnds number document w now (Err say.WriteFault) = (said : List ℕ) × TellsOf number document said × HoldsFront said w now
-DocumentEnds number document w now (Err say.OutOfMemory) = now ≡ Some w
+abbrev pub DocumentEnds : RunWords → Option Files → ℕ → List ℕ → SessionView → SessionView → List ℕ → Option (List ℕ) → Result Bool TellError → Type 0
+DocumentEnds words files number document session session' w now (Ok found) =
+    (said : List ℕ) × TellsOf words files number document session session' said × (now ≡ Some (w ++ said)) × (found ≡ is_filled said)
+DocumentEnds words files number document session session' w now (Err tell.WriteFault) =
+    (said : List ℕ) × TellsOf words files number document session session' said × HoldsFront said w now
+DocumentEnds words files number document session session' w now (Err tell.FileFault) = now ≡ Some w
+DocumentEnds words files number document session session' w now (Err tell.OutOfMemory) = now ≡ Some w
 
 -- what is said of all documents of the input was written after w
-pub record ToldAll (input w : List ℕ) (now : Option (List ℕ)) (found : Bool) : Type 0 where
+pub record ToldAll (words : RunWords) (files : Option Files) (input w : List ℕ) (now : Option (List ℕ)) (found : Bool) : Type 0 where
   pub out : List ℕ
-  pub tells : Tells (documents input) out
+  pub session : SessionView
+  pub tells : Tells words files (documents input) session out
   pub told : now ≡ Some (w ++ out)
   pub found_is : found ≡ is_filled out
 
 -- a front of what is said of documents at the front of the input was written
-pub record ToldWithin (input w : List ℕ) (now : Option (List ℕ)) : Type 0 where
+pub record ToldWithin (words : RunWords) (files : Option Files) (input w : List ℕ) (now : Option (List ℕ)) : Type 0 where
   pub done : List (List ℕ)
   pub later : List (List ℕ)
+  pub session : SessionView
   pub out : List ℕ
   pub is : documents input ≡ done ++ later
-  pub tells : Tells done out
+  pub tells : Tells words files done session out
   pub part : HoldsFront out w now
 
 -- what the documents of the input leave after w
-abbrev pub StreamTold : List ℕ → List ℕ → Option (List ℕ) → Result Bool SayError → Type 0
-StreamTold input w now (Ok found) = ToldAll input w now found
-StreamTold input w now (Err error) = ToldWithin input w now
+abbrev pub StreamTold : RunWords → Option Files → List ℕ → List ℕ → Option (List ℕ) → Result Bool TellError → Type 0
+StreamTold words files input w now (Ok found) = ToldAll words files input w now found
+StreamTold words files input w now (Err error) = ToldWithin words files input w now
 
 -- what a run over the input leaves after w: nothing where it isn't read to its end
-abbrev pub StreamLeaves : ExplainStatus → List ℕ → List ℕ → Option (List ℕ) → Type 0
-StreamLeaves status.Nothing input w now = ToldAll input w now false
-StreamLeaves status.Found input w now = ToldAll input w now true
-StreamLeaves status.BadWords input w now = ⊥
-StreamLeaves status.ReadFault input w now = now ≡ Some w
-StreamLeaves status.WriteFault input w now = ToldWithin input w now
-StreamLeaves status.OutOfMemory input w now = ToldWithin input w now
-StreamLeaves status.InputTooLong input w now = ⊥
-StreamLeaves status.StreamTooLong input w now = now ≡ Some w
+abbrev pub StreamLeaves : RunWords → Option Files → ExplainStatus → List ℕ → List ℕ → Option (List ℕ) → Type 0
+StreamLeaves words files status.Nothing input w now = ToldAll words files input w now false
+StreamLeaves words files status.Found input w now = ToldAll words files input w now true
+StreamLeaves words files status.BadWords input w now = ⊥
+StreamLeaves words files status.FileFault input w now = ToldWithin words files input w now
+StreamLeaves words files status.ReadFault input w now = now ≡ Some w
+StreamLeaves words files status.WriteFault input w now = ToldWithin words files input w now
+StreamLeaves words files status.OutOfMemory input w now = ToldWithin words files input w now
+StreamLeaves words files status.InputTooLong input w now = ⊥
+StreamLeaves words files status.StreamTooLong input w now = now ≡ Some w
 
 -- how a run ended whose documents were told so
-abbrev pub stream_status : Result Bool SayError → ExplainStatus
+abbrev pub stream_status : Result Bool TellError → ExplainStatus
 stream_status (Ok false) = status.Nothing
 stream_status (Ok true) = status.Found
-stream_status (Err say.WriteFault) = status.WriteFault
-stream_status (Err say.OutOfMemory) = status.OutOfMemory
+stream_status (Err tell.WriteFault) = status.WriteFault
+stream_status (Err tell.FileFault) = status.FileFault
+stream_status (Err tell.OutOfMemory) = status.OutOfMemory
+
+-- the words of a run that writes nothing, in this workspace, with literal blocks or without
+abbrev pub stream_at : List ℕ → Bool → RunWords
+stream_at workspace literal = words_at workspace NoUpdate (record { force_update = false; force_pass = false; full = false; literal = literal })
 
 -- the input is too long exactly where one byte more than the limit was taken
 abbrev pub StreamLength : ExplainStatus → Option (List ℕ) → Option (List ℕ) → Type 0
@@ -95,6 +127,6 @@ StreamLength status.OutOfMemory left left' = TakesAtMost (input_limit + 1) left 
 StreamLength _ left left' = TakesAtMost input_limit left left'
 
 -- what a run over a stream leaves, where the source and the sink tell what they hold
-pub record StreamRun (status : ExplainStatus) (left left' written written' : Option (List ℕ)) : Type 0 where
-  pub leaves : (input w : List ℕ) → left ≡ Some input → written ≡ Some w → StreamLeaves status input w written'
+pub record StreamRun (words : RunWords) (files : Option Files) (status : ExplainStatus) (left left' written written' : Option (List ℕ)) : Type 0 where
+  pub leaves : (input w : List ℕ) → left ≡ Some input → written ≡ Some w → StreamLeaves words files status input w written'
   pub taken : StreamLength status left left'

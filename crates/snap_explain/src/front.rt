@@ -1,8 +1,8 @@
 //! Why a command on a page has no answer.
-ghost use Rattle.std.specs.Prelude.{◌≡◌, List, ℕ, None, Some, IfOk, MatchOption};
+ghost use Rattle.std.specs.Prelude.{◌≡◌, false, List, ℕ, None, Some, IfOk, MatchOption};
 ghost use Rattle.snap_io.specs.Causes.{CountedIf};
 ghost use Rattle.snap_front.specs.Program.{IsFailure};
-ghost use Rattle.snap_explain.specs.Findings.{says_read_fault, says_write_fault};
+ghost use Rattle.snap_explain.specs.Findings.{says_read_fault, says_write_fault, says_file_fault};
 ghost use Rattle.snap_explain.specs.Pages.{FrontRun, HasAnswer, IsUnanswered, PageLeaves, said_status};
 ghost use Rattle.snap_explain.specs.Streams.{StreamLength};
 
@@ -100,6 +100,7 @@ fn explain_source<S: Source, K: Sink>(
     ensures length { StreamLength result (S.left source.old) (S.left source.new) }
     ensures read { CountedIf (says_read_fault result) (S.faults source.old) (S.faults source.new) }
     ensures write { CountedIf (says_write_fault result) (K.faults sink.old) (K.faults sink.new) }
+    ensures file { says_file_fault result ≡ false }
 {
     match read_all(alloc, source) {
         Err(ReadError::Fault) => ExplainStatus::ReadFault,
@@ -122,6 +123,7 @@ pub(crate) fn explain_front<S: Source, K: Sink>(
         (K.written sink.old) (K.written sink.new) }
     ensures read { CountedIf (says_read_fault result) (S.faults source.old) (S.faults source.new) }
     ensures write { CountedIf (says_write_fault result) (K.faults sink.old) (K.faults sink.new) }
+    ensures file { says_file_fault result ≡ false }
 {
     match text_in(words, USAGE, VERSION) {
         Some(_) => ExplainStatus::Nothing,

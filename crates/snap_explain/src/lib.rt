@@ -6,19 +6,23 @@
 //! `lines` (the loop over the lines), `status` and `usage` (what is said of a run, and of the program), `mask` (what the filter of JSON
 //! lines refuses); `front` (a page that the program on pages gives no answer of), `failing` (that finding, written), `page`, `no_tree`,
 //! `page_words` and `page_path` (what is told of the page, its header, the words and the path); `position` (lines and columns), `outline` (the nodes of a text), `pointing` (the node that a reason speaks of),
-//! `nearest`, `number_path`, `hint` (what helps), `refusal` (the reason in words), `telling` (the finding of a document), `stream` (the
+//! `nearest`, `number_path`, `hint` (what helps), `refusal` (the reason in words), `trouble` (why a request would not pass, in words),
+//! `detail`, `misfit` (why a file gives no pass), `foreseeing` (what would become of a request), `telling` (the finding of a document), `stream` (the
 //! loop over the documents), `explaining` (the tool that the words name), `command` (the run that the arguments ask for).
 #![tactic(auto)]
 
 pub mod cause;
 pub mod command;
+mod detail;
 pub mod explaining;
 pub mod failing;
 pub mod fault;
+mod foreseeing;
 pub mod front;
 mod hint;
 pub mod lines;
 pub mod mask;
+mod misfit;
 mod nearest;
 mod no_tree;
 mod number_path;
@@ -35,6 +39,7 @@ pub mod start;
 pub mod status;
 pub mod stream;
 pub mod telling;
+pub mod trouble;
 pub mod usage;
 
 pub use command::program;

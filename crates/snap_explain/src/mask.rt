@@ -3,7 +3,7 @@ ghost use Rattle.std.specs.Prelude.{◌≡◌, false, List, ℕ, None, Some, IfO
 ghost use Rattle.snap_io.specs.Causes.{CountedIf};
 ghost use Rattle.snap_assert_settings.specs.Replaced.{ReplacementView, replacements_of};
 ghost use Rattle.snap_mask.specs.Rules.{AreMasking};
-ghost use Rattle.snap_explain.specs.Findings.{Leaves, LeavesOf, LengthCause, is_input_too_long, says_read_fault, says_write_fault};
+ghost use Rattle.snap_explain.specs.Findings.{Leaves, LeavesOf, LengthCause, is_input_too_long, says_read_fault, says_write_fault, says_file_fault};
 ghost use Rattle.snap_explain.specs.Program.{RulesCause, mask_rules};
 ghost use Rattle.snap_explain.specs.Runs.{RunLeaves, SaidBefore, is_long_run, run_read_fault, run_write_fault};
 
@@ -44,6 +44,7 @@ fn say_long<K: Sink>(alloc: Global, line: u64, sink: &mut K) -> ExplainStatus
     ensures length { is_input_too_long result ≡ false }
     ensures read { says_read_fault result ≡ false }
     ensures write { CountedIf (says_write_fault result) (K.faults sink.old) (K.faults sink.new) }
+    ensures file { says_file_fault result ≡ false }
 {
     match say(alloc, line, &LineFault::TooLong, sink) {
         Ok(()) => ExplainStatus::Found,
@@ -62,6 +63,7 @@ fn ended<K: Sink>(alloc: Global, run: Run, sink: &mut K) -> ExplainStatus
     ensures read { says_read_fault result ≡ run_read_fault run }
     ensures write { (before : ℕ) → CountedIf (run_write_fault run) before (K.faults sink.old)
         → CountedIf (says_write_fault result) before (K.faults sink.new) }
+    ensures file { says_file_fault result ≡ false }
 {
     match run {
         Run::Done { found } => {
@@ -93,6 +95,7 @@ fn explain_by<S: Source, K: Sink>(
     ensures length { LengthCause result (S.left source.old) (S.left source.new) }
     ensures read { CountedIf (says_read_fault result) (S.faults source.old) (S.faults source.new) }
     ensures write { CountedIf (says_write_fault result) (K.faults sink.old) (K.faults sink.new) }
+    ensures file { says_file_fault result ≡ false }
 {
     match Redactions::from_replacements(alloc, rules) {
         Err(_) => ExplainStatus::OutOfMemory,
@@ -118,6 +121,7 @@ pub(crate) fn explain_lines<S: Source, K: Sink>(
     ensures length { LengthCause result (S.left source.old) (S.left source.new) }
     ensures read { CountedIf (says_read_fault result) (S.faults source.old) (S.faults source.new) }
     ensures write { CountedIf (says_write_fault result) (K.faults sink.old) (K.faults sink.new) }
+    ensures file { says_file_fault result ≡ false }
 {
     match mask_rules(alloc, words) {
         Err(_) => ExplainStatus::OutOfMemory,

@@ -10,6 +10,8 @@ pub enum ExplainStatus {
     Found,
     /// The words are none of this program, or spell no rules. Nothing was read.
     BadWords,
+    /// The store failed. A beginning of the findings is written.
+    FileFault,
     /// The source failed. A beginning of the findings is written.
     ReadFault,
     /// The sink failed. A beginning of the findings is written.
@@ -33,6 +35,7 @@ impl ExplainStatus {
             ExplainStatus::Nothing => 0,
             ExplainStatus::Found => 1,
             ExplainStatus::BadWords => 2,
+            ExplainStatus::FileFault => 5,
             ExplainStatus::ReadFault => 6,
             ExplainStatus::WriteFault => 7,
             ExplainStatus::OutOfMemory => 8,

@@ -1,23 +1,66 @@
-//! The finding of a document that is no request, written.
-ghost use Rattle.std.specs.Prelude.{◌≡◌, List, ℕ, Some, IfOk, MatchOption, string_bytes};
+//! The finding of a document, written.
+ghost use Rattle.std.specs.Prelude.{◌≡◌, List, ℕ, Some, IfOk, MatchResult, string_bytes};
 ghost use Rattle.snap_io.specs.Causes.{Counted};
+ghost use Rattle.snap_assert.specs.Session.{session_of};
+ghost use Rattle.snap_run.specs.Runner.{words_of};
+ghost use Rattle.snap_run_requests.specs.RequestOf.{request_of};
+ghost use Rattle.snap_run_requests.specs.Requests.{ReadsAs};
 ghost use Rattle.snap_explain.specs.Findings.{Writes, is_write_fault};
 ghost use Rattle.snap_explain.specs.Refusals.{refusal_text};
-ghost use Rattle.snap_explain.specs.Streams.{IsRead, IsNoRequest, DocumentEnds};
+ghost use Rattle.snap_explain.specs.Streams.{IsNoRequest, IsRefusal, Said, DocumentEnds, whether_said};
+ghost use Rattle.snap_explain.specs.Troubles.{IsOfFile, IsTroubleLine, trouble_line, is_tell_file, is_tell_write};
 
+use crate::foreseeing::trouble_of;
 use crate::hint::hint;
 use crate::outline::{Node, Outline, outline_of};
 use crate::pointing::node_of;
 use crate::position::{Place, place_behind};
 use crate::refusal::ReasonWords;
 use crate::saying::SayError;
+use crate::trouble::Trouble;
+use snap_assert::session::Session;
 use snap_content::{OutOfMemory, Text};
 use snap_emit::Refusal;
-use snap_io::Sink;
+use snap_io::{Sink, Store};
 use snap_io_streams::streams::write_all;
-use snap_run_requests::{KeyFault, Reason, RequestError, read_request};
+use snap_run::Runner;
+use snap_run_requests::{KeyFault, Reason, Request, RequestError, read_request};
 use snap_scan_tokens::ScanError;
 use std::alloc::Global;
+
+/// Why a document isn't told of to its end.
+#[derive(Clone, Copy, Debug, PartialEq, Eq)]
+pub enum TellError {
+    WriteFault,
+    /// The store failed.
+    FileFault,
+    OutOfMemory,
+}
+
+impl From<OutOfMemory> for TellError {
+    ghost use Rattle.std.specs.Prelude.{◌≡◌};
+    ghost use Rattle.snap_explain.specs.declared.telling.TellError.TheVariants.{OutOfMemory};
+
+    ghost from_gives = { λ _ e. e ≡ OutOfMemory };
+
+    fn from(_: OutOfMemory) -> Self {
+        TellError::OutOfMemory
+    }
+}
+
+impl From<SayError> for TellError {
+    ghost use Rattle.std.specs.Prelude.{◌≡◌};
+    ghost use Rattle.snap_explain.specs.Streams.{told_error};
+
+    ghost from_gives = { λ error e. e ≡ told_error error };
+
+    fn from(error: SayError) -> Self {
+        match error {
+            SayError::WriteFault => TellError::WriteFault,
+            SayError::OutOfMemory => TellError::OutOfMemory,
+        }
+    }
+}
 
 /// Where a finding points, and what helps to mend the document.
 #[derive(Debug, Drop)]
@@ -164,50 +207,136 @@ fn say_refusal<K: Sink>(
     document: &[u8],
     why: &Reason,
     sink: &mut K,
-) -> Result<bool, SayError>
+) -> Result<(), SayError>
     ensures said { (w : List ℕ) → K.written sink.old ≡ Some w → IsNoRequest document.now why.now
-        → DocumentEnds number document.now w (K.written sink.new) result }
+        → Said (IsRefusal number document.now) w (K.written sink.new) result }
     ensures cause { Counted is_write_fault (K.faults sink.old) (K.faults sink.new) result }
 {
     let told = told_of(alloc, number, first, document, why)?;
     let said = say_told(alloc, number, &told, why, sink);
     drop(told);
+    said
+}
+
+/// What is said of a document with this number that is a request, as a line.
+fn trouble_line(
+    alloc: Global,
+    number: u64,
+    place: Place,
+    what: &Trouble,
+) -> Result<String, OutOfMemory>
+    ensures { IfOk result (λ text. string_bytes text ≡ trouble_line number place what.now) }
+{
+    Ok(format!(in alloc; "document {number}, {place}: {what}\n")?)
+}
+
+/// Writes why a request would not pass.
+fn write_trouble<K: Sink>(
+    alloc: Global,
+    number: u64,
+    place: Place,
+    what: &Trouble,
+    sink: &mut K,
+) -> Result<(), SayError>
+    ensures said { (w : List ℕ) → K.written sink.old ≡ Some w
+        → Writes (trouble_line number place what.now) w (K.written sink.new) result }
+    ensures cause { Counted is_write_fault (K.faults sink.old) (K.faults sink.new) result }
+{
+    let text = trouble_line(alloc, number, place, what)?;
+    write_all(sink, text.as_bytes())?;
+    Ok(())
+}
+
+/// Says of a document that is a request, and whose first line is this one, why it would not pass.
+fn say_trouble<K: Sink>(
+    alloc: Global,
+    number: u64,
+    first: u64,
+    what: &Trouble,
+    sink: &mut K,
+) -> Result<(), SayError>
+    ensures said { (w : List ℕ) → K.written sink.old ≡ Some w
+        → Said (IsTroubleLine number what.now) w (K.written sink.new) result }
+    ensures cause { Counted is_write_fault (K.faults sink.old) (K.faults sink.new) result }
+{
+    let place = Place {
+        line: first,
+        column: None,
+    };
+    write_trouble(alloc, number, place, what, sink)
+}
+
+/// That something was said, or why not.
+fn whether_said(said: Result<(), SayError>) -> Result<bool, TellError>
+    ensures { result ≡ whether_said said }
+{
     match said {
         Ok(()) => Ok(true),
-        Err(error) => Err(error),
+        Err(SayError::WriteFault) => Err(TellError::WriteFault),
+        Err(SayError::OutOfMemory) => Err(TellError::OutOfMemory),
     }
 }
 
-/// Why a document is no request, where the run's own reader refuses it.
-fn refused(alloc: Global, document: &[u8]) -> Result<Option<Reason>, OutOfMemory>
-    ensures { IfOk result (λ found. MatchOption found (IsRead document.now)
+/// The request of a document, or why the run's own reader refuses it.
+fn read(alloc: Global, document: &[u8]) -> Result<Result<Request, Reason>, OutOfMemory>
+    ensures { IfOk result (λ found. MatchResult found
+        (λ request. ReadsAs document.now (request_of request))
         (λ why. IsNoRequest document.now why)) }
 {
     match read_request(alloc, document) {
-        Ok(request) => {
-            drop(request);
-            Ok(None)
-        }
-        Err(RequestError::NoRequest(why)) => Ok(Some(why)),
+        Ok(request) => Ok(Ok(request)),
+        Err(RequestError::NoRequest(why)) => Ok(Err(why)),
         Err(RequestError::OutOfMemory) => Err(OutOfMemory),
     }
 }
 
-/// Says of the document with this number, whose first line is this one of the stream, why it is no request, where the run's own
-/// reader refuses it. Whether it was said.
-pub(crate) fn tell_document<K: Sink>(
+/// Says of a request why it would not pass, where it would not. Whether it was said.
+fn tell_request<K: Sink, F: Store>(
     alloc: Global,
+    runner: &Runner,
+    session: &mut Session,
+    store: &mut F,
+    number: u64,
+    first: u64,
+    request: Request,
+    sink: &mut K,
+) -> Result<bool, TellError>
+    requires { IsOfFile (request_of request) }
+    ensures said { (document w : List ℕ) → ReadsAs document (request_of request)
+        → K.written sink.old ≡ Some w
+        → DocumentEnds (words_of runner.now) (F.files store.old) number document
+        (session_of session.old) (session_of session.new) w (K.written sink.new) result }
+    ensures same { F.files store.new ≡ F.files store.old }
+    ensures write { Counted is_tell_write (K.faults sink.old) (K.faults sink.new) result }
+    ensures file { Counted is_tell_file (F.faults store.old) (F.faults store.new) result }
+{
+    match trouble_of(alloc, runner, session, store, request)? {
+        None => Ok(false),
+        Some(what) => whether_said(say_trouble(alloc, number, first, &what, sink)),
+    }
+}
+
+/// Says of the document with this number, whose first line is this one of the stream, why it is no request, where the run's own
+/// reader refuses it, and else why it would not pass, where it would not. Whether it was said. No file is touched.
+pub(crate) fn tell_document<K: Sink, F: Store>(
+    alloc: Global,
+    runner: &Runner,
+    session: &mut Session,
+    store: &mut F,
     number: u64,
     first: u64,
     document: &[u8],
     sink: &mut K,
-) -> Result<bool, SayError>
+) -> Result<bool, TellError>
     ensures said { (w : List ℕ) → K.written sink.old ≡ Some w
-        → DocumentEnds number document.now w (K.written sink.new) result }
-    ensures cause { Counted is_write_fault (K.faults sink.old) (K.faults sink.new) result }
+        → DocumentEnds (words_of runner.now) (F.files store.old) number document.now
+        (session_of session.old) (session_of session.new) w (K.written sink.new) result }
+    ensures same { F.files store.new ≡ F.files store.old }
+    ensures write { Counted is_tell_write (K.faults sink.old) (K.faults sink.new) result }
+    ensures file { Counted is_tell_file (F.faults store.old) (F.faults store.new) result }
 {
-    match refused(alloc, document)? {
-        None => Ok(false),
-        Some(why) => say_refusal(alloc, number, first, document, &why, sink),
+    match read(alloc, document)? {
+        Ok(request) => { tell_request(alloc, runner, session, store, number, first, request, sink) }
+        Err(why) => whether_said(say_refusal(alloc, number, first, document, &why, sink)),
     }
 }

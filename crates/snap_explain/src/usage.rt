@@ -13,15 +13,17 @@ pub const VERSION: &str = "snap-explain 0.1.0\n";
 
 /// The answer to `--help`.
 pub const USAGE: &str = "\
-Says why input is refused. Nothing is changed.
+Says why input is refused, or would not pass. Nothing is changed.
 
-Usage: snap-explain stream WORKSPACE < REQUESTS
+Usage: snap-explain stream WORKSPACE [--literal] < REQUESTS
        snap-explain mask [RULE...] < LINES
        snap-explain front COMMAND... < PAGE
        snap-explain --help | --version
 
 stream says of each document of REQUESTS that is no request for snap run why
-that is so. No file is read, so any WORKSPACE serves.
+that is so, and of each request that would not pass in a run below WORKSPACE
+why that is so: what is wrong with the file of its snapshot, or that it would
+end the run. Files are read, and none is changed. --literal is that of snap run.
 
 mask says of each line of LINES that snap-mask refuses by these rules why that
 is so. The rules are those of snap-mask --help.
@@ -31,6 +33,8 @@ The commands are those of snap-front --help. The page is not written.
 
 Each finding is a line, as
   document 3, line 41, column 1: an unknown key, exprs; the nearest is expr
+  document 4, line 52: no snapshot is there: ./snapshots/parser__sum.snap
+  document 5, line 60: the snapshot differs: ./snapshots/a.snap in line 2 of its body
   line 12: a number with a fraction at .price
   line 14, column 7: while parsing a quoted scalar, found unknown escape character
   snap-front: a header is a map, line 2, column 1, and a list stands there
@@ -39,9 +43,10 @@ the whole input, columns in characters. A line of LINES of more than 1,048,576
 bytes is the last that is read.
 
 Exit status:
-  0   nothing is refused
-  1   something is, and each finding is written
+  0   nothing is refused, and all would pass
+  1   something is said
   2   wrong words, or a selector of a rule that cannot be read
+  5   a file could not be read
   6   the input could not be read
   7   the findings could not be written
   8   out of memory

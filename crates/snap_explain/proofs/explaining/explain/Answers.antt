@@ -1,6 +1,6 @@
-use Rattle.snap_explain.proofs.Prelude.{◌≡◌, ◌∙◌, sym, subst, true, false, None, Some, some_same}
+use Rattle.snap_explain.proofs.Prelude.{◌≡◌, ◌∙◌, sym, subst, refl, None, Some, some_same}
 use Rattle.snap_explain.specs.Pages.{FrontRun}
-use Rattle.snap_explain.proofs.Asking.{front_no_stream, front_no_rules, front_no_text, cause_front}
+use Rattle.snap_explain.proofs.Asking.{front_no_stream, front_no_rules, front_no_text, cause_front, one_asked}
 use Rattle.snap_explain.proofs.explaining.explain.Goals as goal
 
 pub returns-in-Some-clause-words : goal.returns-in-Some-clause-words
@@ -22,13 +22,16 @@ returns-in-Some-clause-front g c = λ rest is.
     (some_same c.in-Some.rest.now rest (sym c.in-Some.ensures ∙ is)) c.explain_front.ensures.run
 
 pub returns-in-Some-clause-stream : goal.returns-in-Some-clause-stream
-returns-in-Some-clause-stream g c = λ asks. let clash : false ≡ true = sym (front_no_stream c.args.words.now _ c.in-Some.ensures) ∙ asks in cc
+returns-in-Some-clause-stream g c = λ said asks. absurd (one_asked c.args.words.now said asks (front_no_stream c.args.words.now _ c.in-Some.ensures))
 
 pub returns-in-Some-clause-leaves : goal.returns-in-Some-clause-leaves
 returns-in-Some-clause-leaves g c = λ rules none spelled. absurd (front_no_rules c.args.words.now _ rules c.in-Some.ensures spelled)
 
 pub returns-in-Some-clause-length : goal.returns-in-Some-clause-length
 returns-in-Some-clause-length g c = λ asks none. let clash : None ≡ Some c.in-Some.rest.now = sym none ∙ c.in-Some.ensures in cc
+
+pub returns-in-Some-clause-file : goal.returns-in-Some-clause-file
+returns-in-Some-clause-file g c = rw c.explain_front.ensures.file refl
 
 pub returns-in-None-clause-words : goal.returns-in-None-clause-words
 returns-in-None-clause-words g c = c.explain_others.ensures.words c.in-None.ensures

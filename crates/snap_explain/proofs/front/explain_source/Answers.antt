@@ -1,6 +1,6 @@
 use Rattle.snap_explain.proofs.Prelude.{◌∙◌, subst}
 use Rattle.snap_explain.specs.Pages.{PageLeaves}
-use Rattle.snap_explain.proofs.Pages.{never_bad, page_length, page_reads}
+use Rattle.snap_explain.proofs.Pages.{never_bad, page_length, page_files, page_reads}
 use Rattle.snap_explain.proofs.front.explain_source.Goals as goal
 
 pub returns-in-Ok-clause-words : goal.returns-in-Ok-clause-words
@@ -16,3 +16,6 @@ returns-in-Ok-clause-length g c = page_length _ c.in-Ok.document.items _ _ c.in-
 
 pub returns-in-Ok-clause-read : goal.returns-in-Ok-clause-read
 returns-in-Ok-clause-read g c = page_reads _ _ _ c.in-Ok.ensures.cause c.explain_page.ensures.found
+
+pub returns-in-Ok-clause-file : goal.returns-in-Ok-clause-file
+returns-in-Ok-clause-file g c = page_files c.explain_page.result c.explain_page.ensures.found

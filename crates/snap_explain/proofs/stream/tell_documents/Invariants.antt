@@ -1,12 +1,16 @@
 use Rattle.snap_explain.proofs.Prelude.{◌≡◌, ◌+◌, ◌≤◌, ℕ, List, Some, length}
+use Rattle.snap_assert.specs.Session.{session_of}
+use Rattle.snap_run.specs.Runner.{words_of}
 use Rattle.snap_explain.proofs.Documents.{ToldSoFar}
 use Rattle.snap_explain.proofs.stream.tell_documents.Given as goal
 
 abbrev pub invariant-loop-rest : goal.invariant-loop-rest
 invariant-loop-rest g l = record {
-  so_far : (w : List ℕ) → g.K.Sink.written l.fn.sink ≡ Some w → ToldSoFar l.input w l.rest (g.K.Sink.written l.sink) l.number l.found;
+  so_far : (w : List ℕ) → g.K.Sink.written l.fn.sink ≡ Some w → ToldSoFar (words_of l.runner) (g.F.Store.files l.fn.store) l.input w l.rest (g.K.Sink.written l.sink) l.number (session_of l.session) l.found;
   few : l.number + length l.rest ≤ length l.input;
   sink_count : g.K.Sink.faults l.sink ≡ g.K.Sink.faults l.fn.sink;
+  store_count : g.F.Store.faults l.store ≡ g.F.Store.faults l.fn.store;
+  files : g.F.Store.files l.store ≡ g.F.Store.files l.fn.store;
 }
 
 abbrev pub decreases-loop-rest : goal.decreases-loop-rest

@@ -1,8 +1,20 @@
-use Rattle.snap_explain.proofs.Documents.{nothing_said_of}
+use Rattle.snap_explain.proofs.Documents.{refusal_said, said_writes, said_files}
+use Rattle.snap_explain.proofs.Foretold.{of_file}
+use Rattle.snap_explain.proofs.Prelude.{refl}
 use Rattle.snap_explain.proofs.telling.tell_document.Goals as goal
 
-pub returns-in-None-clause-said : goal.returns-in-None-clause-said
-returns-in-None-clause-said g c = λ w e. nothing_said_of _ _ w _ (rw c.in-None.is at c.in_ok-refused.ensures) e
+pub tell_request-requires : goal.tell_request-requires
+tell_request-requires g c = of_file c.args.document.now _ (rw c.in-Ok.is at c.in_ok-request.ensures)
 
-pub returns-in-Some-clause-said : goal.returns-in-Some-clause-said
-returns-in-Some-clause-said g c = λ w e. c.say_refusal.ensures.said w e (rw c.in-Some.is at c.in_ok-refused.ensures)
+pub returns-in-Ok-clause-said : goal.returns-in-Ok-clause-said
+returns-in-Ok-clause-said g c = λ w e. c.tell_request.ensures.said c.args.document.now w (rw c.in-Ok.is at c.in_ok-request.ensures) e
+
+pub returns-in-Err-clause-said : goal.returns-in-Err-clause-said
+returns-in-Err-clause-said g c = λ w e.
+    rw c.whether_said.ensures (refusal_said c.say_refusal.result _ _ _ _ _ w _ (c.say_refusal.ensures.said w e (rw c.in-Err.is at c.in_ok-request.ensures)))
+
+pub returns-in-Err-clause-write : goal.returns-in-Err-clause-write
+returns-in-Err-clause-write g c = rw c.whether_said.ensures (said_writes c.say_refusal.result _ _ c.say_refusal.ensures.cause)
+
+pub returns-in-Err-clause-file : goal.returns-in-Err-clause-file
+returns-in-Err-clause-file g c = rw c.whether_said.ensures (said_files c.say_refusal.result _ _ refl)

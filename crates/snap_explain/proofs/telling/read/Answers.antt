@@ -1,5 +1,5 @@
 use Rattle.snap_explain.proofs.Prelude.{◌∙◌, ap, Err}
-use Rattle.snap_explain.proofs.telling.refused.Goals as goal
+use Rattle.snap_explain.proofs.telling.read.Goals as goal
 
 pub returns-in-Err-NoRequest : goal.returns-in-Err-NoRequest
 returns-in-Err-NoRequest c = record {

@@ -1,0 +1,183 @@
+-- Why a request would not pass, or would end a run.
+use Rattle.std.specs.Prelude.{◌≡◌, ℕ, Bool, true, false, List, ◌++◌, codes, decimal, encode_utf8_all, Option, None, Some, Result, Ok, Err}
+use Rattle.std.specs.FinMap.{get}
+use Rattle.snap_io.specs.Files.{Files}
+use Rattle.snap_io.specs.Outside.{Given}
+use Rattle.snap_print.specs.Spell.{spell_text}
+use Rattle.snap_store.specs.Reading.{IsNoText, HasUnspelledHeader, HasOtherHeader, LacksExtension, IsReadAs}
+use Rattle.snap_store.specs.Views.{contents_in, text_in}
+use Rattle.snap_store.specs.declared.snapshot.Snapshot.{Snapshot}
+use Rattle.snap_content.specs.declared.error.Error.{Error}
+use Rattle.snap_content.specs.declared.error.Error.TheVariants as file
+use Rattle.snap_store.specs.declared.contents.SnapshotContents.{SnapshotContents}
+use Rattle.snap_assert_place.specs.Place.{names_file}
+use Rattle.snap_assert.specs.Courses.{Course, Refused, course_of}
+use Rattle.snap_assert.specs.Default.{default_relation}
+use Rattle.snap_assert.specs.Prepared.{IsJudged}
+use Rattle.snap_assert.specs.Session.{SessionView, is_open, opened, closed}
+use Rattle.snap_assert.specs.Steps.{Asked}
+use Rattle.snap_assert.specs.declared.error.AssertError.{AssertError}
+use Rattle.snap_assert.specs.declared.error.AssertError.TheVariants as refusal
+use Rattle.snap_assert.specs.declared.judge.Judged.{Judged}
+use Rattle.snap_run.specs.Answers.{RunWords, assertion_by, asked_by}
+use Rattle.snap_run.specs.Refused.{kind_of}
+use Rattle.snap_run.specs.declared.status.RefusalKind.{RefusalKind}
+use Rattle.snap_run.specs.declared.status.RefusalKind.TheVariants.{NameClash, DoctestNeedsName, DuplicateDiffers, NamesExhausted}
+use Rattle.snap_run_requests.specs.Requests.{AssertionView, RequestView, asserts, begins, ends}
+use Rattle.snap_explain.specs.Refusals.{place_text}
+use Rattle.snap_explain.specs.declared.position.Place.{Place}
+use Rattle.snap_explain.specs.declared.trouble.Cause.{Cause}
+use Rattle.snap_explain.specs.declared.trouble.Cause.TheVariants as cause
+use Rattle.snap_explain.specs.declared.trouble.Trouble.{Trouble}
+use Rattle.snap_explain.specs.declared.trouble.Trouble.TheVariants as trouble
+use Rattle.snap_explain.specs.declared.telling.TellError.{TellError}
+use Rattle.snap_explain.specs.declared.telling.TellError.TheVariants as tell
+
+-- what is wrong with a file
+abbrev pub cause_text : Cause → List ℕ
+cause_text cause.Absent = codes "no snapshot is there"
+cause_text cause.NotUtf8 = codes "the snapshot is not UTF-8"
+cause_text cause.NoHeader = codes "the header of the snapshot is no YAML"
+cause_text cause.NoMap = codes "the header of the snapshot is no map"
+cause_text cause.NoExtension = codes "the header of the snapshot says binary, without an extension"
+cause_text cause.Binary = codes "the header of the snapshot says binary"
+cause_text cause.Differs = codes "the snapshot differs"
+
+-- why what is remembered refuses a request
+abbrev pub kind_text : RefusalKind → List ℕ
+kind_text NameClash = codes "another function, with or without test_, has the same name"
+kind_text DoctestNeedsName = codes "a doctest without a name"
+kind_text DuplicateDiffers = codes "the open block of duplicates has another value under this name"
+kind_text NamesExhausted = codes "no number is left for this name"
+
+-- why a request would not pass: of a file its path, as a scalar is spelled, and what helps
+abbrev pub trouble_text : Trouble → List ℕ
+trouble_text trouble.StrayEnd = codes "no block of duplicates is open"
+trouble_text (trouble.Refused kind) = kind_text kind
+trouble_text (trouble.Unpassed what path detail) = cause_text what ++ codes ": " ++ encode_utf8_all path ++ encode_utf8_all detail
+
+-- what is said of the document with this number, as a line
+abbrev pub trouble_line : ℕ → Place → Trouble → List ℕ
+trouble_line number place what = codes "document " ++ decimal number ++ codes ", " ++ place_text place ++ codes ": " ++ trouble_text what ++ codes "\n"
+
+-- such a line, with some place
+abbrev pub IsTroubleLine : ℕ → Trouble → List ℕ → Type 0
+IsTroubleLine number what said = (place : Place) × (said ≡ trouble_line number place what)
+
+-- the file is read as a snapshot whose contents are no text
+pub record IsBinaryFile (file : Option (List ℕ)) : Type 0 where
+  pub snapshot : Snapshot
+  pub read : IsReadAs file snapshot
+  pub payload : text_in (contents_in snapshot) ≡ None
+
+-- the file is read as a snapshot whose contents are a text
+pub record IsTextSnapshot (file : Option (List ℕ)) : Type 0 where
+  pub snapshot : Snapshot
+  pub read : IsReadAs file snapshot
+  pub text : List ℕ
+  pub text_is : text_in (contents_in snapshot) ≡ Some text
+
+-- the cause holds of the file: it is read so, or refused so
+abbrev pub IsCauseOf : Option (List ℕ) → Cause → Type 0
+IsCauseOf file cause.Absent = file ≡ None
+IsCauseOf file cause.NotUtf8 = IsNoText file
+IsCauseOf file cause.NoHeader = HasUnspelledHeader file
+IsCauseOf file cause.NoMap = HasOtherHeader file
+IsCauseOf file cause.NoExtension = LacksExtension file
+IsCauseOf file cause.Binary = IsBinaryFile file
+IsCauseOf file cause.Differs = IsTextSnapshot file
+
+-- the engine's own comparison, fully where that is asked, comes to a pass, or to none
+pub record ComesTo (fully : Bool) (asked : Asked) (passed : Bool) (m : Files) : Type 0 where
+  pub judged : Judged
+  pub compared : IsJudged (default_relation fully) asked m judged
+  pub so : judged.passed ≡ passed
+
+-- what is asked of the files would pass
+abbrev pub Passes : Bool → Asked → Option Files → Type 0
+Passes fully asked files = Given files (λ m. ComesTo fully asked true m)
+
+-- a cause of contents: a payload, or a text
+abbrev pub IsContentCause : SnapshotContents → Cause → Type 0
+IsContentCause contents cause.Binary = text_in contents ≡ None
+IsContentCause contents cause.Differs = (text : List ℕ) × (text_in contents ≡ Some text)
+IsContentCause contents _ = ⊥
+
+-- what is refused in a file, or that it couldn't be read; no snapshot is refused for the last two errors
+abbrev pub unread : Error → Result Cause TellError
+unread (file.NoFile path) = Ok cause.Absent
+unread (file.NotText path) = Ok cause.NotUtf8
+unread (file.FailedParsingYaml path) = Ok cause.NoHeader
+unread file.UnexpectedDataType = Ok cause.NoMap
+unread file.MissingField = Ok cause.NoExtension
+unread (file.FileIo path) = Err tell.FileFault
+unread file.OutOfMemory = Err tell.OutOfMemory
+unread (file.FloatText path) = Err tell.OutOfMemory
+unread file.JsonKey = Err tell.OutOfMemory
+
+-- the cause holds of the file at the path, which is told as a scalar is spelled
+pub record IsUnpassedBy (path : List ℕ) (files : Option Files) (what : Trouble) : Type 0 where
+  pub cause : Cause
+  pub spelled : List ℕ
+  pub detail : List ℕ
+  pub is : what ≡ trouble.Unpassed cause spelled detail
+  pub path_is : spelled ≡ spell_text path
+  pub holds : Given files (λ m. IsCauseOf (get m path) cause)
+
+-- what is asked of the files would not pass, and a cause of that is told
+pub record IsUnpassed (fully : Bool) (asked : Asked) (files : Option Files) (what : Trouble) : Type 0 where
+  pub fails : Given files (λ m. ComesTo fully asked false m)
+  pub why : IsUnpassedBy asked.path files what
+
+-- an assertion is made in a file
+abbrev pub IsOfFile : RequestView → Type 0
+IsOfFile (asserts a) = names_file a.file ≡ true
+IsOfFile begins = Unit {0}
+IsOfFile ends = Unit {0}
+
+-- the assertion goes on under the name of its course, and what is asked of the files then is this
+pub record GoesOn (words : RunWords) (a : AssertionView) (session session' : SessionView) (asks : Asked → Type 0) : Type 0 where
+  pub course : Course
+  pub course_is : course_of (assertion_by words a) session ≡ Ok course
+  pub remembered : session' ≡ course.session
+  pub is : asks (asked_by words a course.name)
+
+-- what is remembered refuses the assertion, with this kind
+pub record IsRefusedFor (words : RunWords) (a : AssertionView) (session session' : SessionView) (kind : RefusalKind) : Type 0 where
+  pub refused : Refused
+  pub course_is : course_of (assertion_by words a) session ≡ Err refused
+  pub kind_is : kind_of refused.error ≡ Some kind
+  pub remembered : session' ≡ refused.session
+
+-- a request would pass, or begins or ends a block
+pub data IsClear (words : RunWords) (files : Option Files) (session session' : SessionView) : RequestView → Type 0 where
+  passes : (r : RequestView) (a : AssertionView) → r ≡ asserts a → GoesOn words a session session' (λ asked. Passes words.full asked files) → IsClear words files session session' r
+  begin : (r : RequestView) → r ≡ begins → session' ≡ opened session → IsClear words files session session' r
+  end : (r : RequestView) → r ≡ ends → is_open session ≡ true → session' ≡ closed session → IsClear words files session session' r
+
+-- why a request would not pass, or would end a run
+pub data HasTrouble (words : RunWords) (files : Option Files) (session session' : SessionView) : RequestView → Trouble → Type 0 where
+  stray : (r : RequestView) (what : Trouble) → r ≡ ends → what ≡ trouble.StrayEnd → is_open session ≡ false → session' ≡ session → HasTrouble words files session session' r what
+  refused : (r : RequestView) (a : AssertionView) (what : Trouble) (kind : RefusalKind) → r ≡ asserts a → what ≡ trouble.Refused kind → IsRefusedFor words a session session' kind
+      → HasTrouble words files session session' r what
+  unpassed : (r : RequestView) (a : AssertionView) (what : Trouble) → r ≡ asserts a → GoesOn words a session session' (λ asked. IsUnpassed words.full asked files what) → HasTrouble words files session session' r what
+
+-- why an assertion that comes to no answer is in trouble: a fault and want of memory end the work, and the errors of literals and of payloads
+-- don't come of a tree
+abbrev pub unforeseen : AssertError → Result (Option Trouble) TellError
+unforeseen (refusal.FileIo path) = Err tell.FileFault
+unforeseen refusal.NameClash = Ok (Some (trouble.Refused NameClash))
+unforeseen refusal.DoctestNeedsName = Ok (Some (trouble.Refused DoctestNeedsName))
+unforeseen (refusal.DuplicateDiffers key kept new) = Ok (Some (trouble.Refused DuplicateDiffers))
+unforeseen refusal.NamesExhausted = Ok (Some (trouble.Refused NamesExhausted))
+unforeseen _ = Err tell.OutOfMemory
+
+-- an error that tells that the sink failed
+abbrev pub is_tell_write : TellError → Bool
+is_tell_write tell.WriteFault = true
+is_tell_write _ = false
+
+-- an error that tells that the store failed
+abbrev pub is_tell_file : TellError → Bool
+is_tell_file tell.FileFault = true
+is_tell_file _ = false

@@ -1,0 +1,141 @@
+//! What would become of a request: nothing is to be said where it would pass, and else why it would not.
+ghost use Rattle.std.specs.Prelude.{◌≡◌, Bool, IfOk, IfErr, MatchOption, None, true, false};
+ghost use Rattle.snap_io.specs.Causes.{Counted};
+ghost use Rattle.snap_assert.specs.Previews.{IsForeseen};
+ghost use Rattle.snap_assert.specs.Session.{session_of, opened, closed, is_open};
+ghost use Rattle.snap_assert.specs.Steps.{Asked};
+ghost use Rattle.snap_assert_place.specs.Place.{names_file};
+ghost use Rattle.snap_run.specs.Runner.{words_of};
+ghost use Rattle.snap_run_requests.specs.RequestOf.{assertion_of, request_of};
+ghost use Rattle.snap_run_requests.specs.Requests.{asserts};
+ghost use Rattle.snap_explain.specs.Troubles.{IsOfFile, Passes, IsUnpassed, IsClear, HasTrouble, unforeseen, is_tell_file, is_tell_write};
+
+use crate::misfit::unpassed;
+use crate::telling::TellError;
+use crate::trouble::Trouble;
+use snap_assert::error::AssertError;
+use snap_assert::preview::Preview;
+use snap_assert::session::Session;
+use snap_io::Store;
+use snap_run::{RefusalKind, Runner, preview_assertion};
+use snap_run_requests::request::{Assertion, Request};
+use std::alloc::Global;
+
+/// What is said of an assertion that comes to no answer.
+fn unforeseen(error: AssertError) -> Result<Option<Trouble>, TellError>
+    ensures is { result ≡ unforeseen error }
+    ensures unsaid { IfErr result (λ error. is_tell_write error ≡ false) }
+{
+    match error {
+        AssertError::FileIo(_) => Err(TellError::FileFault),
+        AssertError::NameClash => Ok(Some(Trouble::Refused(RefusalKind::NameClash))),
+        AssertError::DoctestNeedsName => Ok(Some(Trouble::Refused(RefusalKind::DoctestNeedsName))),
+        AssertError::DuplicateDiffers { .. } => {
+            Ok(Some(Trouble::Refused(RefusalKind::DuplicateDiffers)))
+        }
+        AssertError::NamesExhausted => Ok(Some(Trouble::Refused(RefusalKind::NamesExhausted))),
+        _ => Err(TellError::OutOfMemory),
+    }
+}
+
+/// Why what is foreseen is no pass, where it is none.
+fn trouble_in<F: Store>(
+    alloc: Global,
+    store: &mut F,
+    preview: &Preview,
+) -> Result<Option<Trouble>, TellError>
+    ensures found { IfOk result (λ found. (fully : Bool) (asked : Asked)
+        → IsForeseen fully asked preview.now (F.files store.old)
+        → MatchOption found (Passes fully asked (F.files store.old))
+        (λ what. IsUnpassed fully asked (F.files store.old) what)) }
+    ensures unsaid { IfErr result (λ error. is_tell_write error ≡ false) }
+    ensures same { F.files store.new ≡ F.files store.old }
+    ensures cause { Counted is_tell_file (F.faults store.old) (F.faults store.new) result }
+{
+    if preview.judged.passed {
+        return Ok(None);
+    }
+    let what = unpassed(alloc, store, &preview.path, &preview.snapshot)?;
+    Ok(Some(what))
+}
+
+/// Why an assertion would not pass, where it would not.
+fn trouble_of_assertion<F: Store>(
+    alloc: Global,
+    runner: &Runner,
+    session: &mut Session,
+    store: &mut F,
+    assertion: Assertion,
+) -> Result<Option<Trouble>, TellError>
+    requires { names_file assertion.file ≡ true }
+    ensures found { IfOk result (λ found. MatchOption found
+        (IsClear (words_of runner.now) (F.files store.old) (session_of session.old)
+        (session_of session.new) (asserts (assertion_of assertion)))
+        (λ what. HasTrouble (words_of runner.now) (F.files store.old) (session_of session.old)
+        (session_of session.new) (asserts (assertion_of assertion)) what)) }
+    ensures unsaid { IfErr result (λ error. is_tell_write error ≡ false) }
+    ensures same { F.files store.new ≡ F.files store.old }
+    ensures cause { Counted is_tell_file (F.faults store.old) (F.faults store.new) result }
+{
+    match preview_assertion(alloc, runner, session, assertion, store) {
+        Ok(preview) => {
+            let found = trouble_in(alloc, store, &preview);
+            drop(preview);
+            found
+        }
+        Err(error) => unforeseen(error),
+    }
+}
+
+/// Opens a block, of which nothing is to be said.
+fn begin_block(session: &mut Session) -> Result<Option<Trouble>, TellError>
+    ensures ok { IfOk result (λ found. (found ≡ None)
+        × (session_of session.new ≡ opened (session_of session.old))) }
+    ensures err { IfErr result (λ error. error ≡ TellError.OutOfMemory) }
+{
+    session.begin_duplicates()?;
+    Ok(None)
+}
+
+/// Closes a block, where one is open.
+fn end_block(session: &mut Session) -> Option<Trouble>
+    ensures { MatchOption result
+        ((is_open (session_of session.old) ≡ true)
+        × (session_of session.new ≡ closed (session_of session.old)))
+        (λ what. (what ≡ Trouble.StrayEnd) × ((is_open (session_of session.old) ≡ false)
+        × (session_of session.new ≡ session_of session.old))) }
+{
+    if session.end_duplicates() {
+        None
+    } else {
+        Some(Trouble::StrayEnd)
+    }
+}
+
+/// Why a request would not pass or would end a run, where one of both is so. What the run would remember then is remembered. No file is
+/// touched.
+pub(crate) fn trouble_of<F: Store>(
+    alloc: Global,
+    runner: &Runner,
+    session: &mut Session,
+    store: &mut F,
+    request: Request,
+) -> Result<Option<Trouble>, TellError>
+    requires { IsOfFile (request_of request) }
+    ensures found { IfOk result (λ found. MatchOption found
+        (IsClear (words_of runner.now) (F.files store.old) (session_of session.old)
+        (session_of session.new) (request_of request))
+        (λ what. HasTrouble (words_of runner.now) (F.files store.old) (session_of session.old)
+        (session_of session.new) (request_of request) what)) }
+    ensures unsaid { IfErr result (λ error. is_tell_write error ≡ false) }
+    ensures same { F.files store.new ≡ F.files store.old }
+    ensures cause { Counted is_tell_file (F.faults store.old) (F.faults store.new) result }
+{
+    match request {
+        Request::Assertion(assertion) => {
+            trouble_of_assertion(alloc, runner, session, store, assertion)
+        }
+        Request::Begin => begin_block(session),
+        Request::End => Ok(end_block(session)),
+    }
+}
