@@ -33,8 +33,8 @@ The commands are those of snap-front --help. The page is not written.
 
 Each finding is a line, as
   document 3, line 41, column 1: an unknown key, exprs; the nearest is expr
-  document 4, line 52: no snapshot is there: ./snapshots/parser__sum.snap
-  document 5, line 60: the snapshot differs: ./snapshots/a.snap in line 2 of its body
+  document 4, line 52: no snapshot is there: snapshots/parser__sum.snap
+  document 5, line 60: the snapshot differs: snapshots/a.snap in line 2 of its body
   line 12: a number with a fraction at .price
   line 14, column 7: while parsing a quoted scalar, found unknown escape character
   snap-front: a header is a map, line 2, column 1, and a list stands there
