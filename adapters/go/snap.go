@@ -231,7 +231,7 @@ func runProgram(mode, workspace, document string) (string, error) {
 
 // reasons is what snap-explain says of the document, each on a line of its own; "" where it isn't beside the program.
 func reasons(program, workspace, document string) string {
-	command := exec.Command(filepath.Join(filepath.Dir(program), "snap-explain"), "stream", ".")
+	command := exec.Command(filepath.Join(filepath.Dir(program), "snap-explain"), "stream", ".", "--literal")
 	command.Dir = workspace
 	command.Stdin = strings.NewReader(document)
 	command.Env = append(os.Environ(), "SNAP_AS_BUILT=1")

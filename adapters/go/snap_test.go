@@ -273,7 +273,7 @@ func TestARefusalHasTheWordsOfTheProgramBeside(t *testing.T) {
 	// In its place stands a script, which is handed the same stream and tells of each document.
 	for name, text := range map[string]string{
 		"snap":         "exec '" + program + "' \"$@\"",
-		"snap-explain": "[ \"$*\" = 'stream .' ] && awk '/^---/ { print \"document \" ++n \", line 2: why\" }'; exit 1",
+		"snap-explain": "[ \"$*\" = 'stream . --literal' ] && awk '/^---/ { print \"document \" ++n \", line 2: why\" }'; exit 1",
 	} {
 		if err := os.WriteFile(filepath.Join(beside, name), []byte("#!/bin/sh\n"+text+"\n"), 0o700); err != nil {
 			t.Fatal(err)

@@ -215,7 +215,7 @@ function runProgram(mode, workspace, documents) {
 function reasonsOf(place, workspace, documents) {
   const explain = path.join(path.dirname(foundProgram()), 'snap-explain');
   const env = { ...process.env, SNAP_AS_BUILT: '1' };
-  const run = spawnSync(explain, ['stream', '.'], { cwd: workspace, input: documents.join(''), encoding: 'utf8', maxBuffer: Infinity, env });
+  const run = spawnSync(explain, ['stream', '.', '--literal'], { cwd: workspace, input: documents.join(''), encoding: 'utf8', maxBuffer: Infinity, env });
   const told = (run.stdout ?? '').split('\n').filter((line) => line.startsWith(`document ${place + 1}, `));
   return told.map((line) => `\n${line}`).join('');
 }

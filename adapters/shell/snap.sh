@@ -83,7 +83,7 @@ snap_quote() {
 # snap_reasons FOLDER prints what snap-explain says of the request on standard input, where it is beside the program.
 snap_reasons() {
   found=$(command -v -- "${SNAP:-snap}") || return 0
-  SNAP_AS_BUILT=1 "$(dirname -- "$found")/snap-explain" stream "$1" 2>/dev/null || true
+  SNAP_AS_BUILT=1 "$(dirname -- "$found")/snap-explain" stream "$1" --literal 2>/dev/null || true
 }
 
 # snap_explain SCRATCH FOLDER prints a diff of the stored body, in FOLDER, and the new one, by a run in SCRATCH.

@@ -130,7 +130,7 @@ END
 +text: y" "$words"
   # What a refusal says has the words of the program beside; scripts stand in the place of both.
   printf '#!/bin/sh\necho "snap: document 1 is no request" >&2\nexit 3\n' >"$top/snap"
-  printf '#!/bin/sh\n[ "$*" = "stream t" ] && sed -n "s/^---$/document 1, line 2: why/p"\nexit 1\n' >"$top/snap-explain"
+  printf '#!/bin/sh\n[ "$*" = "stream t --literal" ] && sed -n "s/^---$/document 1, line 2: why/p"\nexit 1\n' >"$top/snap-explain"
   chmod +x "$top/snap" "$top/snap-explain"
   SNAP=$top/snap run 'x' 'why'
   expect "$shell: a refusal" "3 snapshot why: t/report.sh:$line: snap: document 1 is no request

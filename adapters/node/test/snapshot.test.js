@@ -127,7 +127,7 @@ test('a refusal has the words of the program beside', (t) => {
     chmodSync(path.join(shop.folder, name), 0o755);
   };
   script('snap', `exec '${program}' "$@"`);
-  script('snap-explain', `[ "$*" = 'stream .' ] && awk '/^---/ { print "document " ++n ", line 2: why" }'; exit 1`);
+  script('snap-explain', `[ "$*" = 'stream . --literal' ] && awk '/^---/ { print "document " ++n ", line 2: why" }'; exit 1`);
   const { status, out } = shop.run({ SNAP: path.join(shop.folder, 'snap'), SNAP_UPDATE: '1' });
   assert.strictEqual(status, 1);
   assert.match(out, /snap: document 2 is no request\n *document 2, line 2: why\n/);

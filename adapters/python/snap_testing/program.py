@@ -44,14 +44,14 @@ def judge(requests: Sequence[Request], mode: str, workspace: str, literal: bool)
             raise ProgramError(f"{ran.args[0]} ended with {ended}: {said}")
         answers += verdicts
         if is_stopped:
-            told = [said, *reasons(rest, len(verdicts), ran.args[0], workspace)]
+            told = [said, *reasons(rest, len(verdicts), ran.args[0], [workspace, *flags_of(literal)])]
             answers.append(ProgramError(f"{described(rest[len(verdicts)])} was not judged, {ended}: " + "\n".join(told)))
     return answers
 
 
 def run(requests: Sequence[Request], mode: str, workspace: str, literal: bool) -> "subprocess.CompletedProcess[bytes]":
     program = os.environ.get("SNAP") or "snap"
-    words = [program, "run", mode, workspace, *(["--literal"] if literal else [])]
+    words = [program, "run", mode, workspace, *flags_of(literal)]
     # Python's own files are not inherited anyway, and without the closing of others a process starts sooner.
     pipes = {"stdin": subprocess.PIPE, "stdout": subprocess.PIPE, "stderr": subprocess.PIPE, "close_fds": False}
     try:
@@ -64,11 +64,16 @@ def run(requests: Sequence[Request], mode: str, workspace: str, literal: bool) -
         ) from None
 
 
-def reasons(requests: Sequence[Request], place: int, program: str, workspace: str) -> list[str]:
+def flags_of(literal: bool) -> list[str]:
+    """The flags of a run, where texts of several lines are literal blocks or not."""
+    return ["--literal"] if literal else []
+
+
+def reasons(requests: Sequence[Request], place: int, program: str, asked: Sequence[str]) -> list[str]:
     """What `snap-explain` says of the request at this place, where it is beside the program: why it is refused, in a line each."""
     import shutil  # Only a failure waits for it.
 
-    words = [os.path.join(os.path.dirname(shutil.which(program) or ""), "snap-explain"), "stream", workspace]
+    words = [os.path.join(os.path.dirname(shutil.which(program) or ""), "snap-explain"), "stream", *asked]
     stream = "".join(map(document, requests)).encode()
     try:
         said = subprocess.run(words, input=stream, capture_output=True, env={**os.environ, "SNAP_AS_BUILT": "1"}).stdout

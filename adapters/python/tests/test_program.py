@@ -74,7 +74,7 @@ class Batches(unittest.TestCase):
         with self.program(f'exec "{shutil.which(os.environ.get("SNAP") or "snap")}" "$@"'):
             answers = self.judge(request("a"), bad, request("b"))
         self.assertTrue(str(answers[1]).endswith("status 3: snap: document 2 is no request\ndocument 2, line 2: why"), answers[1])
-        self.assertEqual((self.root / "words").read_text(), f"stream {self.root}\n")
+        self.assertEqual((self.root / "words").read_text(), f"stream {self.root} --literal\n")
         self.assertEqual(answers[2], Verdict("updated", self.path("b")))
 
     def test_a_file_fault(self) -> None:
