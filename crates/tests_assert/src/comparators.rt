@@ -13,8 +13,6 @@ use std::test::Fail;
 struct Lenient;
 
 impl Comparator for Lenient {
-    ghost use Rattle.std.specs.Prelude.{Unit, ⊥};
-
     ghost agrees = { λ _ _ _. Unit {0} };
 
     ghost agrees_fully = { λ _ _ _. ⊥ };
