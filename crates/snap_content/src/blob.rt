@@ -31,6 +31,13 @@ impl Blob {
         })
     }
 
+    /// The same bytes, which are not copied.
+    pub fn from_vec(value: Vec<u8>) -> Blob
+        ensures { result ≡ value.items }
+    {
+        Blob { held: Some(value) }
+    }
+
     pub fn as_slice(&self) -> &[u8]
         ensures { result.now ≡ self.now }
     {

@@ -6,3 +6,5 @@ mod LastMark
 mod Folders
 pub mod Unchanged
 mod Parts
+pub mod Standing
+pub mod Leaving

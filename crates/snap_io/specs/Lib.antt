@@ -2,6 +2,7 @@ pub mod Adapters
 pub mod Beside
 pub mod Calls
 pub mod Causes
+pub mod Changes
 pub mod Disks
 pub mod Files
 pub mod Held
@@ -11,6 +12,7 @@ pub mod Listing
 pub mod Operations
 pub mod Outside
 pub mod Schedules
+pub mod StandsAfter
 pub mod Streams
 pub mod Told
 pub mod Writing

@@ -72,7 +72,7 @@ fn read_pieces<R: Files + Alloc + Clone + Drop>(
             return Err(StoreError::Failed);
         };
         if count == 0 {
-            return Ok(Blob::from_slice(alloc, bytes.as_slice())?);
+            return Ok(Blob::from_vec(bytes));
         }
         bytes.extend_from_slice(&buffer[..count])?;
     }
