@@ -1,8 +1,9 @@
 //! What a stored file is taken for.
 use crate::asserted::{Value, config_of, outcome_of, place_in};
 use rows::{add_text_column, first_column, text_of};
+use rows_outside::input_of;
 use snap_assert::{Config, Outcome, Place, Settings, Update, Verdict, Warning};
-use snap_content::{OutOfMemory, Text};
+use snap_content::{Error, OutOfMemory, Text};
 use snap_io::SteadyStore;
 use std::alloc::Global;
 
@@ -18,11 +19,22 @@ fn verdict_name(verdict: Verdict) -> &'static str {
     }
 }
 
+/// Why a file is no snapshot.
+fn refusal_name(error: &Error) -> &'static str {
+    match error {
+        Error::NotText(_) => "Unreadable NotText",
+        Error::FailedParsingYaml(_) => "Unreadable FailedParsingYaml",
+        Error::UnexpectedDataType => "Unreadable UnexpectedDataType",
+        Error::MissingField => "Unreadable MissingField",
+        _ => "Unreadable",
+    }
+}
+
 fn warning_name(warning: &Warning) -> &'static str {
     match warning {
         Warning::LegacyFile => "LegacyFile",
         Warning::NumberAsText => "NumberAsText",
-        Warning::Unreadable(_) => "Unreadable",
+        Warning::Unreadable(error) => refusal_name(error),
         Warning::LegacyContents => "LegacyContents",
         Warning::OpenLiteral => "OpenLiteral",
         Warning::InlineInDoctest => "InlineInDoctest",
@@ -42,9 +54,9 @@ fn outcome_line(alloc: Global, outcome: &Outcome) -> Result<Text, anyhow::Error>
 
 /// A store that holds this file at the path of the snapshot.
 pub(crate) fn store_of(alloc: Global, column: &str) -> Result<SteadyStore, OutOfMemory> {
-    let file = text_of(alloc, column)?;
+    let file = input_of(alloc, column)?;
     let mut store = SteadyStore::new(alloc);
-    store.put(&Text::from_str(alloc, PATH)?, file.as_str().as_bytes())?;
+    store.put(&Text::from_str(alloc, PATH)?, file.as_slice())?;
     Ok(store)
 }
 

@@ -1,5 +1,6 @@
 //! Batches that are loaded and saved again.
-use rows::{add_escaped, text_of};
+use rows::add_escaped;
+use rows_outside::input_of;
 use snap_content::{Error, OutOfMemory, Text};
 use snap_io::MemoryStore;
 use snap_pending::PendingInlineSnapshot;
@@ -9,6 +10,8 @@ use std::str;
 /// Why a file is refused, in a word.
 fn refusal(error: &Error) -> &'static str {
     match error {
+        Error::NoFile(_) => "NoFile",
+        Error::NotText(_) => "NotText",
         Error::FailedParsingYaml(_) => "FailedParsingYaml",
         Error::UnexpectedDataType => "UnexpectedDataType",
         Error::MissingField => "MissingField",
@@ -35,12 +38,19 @@ fn saved_again(alloc: Global, store: &mut MemoryStore, path: &Text) -> Result<Te
     file_text(alloc, store, path)
 }
 
-/// The answer to the text of a file.
+/// The answer to the bytes of a file.
 pub(crate) fn batch_line(alloc: Global, column: &str) -> Result<Text, OutOfMemory> {
-    let text = text_of(alloc, column)?;
+    let bytes = input_of(alloc, column)?;
     let path = Text::from_str(alloc, "a.pending-snap")?;
     let mut store = MemoryStore::new(alloc);
-    store.put(&path, text.as_str().as_bytes())?;
+    store.put(&path, bytes.as_slice())?;
+    line_in(alloc, &mut store, &path)
+}
+
+/// The answer where there is no file.
+pub(crate) fn no_file_line(alloc: Global) -> Result<Text, OutOfMemory> {
+    let path = Text::from_str(alloc, "a.pending-snap")?;
+    let mut store = MemoryStore::new(alloc);
     line_in(alloc, &mut store, &path)
 }
 

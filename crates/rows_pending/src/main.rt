@@ -5,8 +5,9 @@
 //!
 //! - `record`, a call and what it needs, as `calls` lists: how many faults the store has had then, how many files it has, and the text
 //!   of the file.
-//! - `batch TEXT`: what a file of this text is saved as once its batch was loaded. `compare/pending` holds that against the original's
-//!   code.
+//! - `batch TEXT`: what a file of this text is saved as once its batch was loaded; after `bytes ` come the numbers of bytes.
+//!   `compare/pending` holds that against the original's code.
+//! - `no_file`: the same where there is no file.
 //!
 //! The gate compares the answers with what is wanted: by the rules, and for files that the original wrote by what it makes of them.
 #![tactic(auto)]
@@ -17,7 +18,7 @@ mod records;
 mod steps;
 mod stored;
 
-use crate::batches::batch_line;
+use crate::batches::{batch_line, no_file_line};
 use crate::calls::called;
 use rows::{answer_rows, first_column};
 use snap_content::{OutOfMemory, Text};
@@ -28,6 +29,7 @@ fn table_line(alloc: Global, table: &str, columns: &str) -> Result<Text, OutOfMe
     match table {
         "record" => called(alloc, columns),
         "batch" => batch_line(alloc, columns),
+        "no_file" => no_file_line(alloc),
         _ => Text::from_ascii(alloc, "! no such table"),
     }
 }

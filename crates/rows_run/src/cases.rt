@@ -1,7 +1,7 @@
 //! What a line says of a run.
 use rows::{first_column, text_of};
-use rows_outside::{Outside, outside_of};
-use snap_content::{OutOfMemory, Text};
+use rows_outside::{Outside, input_of, outside_of};
+use snap_content::{Blob, OutOfMemory, Text};
 use std::alloc::Global;
 
 /// The columns of a run.
@@ -44,14 +44,13 @@ fn number_said(column: &str, name: &str) -> Option<u32> {
 }
 
 /// The files that stand in columns, each as its path and its bytes.
-pub(crate) fn files_of(alloc: Global, columns: &str) -> Result<Vec<(Text, Text)>, OutOfMemory> {
+pub(crate) fn files_of(alloc: Global, columns: &str) -> Result<Vec<(Text, Blob)>, OutOfMemory> {
     let mut files = Vec::new(alloc);
     let mut held = None;
     for column in columns.split('\t') {
-        let text = text_of(alloc, column)?;
         match held.take() {
-            None => held = Some(text),
-            Some(path) => files.push((path, text))?,
+            None => held = Some(text_of(alloc, column)?),
+            Some(path) => files.push((path, input_of(alloc, column)?))?,
         }
     }
     Ok(files)

@@ -13,7 +13,7 @@ fn store_of(alloc: Global, case: Case<'_>) -> Result<MemoryStore, OutOfMemory> {
     let failing = vec![in alloc; u64::from(case.store)]?;
     let mut store = MemoryStore::new(alloc);
     for (path, bytes) in files_of(alloc, case.files)? {
-        store.put(&path, bytes.as_str().as_bytes())?;
+        store.put(&path, bytes.as_slice())?;
     }
     store.fail_at(failing);
     Ok(store)

@@ -12,7 +12,7 @@ use std::alloc::Global;
 fn store_of(alloc: Global, case: Case<'_>) -> Result<SteadyStore, OutOfMemory> {
     let mut store = SteadyStore::new(alloc);
     for (path, bytes) in files_of(alloc, case.files)? {
-        store.put(&path, bytes.as_str().as_bytes())?;
+        store.put(&path, bytes.as_slice())?;
     }
     Ok(store)
 }
