@@ -16,5 +16,6 @@ pub mod normal;
 
 pub use contents::{TextSnapshotContents, TextSnapshotKind};
 pub use snap_text_literals::{
-    LiteralError, literal_is_open, min_indentation, normalize_inline, read_literal, required_hashes,
+    LiteralError, after_literal, literal_is_open, literal_len, min_indentation, normalize_inline,
+    read_literal, required_hashes,
 };

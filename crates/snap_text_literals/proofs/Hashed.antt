@@ -17,6 +17,10 @@ pub past_hashes-all : (n : ℕ) → past_hashes n (hashes n) ≡ Some []
 past_hashes-all zero = refl
 past_hashes-all (suc n) = past_hashes-all n
 
+pub past_hashes-onto : (n : ℕ) (x : List ℕ) → past_hashes n (hashes n ++ x) ≡ Some x
+past_hashes-onto zero x = refl
+past_hashes-onto (suc n) x = past_hashes-onto n x
+
 pub none_if : (b : Bool) (o p : Option (List ℕ)) → is_some (cond b o None) ≡ false → (is_some o ≡ false → is_some p ≡ false) → is_some (cond b p None) ≡ false
 none_if true o p h k = k h
 none_if false o p h k = refl

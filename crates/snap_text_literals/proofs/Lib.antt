@@ -16,3 +16,5 @@ pub mod InlineLaw
 mod Frames
 pub mod Written
 mod Bytes
+mod FrontUnits
+pub mod LiteralFronts

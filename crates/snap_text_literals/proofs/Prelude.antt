@@ -31,4 +31,5 @@ pub use Rattle.snap_text_literals.specs.Literal.{Inside, literal_reads, IsQuoted
 pub use Rattle.snap_text_literals.specs.Literal.Inside.{ends, goes_on}
 pub use Rattle.snap_text_literals.specs.Normal.{trimmed, unreturned, normal, before_trimmed}
 pub use Rattle.snap_text_literals.specs.Spelled.{escaped_char, is_control, digits, line_parts, framed_line, shown, is_indent, is_hidden, spelled, meant, IsIndentation, is_marked, escaped_form, raw_form, plain_form}
-pub use Rattle.snap_text_literals.specs.Units.{unit_of, braced, escape, Unit_read, past_blanks}
+pub use Rattle.snap_text_literals.specs.Units.{unit_of, unit_given, hexadecimal, lettered, braced, unicode, escape, Unit_read, past_blanks}
+pub use Rattle.snap_text_literals.specs.Fronts.{IsBehind, BeginsWithNone, HasLiteral}

@@ -10,3 +10,4 @@ pub mod Inline
 pub mod OfLiteral
 pub mod Frame
 pub mod Signed
+pub mod Fronts

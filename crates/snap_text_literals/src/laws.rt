@@ -1,5 +1,5 @@
 //! Laws of the forms and of the literals.
-ghost use Rattle.std.specs.Prelude.{◌≡◌, ℕ, List};
+ghost use Rattle.std.specs.Prelude.{◌≡◌, ◌++◌, [], ℕ, List};
 ghost use Rattle.snap_text_literals.specs.Inline.{inline_normal, inline_width, written};
 ghost use Rattle.snap_text_literals.specs.Literal.{literal_reads};
 ghost use Rattle.snap_text_literals.specs.Normal.{trimmed, normal};
@@ -20,6 +20,12 @@ pub const fn normal_by_lines()
 pub const fn one_text()
     ensures { (source text other : List ℕ) → literal_reads source text → literal_reads source other
         → text ≡ other }
+{}
+
+/// No literal is a proper prefix of another, so a text begins with one literal at most.
+pub const fn no_literal_goes_on()
+    ensures { (literal more text other : List ℕ) → literal_reads literal text
+        → literal_reads (literal ++ more) other → more ≡ [] }
 {}
 
 /// What is written reads, by the grammar, as the text that was meant.
