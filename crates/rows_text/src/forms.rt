@@ -4,7 +4,7 @@ use snap_str::cut::split_once;
 use snap_text_literals::frame::inline_legacy_text;
 use snap_text_literals::inline::{inline_normal_text, min_indentation, normalize_inline};
 use snap_text_literals::literal::{from_inline_literal, literal_is_open, to_inline};
-use snap_text_literals::{LiteralError, read_literal, required_hashes};
+use snap_text_literals::{LiteralError, literal_len, read_literal, required_hashes};
 use std::alloc::Global;
 
 /// The answer to a row; empty where the row is none.
@@ -38,6 +38,7 @@ fn answer_for(
             to_inline(alloc, text, field(alloc, second)?.as_str())?.as_str(),
         ),
         "read_literal" => read(alloc, text),
+        "literal_len" => front(alloc, text),
         _ => Ok(Text::empty()),
     }
 }
@@ -92,5 +93,13 @@ fn read(alloc: Global, source: &str) -> Result<Text, OutOfMemory> {
         Ok(text) => spelled(alloc, text.as_str()),
         Err(LiteralError::NotLiteral) => Text::from_str(alloc, "NotLiteral"),
         Err(LiteralError::OutOfMemory) => Err(OutOfMemory),
+    }
+}
+
+/// How many bytes the literal has with which a text begins, or that it begins with none.
+fn front(alloc: Global, source: &str) -> Result<Text, OutOfMemory> {
+    match literal_len(source) {
+        Some(bytes) => number(alloc, bytes),
+        None => Text::from_str(alloc, "NotLiteral"),
     }
 }
