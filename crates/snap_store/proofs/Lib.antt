@@ -16,3 +16,5 @@ mod ReadBack
 mod Relatives
 pub mod Lists
 pub mod Written
+pub mod Saved
+mod Besides

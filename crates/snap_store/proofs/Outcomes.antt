@@ -1,5 +1,5 @@
 -- What reading a file comes to, exit by exit.
-use Rattle.snap_store.proofs.Prelude.{◌≡◌, ℕ, Bool, false, List, Option, Some, Result, Ok, Err, refl, ap, sym, ◌∙◌, subst, IsErrAnd, Plain, plain, dict, Entries, content_of, tree, Error, headed_body, body_of, FieldsEnd, HasFields, Meta, meta_of, meta_in, contents_in, legacy_in, number_text_in, SnapshotContents, SnapshotKind}
+use Rattle.snap_store.proofs.Prelude.{◌≡◌, inl, ℕ, Bool, false, List, Option, Some, Result, Ok, Err, refl, ap, sym, ◌∙◌, subst, IsErrAnd, Plain, plain, dict, Entries, content_of, tree, Error, headed_body, body_of, FieldsEnd, HasFields, Meta, meta_of, meta_in, contents_in, legacy_in, number_text_in, SnapshotContents, SnapshotKind}
 use Rattle.snap_content.specs.declared.error.Error.TheVariants.{FailedParsingYaml, UnexpectedDataType, MissingField, FileIo, FloatText, JsonKey, NotText, NoFile, OutOfMemory}
 use Rattle.snap_emit.specs.Parsed.{IsHeaderReadFrom, MayBeHeaderOf, HeaderRefusalEnd}
 use Rattle.snap_emit.specs.Readings.{IsHeaderTreeOf, IsOnly, IsOfStream}
@@ -131,7 +131,7 @@ no_memory path file (Err e) is = let P : Error → Type 0 = λ x. IsRefused path
 
 -- a call on the file that failed refuses it
 pub refused_call : (path : List ℕ) (file : Option (List ℕ)) (e : Error) → IsCallError path e → IsRefused path file e
-refused_call path file (FileIo named) h = h
+refused_call path file (FileIo named) h = inl h
 refused_call path file OutOfMemory h = tt
 refused_call path file (FailedParsingYaml named) h = absurd h
 refused_call path file UnexpectedDataType h = absurd h

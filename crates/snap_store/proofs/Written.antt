@@ -1,5 +1,5 @@
 -- What a store holds after a write, and where nothing was written.
-use Rattle.snap_store.proofs.Prelude.{◌≡◌, ℕ, List, Option, Some, Result, Ok, Err, refl, ap, sym, ◌∙◌, subst, OnOk, OnErr, insert, encode_utf8_all, IsUtf8, chars, Error, Files, SameBut}
+use Rattle.snap_store.proofs.Prelude.{◌≡◌, ℕ, List, Option, Some, Result, Ok, Err, refl, ap, sym, ◌∙◌, OnOk, OnErr, encode_utf8_all, IsUtf8, chars, Error, Files, SameBut}
 use Rattle.std.proofs.lemmas.Str.{encodes-chars}
 
 -- the bytes of a text are those of its characters
@@ -22,11 +22,3 @@ at_ok (Err error) f p = tt
 pub at_err : {T E P : Type 0} → (result : Result T E) → P → OnErr result P
 at_err (Ok value) p = tt
 at_err (Err error) p = p
-
-pub saved_as : (m : Files) (now : Option Files) (path path' text text' : List ℕ) → now ≡ Some (insert m path (encode_utf8_all text)) → path ≡ path' → text ≡ text'
-    → now ≡ Some (insert m path' (encode_utf8_all text'))
-saved_as m now path path' text text' written same_path same_text =
-    written ∙ ap (λ p. Some (insert m p (encode_utf8_all text))) same_path ∙ ap (λ t. Some (insert m path' (encode_utf8_all t))) same_text
-
-pub same_but_at : (path path' : List ℕ) (m : Files) (files : Option Files) → path ≡ path' → SameBut path m files → SameBut path' m files
-same_but_at path path' m files same s = let P : List ℕ → Type 0 = λ p. SameBut p m files in subst P same s

@@ -7,6 +7,7 @@ pub mod Views
 pub mod Header
 pub mod Agreement
 pub mod Image
+pub mod Saving
 pub mod Reading
 pub mod ReadBack
 pub mod Named

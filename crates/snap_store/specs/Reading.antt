@@ -1,5 +1,5 @@
 -- What a file is read as, and when it is refused.
-use Rattle.std.specs.Prelude.{◌≡◌, ℕ, Bool, true, false, List, Option, None, Some, Result, Ok, Err}
+use Rattle.std.specs.Prelude.{◌≡◌, ◌⊎◌, ℕ, Bool, true, false, List, Option, None, Some, Result, Ok, Err, IfOk}
 use Rattle.std.specs.Str.{IsUtf8, chars}
 use Rattle.std.specs.FinMap.{get}
 use Rattle.snap_content.specs.Plain.{Plain, dict, Entries}
@@ -16,9 +16,11 @@ use Rattle.snap_parse_events.specs.Nodes.{Node}
 use Rattle.snap_text.specs.Contents.{raw_of, kind_of}
 use Rattle.snap_text.specs.declared.contents.TextSnapshotKind.TheVariants.{File}
 use Rattle.snap_io.specs.Files.{Files}
+use Rattle.snap_store.specs.Causes.{IsCallError}
 use Rattle.snap_store.specs.FileSplit.{is_headed, header_of, body_of}
 use Rattle.snap_store.specs.Fields.{kind_in, fields}
 use Rattle.snap_store.specs.Meta.{Meta, legacy_meta}
+use Rattle.snap_store.specs.Saving.{sidecar_path}
 use Rattle.snap_store.specs.Views.{meta_in, contents_in, legacy_in, number_text_in}
 use Rattle.snap_store.specs.declared.metadata.SnapshotKind.{SnapshotKind}
 use Rattle.snap_store.specs.declared.metadata.SnapshotKind.TheVariants as kind
@@ -54,12 +56,27 @@ pub record ReadsHeader (text : List ℕ) (tree : Plain) (kept : Bool) : Type 0 w
   pub document : IsOfStream (GivesHeader tree kept)
   pub documents : (nodes : List Node) → AreNodesOf (header_of text) nodes → IsOnly (GivesHeader tree kept) nodes
 
--- a text holds the body as it stands, and a payload is not read
+-- a text holds the body as it stands, and a payload is not in the file
 abbrev pub HoldsBody : SnapshotKind → List ℕ → SnapshotContents → Type 0
 HoldsBody kind.Text body (contents.Text held) = (raw_of held ≡ body) × (kind_of held ≡ File)
 HoldsBody kind.Text body (contents.Binary payload) = ⊥
 HoldsBody (kind.Binary extension) body (contents.Text held) = ⊥
-HoldsBody (kind.Binary extension) body (contents.Binary payload) = payload ≡ None
+HoldsBody (kind.Binary extension) body (contents.Binary payload) = Unit {0}
+
+-- what stands beside the file at this path, by the kind that its header tells
+abbrev pub payload_at : List ℕ → SnapshotKind → Files → Option (List ℕ)
+payload_at path kind.Text m = None
+payload_at path (kind.Binary extension) m = get m (sidecar_path path extension)
+
+-- the only errors of reading it
+abbrev pub IsPayloadError : List ℕ → SnapshotKind → Error → Type 0
+IsPayloadError path kind.Text error = ⊥
+IsPayloadError path (kind.Binary extension) error = IsCallError (sidecar_path path extension) error
+
+-- a payload is what stands beside the file at this path, and absent where nothing does
+abbrev pub HoldsBeside : List ℕ → Files → SnapshotKind → SnapshotContents → Type 0
+HoldsBeside path m kind.Text held = Unit {0}
+HoldsBeside path m (kind.Binary extension) held = held ≡ contents.Binary (get m (sidecar_path path extension))
 
 -- a header that is read as a map tells its fields, and whether a number in it was kept as its text
 pub record HeaderTells (text : List ℕ) (meta : Meta) (kept : Bool) : Type 0 where
@@ -116,14 +133,25 @@ pub record IsReadAs (file : Option (List ℕ)) (snapshot : Snapshot) : Type 0 wh
   pub metadata : Tells (legacy_in snapshot) text (meta_in snapshot) (number_text_in snapshot)
   pub contents : HoldsBody (meta_in snapshot).kind (body_of text) (contents_in snapshot)
 
--- why the file at the path is refused
+-- the header of the file is read as a map that tells an extension, and this is the path of the payload with that extension
+pub record IsBeside (path : List ℕ) (file : Option (List ℕ)) (named : List ℕ) : Type 0 where
+  pub text : List ℕ
+  pub there : IsTextFile file text
+  pub entries : Entries
+  pub kept : Bool
+  pub header : ReadsHeader text (dict entries) kept
+  pub extension : List ℕ
+  pub told : kind_in entries ≡ Some (kind.Binary extension)
+  pub named_is : named ≡ sidecar_path path extension
+
+-- why the file at the path is refused; the store may fail at it, or at the payload beside it
 abbrev pub IsRefused : List ℕ → Option (List ℕ) → Error → Type 0
 IsRefused path file (NoFile named) = (named ≡ path) × (file ≡ None)
 IsRefused path file (NotText named) = (named ≡ path) × IsNoText file
 IsRefused path file (FailedParsingYaml named) = (named ≡ path) × HasUnspelledHeader file
 IsRefused path file UnexpectedDataType = HasOtherHeader file
 IsRefused path file MissingField = LacksExtension file
-IsRefused path file (FileIo named) = named ≡ path
+IsRefused path file (FileIo named) = (named ≡ path) ⊎ IsBeside path file named
 IsRefused path file (FloatText named) = ⊥
 IsRefused path file JsonKey = ⊥
 IsRefused path file OutOfMemory = Unit {0}
@@ -132,8 +160,9 @@ abbrev pub FileEnd : List ℕ → Option (List ℕ) → Result Snapshot Error �
 FileEnd path file (Ok snapshot) = IsReadAs file snapshot
 FileEnd path file (Err error) = IsRefused path file error
 
--- the file at the path was read to this end; where the files are told it is the one among them
+-- the file at the path was read to this end, with the payload beside it; where the files are told both are among them
 pub record IsReadFrom (path : List ℕ) (files : Option Files) (result : Result Snapshot Error) : Type 0 where
   pub file : Option (List ℕ)
   pub told : (m : Files) → files ≡ Some m → file ≡ get m path
   pub comes_to : FileEnd path file result
+  pub beside : (m : Files) → files ≡ Some m → IfOk result (λ snapshot. HoldsBeside path m (meta_in snapshot).kind (contents_in snapshot))

@@ -70,6 +70,11 @@ abbrev pub text_in : SnapshotContents → Option (List ℕ)
 text_in (Text contents) = Some (compared_of contents)
 text_in (Binary payload) = None
 
+-- these contents with another payload; a text stays as it is
+abbrev pub with_payload : Option (List ℕ) → SnapshotContents → SnapshotContents
+with_payload payload (Text contents) = Text contents
+with_payload payload (Binary old) = Binary payload
+
 -- the contents are the text of a file
 abbrev pub IsFileText : SnapshotContents → Type 0
 IsFileText (Text contents) = kind_of contents ≡ File

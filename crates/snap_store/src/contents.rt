@@ -13,7 +13,7 @@ pub enum SnapshotContents {
 }
 
 impl SnapshotContents {
-    ghost use Rattle.snap_store.specs.Views.{text_in};
+    ghost use Rattle.snap_store.specs.Views.{text_in, with_payload};
     ghost use Rattle.snap_store.specs.Agreement.{Agree};
 
     pub fn from_text(value: TextSnapshotContents) -> SnapshotContents
@@ -37,6 +37,16 @@ impl SnapshotContents {
         match self {
             SnapshotContents::Text(text) => Some(text),
             SnapshotContents::Binary(_) => None,
+        }
+    }
+
+    /// The same contents, with this payload in place of another. A text stays as it is.
+    pub(crate) fn with_payload(self, payload: Option<Blob>) -> SnapshotContents
+        ensures { result ≡ with_payload payload self }
+    {
+        match self {
+            SnapshotContents::Text(text) => SnapshotContents::Text(text),
+            SnapshotContents::Binary(_) => SnapshotContents::Binary(payload),
         }
     }
 

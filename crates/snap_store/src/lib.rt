@@ -4,8 +4,8 @@
 //!
 //! In the order in which data flows: `split` (header and body), `metadata` and
 //! `metadata_tree` (what the header tells, and metadata as a tree), `legacy` (what a file without a header tells), `contents`
-//! (the body), `snapshot` and `reading` (all of it), `header` and `saving` (the way back), `named` (the calls of a store that both make),
-//! `relative` (the source as it is seen from a folder), `laws`.
+//! (the body), `snapshot` and `reading` (all of it), `header` and `saving` (the way back), `sidecar` (where a payload stands), `named` (the calls of a store that
+//! both make), `relative` (the source as it is seen from a folder), `laws`.
 #![tactic(auto)]
 
 pub mod contents;
@@ -18,6 +18,7 @@ pub mod named;
 mod reading;
 pub mod relative;
 mod saving;
+mod sidecar;
 pub mod snapshot;
 pub mod split;
 

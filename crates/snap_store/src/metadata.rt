@@ -84,6 +84,13 @@ impl MetaData {
         }
     }
 
+    /// The description as it is kept, which may be empty.
+    pub fn raw_description(&self) -> Option<&str>
+        ensures { option_map (λ text. chars text.now) result ≡ (meta_of self.now).description }
+    {
+        self.description.as_ref().map(|text| text.as_str())
+    }
+
     /// The expression whose value was taken.
     pub fn expression(&self) -> Option<&str>
         ensures { option_map (λ text. chars text.now) result ≡ (meta_of self.now).expression }

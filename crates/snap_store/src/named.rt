@@ -1,10 +1,12 @@
 //! The calls of a store, with errors that name the path. Out of memory is told as such.
-ghost use Rattle.std.specs.Prelude.{◌≡◌, Some, IfOk, OnOk, OnErr, encode_utf8_all};
-ghost use Rattle.std.specs.FinMap.{get, insert, remove};
+ghost use Rattle.std.specs.Prelude.{◌≡◌, ◌∷◌, [], Some, IfOk, OnOk, OnErr, IfErr, encode_utf8_all};
+ghost use Rattle.std.specs.FinMap.{get, remove};
 ghost use Rattle.snap_io.specs.Causes.{Counted, is_failed};
+ghost use Rattle.snap_io.specs.Changes.{changed, Change.writes};
+ghost use Rattle.snap_io.specs.StandsAfter.{StandsAfter};
 ghost use Rattle.snap_io.specs.Files.{Files, SameBut, MayBeGone, appended};
 ghost use Rattle.snap_io.specs.Listed.{AreNames};
-ghost use Rattle.snap_store.specs.Causes.{is_file_fault, CallEnd, IsCallError};
+ghost use Rattle.snap_store.specs.Causes.{is_file_fault, named_by, CallEnd, IsCallError};
 
 use snap_content::{Blob, Error, Text};
 use snap_io::{Names, Store, StoreError};
@@ -36,19 +38,19 @@ pub fn read<S: Store>(alloc: Global, store: &mut S, path: &Text) -> Result<Optio
     }
 }
 
-/// Makes this text the file. After an error only that file is unknown.
-pub fn write<S: Store>(alloc: Global, store: &mut S, path: &Text, text: &Text) -> Result<(), Error>
+/// Makes these bytes the file. The path is taken, since a fault names it, so that no memory is asked for between two writes.
+/// After an error only that file is unknown.
+pub fn write<S: Store>(store: &mut S, path: Text, bytes: &[u8]) -> Result<(), Error>
     ensures written { OnOk result ((m : Files) → S.files store.old ≡ Some m
-        → S.files store.new ≡ Some (insert m path.now (encode_utf8_all text.now))) }
-    ensures unknown { OnErr result ((m : Files) → S.files store.old ≡ Some m
-        → SameBut path.now m (S.files store.new)) }
-    ensures error { CallEnd path.now result }
+        → S.files store.new ≡ Some (changed (writes path bytes.now) m)) }
+    ensures stopped { IfErr result (λ error. StandsAfter (writes path bytes.now ∷ []) (named_by error)
+        (S.files store.old) (S.files store.new)) }
+    ensures error { CallEnd path result }
     ensures cause { Counted is_file_fault (S.faults store.old) (S.faults store.new) result }
 {
-    let own = path.try_clone(alloc)?;
-    match store.write(path, text.as_str().as_bytes()) {
+    match store.write(&path, bytes) {
         Ok(()) => Ok(()),
-        Err(error) => Err(named(own, error)),
+        Err(error) => Err(named(path, error)),
     }
 }
 

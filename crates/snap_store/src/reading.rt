@@ -1,17 +1,19 @@
 //! Reading the file of a snapshot.
-ghost use Rattle.std.specs.Prelude.{◌≡◌, ℕ, false, List, Option, IfOk};
+ghost use Rattle.std.specs.Prelude.{◌≡◌, ℕ, false, List, Option, Some, IfOk, IfErr};
 ghost use Rattle.snap_store.specs.Named.{HasNames};
 ghost use Rattle.std.specs.Str.{chars};
 ghost use Rattle.snap_io.specs.Causes.{Counted};
+ghost use Rattle.snap_io.specs.Files.{Files};
 ghost use Rattle.snap_store.specs.Causes.{is_file_fault};
 ghost use Rattle.snap_store.specs.FileSplit.{is_headed};
-ghost use Rattle.snap_store.specs.Reading.{IsTextFile, HoldsBody, FileEnd, IsReadAs, IsReadFrom};
+ghost use Rattle.snap_store.specs.Reading.{IsTextFile, HoldsBody, FileEnd, IsReadAs, IsReadFrom, payload_at, IsPayloadError};
 ghost use Rattle.snap_store.specs.Split.{IsSplit};
 
 use crate::contents::SnapshotContents;
 use crate::legacy::{legacy_metadata, legacy_text};
 use crate::metadata::{MetaData, SnapshotKind};
 use crate::named;
+use crate::sidecar::sidecar_text;
 use crate::snapshot::Snapshot;
 use crate::split::{Headed, split_file};
 use snap_content::{Blob, Error, OutOfMemory, Text};
@@ -23,7 +25,8 @@ use std::alloc::Global;
 use std::str;
 
 impl Snapshot {
-    /// The snapshot that the file at the path holds. The store is not changed.
+    /// The snapshot that the file at the path holds, with the payload that stands beside it, where its header says binary; a payload
+    /// that is missing is absent. The store is not changed.
     pub fn from_file<S: Store>(alloc: Global, store: &mut S, path: &Text) -> Result<Snapshot, Error>
         ensures end { IsReadFrom path.now (S.files store.old) result }
         ensures names { IfOk result (λ snapshot. HasNames path.now snapshot) }
@@ -31,7 +34,37 @@ impl Snapshot {
         ensures cause { Counted is_file_fault (S.faults store.old) (S.faults store.new) result }
     {
         let found = named::read(alloc, store, path)?;
-        snapshot_of_file(alloc, found, path)
+        let snapshot = snapshot_of_file(alloc, found, path)?;
+        match payload_beside(alloc, store, path, snapshot.metadata().kind()) {
+            Ok(payload) => Ok(snapshot.with_payload(payload)),
+            Err(error) => {
+                drop(snapshot);
+                Err(error)
+            }
+        }
+    }
+}
+
+/// The bytes that stand beside the file of a snapshot of this kind; none where there is no such file, and of a text. The store is
+/// not changed.
+fn payload_beside<S: Store>(
+    alloc: Global,
+    store: &mut S,
+    path: &Text,
+    kind: &SnapshotKind,
+) -> Result<Option<Blob>, Error>
+    ensures found { IfOk result (λ found. (m : Files) → S.files store.old ≡ Some m
+        → found ≡ payload_at path.now kind.now m) }
+    ensures error { IfErr result (λ error. IsPayloadError path.now kind.now error) }
+    ensures same { S.files store.new ≡ S.files store.old }
+    ensures cause { Counted is_file_fault (S.faults store.old) (S.faults store.new) result }
+{
+    match kind {
+        SnapshotKind::Text => Ok(None),
+        SnapshotKind::Binary { extension } => {
+            let beside = sidecar_text(alloc, path, extension)?;
+            named::read(alloc, store, &beside)
+        }
     }
 }
 
@@ -95,7 +128,7 @@ fn legacy_snapshot(alloc: Global, text: &str, path: &Text) -> Result<Snapshot, O
     Ok(Snapshot::from_components(module, Some(name), metadata, contents).without_header())
 }
 
-/// A text with this body, or a payload that was not read.
+/// A text with this body, or a payload, which is absent until it is read.
 fn contents_of(kind: &SnapshotKind, body: Text) -> SnapshotContents
     ensures { HoldsBody kind.now body result }
 {

@@ -1,10 +1,10 @@
 //! A snapshot.
-ghost use Rattle.std.specs.Prelude.{◌≡◌, false, true, IfOk, MatchOption, option_map};
+ghost use Rattle.std.specs.Prelude.{◌≡◌, false, true, None, Some, IfOk, MatchOption, option_map};
 ghost use Rattle.std.specs.Str.{chars};
 
 use crate::contents::SnapshotContents;
-use crate::metadata::{MetaData, clone_text};
-use snap_content::{OutOfMemory, Text};
+use crate::metadata::{MetaData, SnapshotKind, clone_text};
+use snap_content::{Blob, OutOfMemory, Text};
 use snap_text::TextSnapshotContents;
 use std::alloc::Global;
 
@@ -19,8 +19,16 @@ pub struct Snapshot {
     number_as_text: bool,
 }
 
+/// A payload that is saved beside the file of its snapshot.
+#[derive(Clone, Copy)]
+pub(crate) struct Payload<'a> {
+    pub extension: &'a Text,
+    pub bytes: &'a Blob,
+}
+
 impl Snapshot {
-    ghost use Rattle.snap_store.specs.Views.{meta_of, module_in, name_in, meta_in, contents_in, legacy_in, number_text_in, text_in};
+    ghost use Rattle.snap_store.specs.Views.{meta_of, module_in, name_in, meta_in, contents_in, legacy_in, number_text_in, text_in, with_payload};
+    ghost use Rattle.snap_store.specs.Saving.{payload_of};
 
     pub fn from_components(
         module_name: Text,
@@ -72,6 +80,35 @@ impl Snapshot {
         Snapshot {
             number_as_text: kept,
             ..self
+        }
+    }
+
+    /// The same snapshot with this payload, where its contents are one.
+    pub(crate) fn with_payload(self, payload: Option<Blob>) -> Snapshot
+        ensures module { module_in result ≡ module_in self }
+        ensures name { name_in result ≡ name_in self }
+        ensures metadata { meta_in result ≡ meta_in self }
+        ensures contents { contents_in result ≡ with_payload payload (contents_in self) }
+        ensures legacy { legacy_in result ≡ legacy_in self }
+        ensures number { number_text_in result ≡ number_text_in self }
+    {
+        Snapshot {
+            contents: self.contents.with_payload(payload),
+            ..self
+        }
+    }
+
+    /// The payload that is saved, lent: one that is there, under metadata that say binary.
+    pub(crate) fn payload(&self) -> Option<Payload<'_>>
+        ensures { MatchOption result (payload_of (meta_in self.now) (contents_in self.now) ≡ None)
+            (λ payload. payload_of (meta_in self.now) (contents_in self.now)
+            ≡ Some (payload.extension.now, payload.bytes.now)) }
+    {
+        match (self.metadata.kind(), &self.contents) {
+            (SnapshotKind::Binary { extension }, SnapshotContents::Binary(Some(bytes))) => {
+                Some(Payload { extension, bytes })
+            }
+            _ => None,
         }
     }
 

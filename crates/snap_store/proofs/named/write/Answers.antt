@@ -1,10 +1,5 @@
-use Rattle.snap_store.proofs.Prelude.{◌∙◌, refl, ap, Some, insert}
-use Rattle.snap_store.proofs.Written.{text_sent, nothing_written}
+use Rattle.snap_store.proofs.Saved.{write_stopped}
 use Rattle.snap_store.proofs.named.write.Goals as goal
 
-pub returns-in_err-own-clause-unknown : goal.returns-in_err-own-clause-unknown
-returns-in_err-own-clause-unknown g c = nothing_written c.from_residual.result c.args.path.now (g.S.Store.files c.args.store.now)
-
-pub returns-in-Ok-clause-written : goal.returns-in-Ok-clause-written
-returns-in-Ok-clause-written g c = λ m told.
-    c.in-Ok.ensures.written m told ∙ ap (λ x. Some (insert m c.args.path.now x)) (text_sent _ _ _ _ c.as_str.utf8 c.as_str.ensures refl c.as_bytes.ensures.value)
+pub returns-in-Err-clause-stopped : goal.returns-in-Err-clause-stopped
+returns-in-Err-clause-stopped g c = write_stopped c.args.path c.args.bytes.now _ _ _ c.named.ensures.path c.in-Err.ensures.unknown
