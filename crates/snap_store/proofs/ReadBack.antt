@@ -1,5 +1,5 @@
--- A saved text snapshot is read back.
-use Rattle.snap_store.proofs.Prelude.{◌≡◌, ◌<◌, ◌^◌, inl, inr, ℕ, pos, Bool, true, false, List, [], ◌∷◌, ◌++◌, Option, None, Some, refl, sym, ap, ◌∙◌, subst, append_assoc, codes, IfSome, option_map, plain, content_of, dict, Entries, IsWithin, document_of, lines_of, body_of, is_headed, kind_told, fields_told, kind_in, fields, Meta, text_field, line_field, info_field, kind_fields, header_tree, text_pair, info_pair, kind_pairs, meta_in, contents_in, legacy_in, number_text_in, SnapshotKind, Error}
+-- A saved snapshot is read back.
+use Rattle.snap_store.proofs.Prelude.{Ok, ◌≡◌, ◌<◌, ◌^◌, inl, inr, ℕ, pos, Bool, true, false, List, [], ◌∷◌, ◌++◌, Option, None, Some, refl, sym, ap, ◌∙◌, subst, append_assoc, codes, IfSome, option_map, plain, content_of, dict, Entries, IsWithin, document_of, lines_of, body_of, is_headed, kind_told, fields_told, kind_in, fields, Meta, text_field, line_field, info_field, kind_fields, header_tree, text_pair, info_pair, kind_pairs, meta_in, contents_in, legacy_in, number_text_in, SnapshotKind, Error}
 use Rattle.std.proofs.Common.{◌⊎◌, arith}
 use Rattle.snap_content.specs.Plain.{number_tree, pairs_made}
 use Rattle.snap_print.specs.Readable.{AreEntriesWithin}
@@ -10,10 +10,14 @@ use Rattle.snap_print.specs.Blocks.{off}
 use Rattle.snap_print.proofs.Rows.{printed-rows}
 use Rattle.snap_text.specs.Normal.{normal}
 use Rattle.snap_store.specs.FileSplit.{header_of}
-use Rattle.snap_store.specs.Image.{text_under}
+use Rattle.std.specs.FinMap.{get}
+use Rattle.snap_io.specs.Files.{Files}
+use Rattle.snap_store.specs.Image.{text_under, image_of, image}
 use Rattle.snap_store.specs.Meta.{header_entries}
-use Rattle.snap_store.specs.ReadBack.{IsOfText, IsReadBack, read_meta}
-use Rattle.snap_store.specs.Reading.{IsTextFile, HasHeader, Tells, HoldsBody, IsReadAs, IsRefused}
+use Rattle.snap_store.specs.ReadBack.{IsOfText, IsReadBack, IsOfBinary, IsBinaryBack, read_meta}
+use Rattle.snap_store.specs.Reading.{IsTextFile, HasHeader, Tells, HoldsBody, HoldsBeside, IsReadAs, IsReadFrom, IsRefused}
+use Rattle.snap_store.specs.Saving.{sidecar_path}
+use Rattle.snap_store.specs.declared.contents.SnapshotContents.TheVariants as contents
 use Rattle.snap_store.specs.declared.metadata.SnapshotKind.TheVariants as kind
 use Rattle.snap_store.specs.declared.snapshot.Snapshot.{Snapshot}
 use Rattle.snap_store.proofs.MetaTrees.{IsLine, line_by, pairs_by, fields_read, kind_read}
@@ -82,24 +86,34 @@ kind_within : (k : SnapshotKind) → AreEntriesWithin (kind_fields k)
 kind_within kind.Text = tt
 kind_within (kind.Binary extension) = (tt, (tt, (tt, (tt, tt))))
 
-within : (m : Meta) → IsOfText m → IsWithin (header_tree m)
-within m h =
-    text_within (codes "source") m.source _ (line_within m.assertion_line _ h.line (text_within (codes "description") m.description _ (
-    text_within (codes "expression") m.expression _ (info_within m.info _ h.info (text_within (codes "input_file") m.input_file _ (kind_within m.kind))))))
+within : (m : Meta) → IfSome m.assertion_line (λ n. n < 2 ^ 32) → IfSome m.info (λ x. IsWithin (plain x)) → IsWithin (header_tree m)
+within m line info =
+    text_within (codes "source") m.source _ (line_within m.assertion_line _ line (text_within (codes "description") m.description _ (
+    text_within (codes "expression") m.expression _ (info_within m.info _ info (text_within (codes "input_file") m.input_file _ (kind_within m.kind))))))
 
--- the file falls into the header and the normal form
+of_text : (m : Meta) → IsOfText m → IsWithin (header_tree m)
+of_text m h = within m h.line h.info
 
-under : (m : Meta) (raw : List ℕ) → IsOfText m → IsUnder (text_under m raw) (document_of off (header_tree m)) (normal raw ++ 10 ∷ [])
-under m raw h =
+-- the file falls into the header and what stands behind it
+
+under : (m : Meta) (body : List ℕ) → IsWithin (header_tree m) → IsUnder (image_of (header_tree m) body) (document_of off (header_tree m)) body
+under m body w =
     let d = header_tree m in
-    let P : List ℕ → Type 0 = λ x. IsUnder x (document_of off d) (normal raw ++ 10 ∷ []) in
-    subst P (append_assoc (document_of off d) (codes "---\n") (normal raw ++ 10 ∷ [])) (rows-under (lines_of off d) (normal raw ++ 10 ∷ []) (printed-rows off d (within m h)))
+    let P : List ℕ → Type 0 = λ x. IsUnder x (document_of off d) body in
+    subst P (append_assoc (document_of off d) (codes "---\n") body) (rows-under (lines_of off d) body (printed-rows off d w))
 
-printed : (m : Meta) (raw : List ℕ) (h : IsOfText m) → IsPrintedOf (header_of (text_under m raw)) (header_tree m)
-printed m raw h = record { blocks = off; text_is = (under m raw h).header_is }
+printed : (m : Meta) (body : List ℕ) → IsWithin (header_tree m) → IsPrintedOf (header_of (image_of (header_tree m) body)) (header_tree m)
+printed m body w = record { blocks = off; text_is = (under m body w).header_is }
 
-has : (m : Meta) (raw : List ℕ) → IsOfText m → HasHeader (text_under m raw) (header_tree m)
-has m raw h = record { headed = (under m raw h).headed; within = within m h; header = inl (printed m raw h) }
+has : (m : Meta) (body : List ℕ) → IsWithin (header_tree m) → HasHeader (image_of (header_tree m) body) (header_tree m)
+has m body w = record { headed = (under m body w).headed; within = w; header = inl (printed m body w) }
+
+-- the body of a text, with its line's end
+abbrev lined_body : List ℕ → List ℕ
+lined_body raw = normal raw ++ 10 ∷ []
+
+has_text : (m : Meta) (raw : List ℕ) → IsOfText m → HasHeader (text_under m raw) (header_tree m)
+has_text m raw h = has m (lined_body raw) (of_text m h)
 
 -- what is told of it
 
@@ -111,30 +125,49 @@ record Back (meta : Meta) (was : Bool) (told : Meta) (kept : Bool) : Type 0 wher
 same_kind : (a b : SnapshotKind) → Some a ≡ Some b → a ≡ b
 same_kind a b e = cc
 
-told_back : (file : Option (List ℕ)) (m : Meta) (raw x : List ℕ) (was : Bool) (told : Meta) (kept : Bool) → IsOfText m → IsTextFile file (text_under m raw) → IsTextFile file x → Tells was x told kept → Back m was told kept
-told_back file m raw x false told kept h there here t =
-    let whole : x ≡ text_under m raw = one_text file x (text_under m raw) here there in
-    let entries : t.entries ≡ header_entries m = entries_same t.entries (header_entries m) (one_reading file x (text_under m raw) (dict t.entries) (header_tree m) here t.header there (has m raw h)).tree in
+told_back : (file : Option (List ℕ)) (m : Meta) (body x : List ℕ) (was : Bool) (told : Meta) (kept : Bool) → IsWithin (header_tree m) → IfSome m.assertion_line (λ n. n < 2 ^ 32) → IsTextFile file (image_of (header_tree m) body)
+    → IsTextFile file x → Tells was x told kept → Back m was told kept
+told_back file m body x false told kept w line there here t =
+    let text = image_of (header_tree m) body in
+    let whole : x ≡ text = one_text file x text here there in
+    let entries : t.entries ≡ header_entries m = entries_same t.entries (header_entries m) (one_reading file x text (dict t.entries) (header_tree m) here t.header there (has m body w)).tree in
     let kinds : t.kind ≡ m.kind = same_kind t.kind m.kind (sym t.kind_is ∙ ap kind_in entries ∙ kind_back m) in
     record {
       headed = refl;
-      metadata = t.meta_is ∙ ap (λ es. fields es t.kind) entries ∙ ap (fields (header_entries m)) kinds ∙ fields_back m h.line;
-      numbers = t.header.numbers.printed (header_tree m) (within m h) (record { blocks = off; text_is = ap header_of whole ∙ (under m raw h).header_is });
+      metadata = t.meta_is ∙ ap (λ es. fields es t.kind) entries ∙ ap (fields (header_entries m)) kinds ∙ fields_back m line;
+      numbers = t.header.numbers.printed (header_tree m) w (record { blocks = off; text_is = ap header_of whole ∙ (under m body w).header_is });
     }
-told_back file m raw x true told kept h there here t =
-    absurd (let e = sym (under m raw h).headed ∙ ap is_headed (one_text file (text_under m raw) x there here) ∙ t.unheaded in cc e)
+told_back file m body x true told kept w line there here t =
+    absurd (let e = sym (under m body w).headed ∙ ap is_headed (one_text file (image_of (header_tree m) body) x there here) ∙ t.unheaded in cc e)
 
 pub read-back : (file : Option (List ℕ)) (m : Meta) (raw : List ℕ) (snapshot : Snapshot) → IsOfText m → IsTextFile file (text_under m raw) → IsReadAs file snapshot → IsReadBack m raw snapshot
 read-back file m raw snapshot h there r =
-    let back = told_back file m raw r.text (legacy_in snapshot) (meta_in snapshot) (number_text_in snapshot) h there r.there r.metadata in
+    let back = told_back file m (lined_body raw) r.text (legacy_in snapshot) (meta_in snapshot) (number_text_in snapshot) (of_text m h) h.line there r.there r.metadata in
     let whole : r.text ≡ text_under m raw = one_text file r.text (text_under m raw) r.there there in
-    let body : body_of r.text ≡ normal raw = ap body_of whole ∙ (under m raw h).body_is ∙ normal-body raw in
+    let body : body_of r.text ≡ normal raw = ap body_of whole ∙ (under m (lined_body raw) (of_text m h)).body_is ∙ normal-body raw in
     let is_text : (meta_in snapshot).kind ≡ kind.Text = ap (λ x. x.kind) back.metadata ∙ h.kind in
     let P : SnapshotKind → Type 0 = λ k. HoldsBody k (body_of r.text) (contents_in snapshot) in
     let Q : List ℕ → Type 0 = λ x. HoldsBody kind.Text x (contents_in snapshot) in
     record {
       metadata = back.metadata;
       contents = subst Q body (subst P is_text r.contents);
+      headed = back.headed;
+      numbers = back.numbers;
+    }
+
+-- a binary is read back with what stands beside its file
+pub binary-back : (path extension payload : List ℕ) (m : Files) (meta : Meta) (snapshot : Snapshot) → IsOfBinary meta extension → IsTextFile (get m path) (image meta (contents.Binary (Some payload)))
+    → get m (sidecar_path path extension) ≡ Some payload → IsReadFrom path (Some m) (Ok snapshot) → IsBinaryBack meta payload snapshot
+binary-back path extension payload m meta snapshot h there stands r =
+    let w = within meta h.line h.info in
+    let read = r.comes_to in
+    let here : IsTextFile (get m path) read.text = subst (λ f. IsTextFile f read.text) (r.told m refl) read.there in
+    let back = told_back (get m path) meta [] read.text (legacy_in snapshot) (meta_in snapshot) (number_text_in snapshot) w h.line there here read.metadata in
+    let kinds : (meta_in snapshot).kind ≡ kind.Binary extension = ap (λ x. x.kind) back.metadata ∙ h.kind in
+    let P : SnapshotKind → Type 0 = λ k. HoldsBeside path m k (contents_in snapshot) in
+    record {
+      metadata = back.metadata;
+      contents = subst P kinds (r.beside m refl) ∙ ap contents.Binary stands;
       headed = back.headed;
       numbers = back.numbers;
     }
@@ -146,15 +179,15 @@ no-refusal path file m raw (NoFile named) h there r = absurd (no_text_file file 
 no-refusal path file m raw (NotText named) h there r = absurd (text_or_none file (text_under m raw) r.1 there)
 no-refusal path file m raw (FailedParsingYaml named) h there r =
     let P : List ℕ → Type 0 = λ x. HasHeader x (header_tree m) in
-    absurd (r.1.unspelled (header_tree m) (subst P (one_text file (text_under m raw) r.1.text there r.1.there) (has m raw h)))
+    absurd (r.1.unspelled (header_tree m) (subst P (one_text file (text_under m raw) r.1.text there r.1.there) (has_text m raw h)))
 no-refusal path file m raw UnexpectedDataType h there r =
-    absurd (r.other (header_entries m) (one_reading file r.text (text_under m raw) r.tree (header_tree m) r.there r.header there (has m raw h)).tree)
+    absurd (r.other (header_entries m) (one_reading file r.text (text_under m raw) r.tree (header_tree m) r.there r.header there (has_text m raw h)).tree)
 no-refusal path file m raw MissingField h there r =
-    let entries = entries_same r.entries (header_entries m) (one_reading file r.text (text_under m raw) (dict r.entries) (header_tree m) r.there r.header there (has m raw h)).tree in
+    let entries = entries_same r.entries (header_entries m) (one_reading file r.text (text_under m raw) (dict r.entries) (header_tree m) r.there r.header there (has_text m raw h)).tree in
     absurd (let e = sym r.lacking ∙ ap kind_in entries ∙ kind_back m in cc e)
 no-refusal path file m raw (FileIo named) h there (inl same) = inl (ap FileIo same)
 no-refusal path file m raw (FileIo named) h there (inr r) =
-    let entries = entries_same r.entries (header_entries m) (one_reading file r.text (text_under m raw) (dict r.entries) (header_tree m) r.there r.header there (has m raw h)).tree in
+    let entries = entries_same r.entries (header_entries m) (one_reading file r.text (text_under m raw) (dict r.entries) (header_tree m) r.there r.header there (has_text m raw h)).tree in
     absurd (let e = sym r.told ∙ ap kind_in entries ∙ kind_back m ∙ ap Some h.kind in cc e)
 no-refusal path file m raw (FloatText named) h there r = absurd r
 no-refusal path file m raw JsonKey h there r = absurd r

@@ -1,5 +1,6 @@
 //! Laws of snapshots.
-ghost use Rattle.std.specs.Prelude.{◌≡◌, ◌<◌, ◌^◌, ◌⊎◌, ℕ, List, Option, IfSome, true};
+ghost use Rattle.std.specs.Prelude.{◌≡◌, ◌<◌, ◌^◌, ◌⊎◌, ℕ, List, Option, Some, Ok, IfSome, true};
+ghost use Rattle.std.specs.FinMap.{get};
 ghost use Rattle.snap_content.specs.Plain.{Plain, plain};
 ghost use Rattle.snap_print.specs.Readable.{IsWithin};
 ghost use Rattle.snap_print.specs.Blocks.{Blocks};
@@ -7,11 +8,13 @@ ghost use Rattle.snap_print.specs.Lines.{text_of};
 ghost use Rattle.snap_print.specs.Printed.{is_trimmed};
 ghost use Rattle.snap_text.specs.Normal.{normal};
 ghost use Rattle.snap_store.specs.Agreement.{Agree};
-ghost use Rattle.snap_store.specs.Image.{file_of, saved_text, text_under};
+ghost use Rattle.snap_io.specs.Files.{Files};
+ghost use Rattle.snap_store.specs.Image.{file_of, saved_text, text_under, image};
 ghost use Rattle.snap_store.specs.Meta.{Meta, header_tree, without_line};
 ghost use Rattle.snap_store.specs.MetaTree.{TellsFields, meta_tree, without_nil_info};
-ghost use Rattle.snap_store.specs.ReadBack.{IsOfText, IsReadBack};
-ghost use Rattle.snap_store.specs.Reading.{IsTextFile, IsReadAs, IsRefused};
+ghost use Rattle.snap_store.specs.ReadBack.{IsOfText, IsReadBack, IsOfBinary, IsBinaryBack};
+ghost use Rattle.snap_store.specs.Reading.{IsTextFile, IsReadAs, IsReadFrom, IsRefused};
+ghost use Rattle.snap_store.specs.Saving.{sidecar_path};
 ghost use Rattle.snap_store.specs.declared.contents.SnapshotContents.{SnapshotContents};
 ghost use Rattle.snap_store.specs.declared.snapshot.Snapshot.{Snapshot};
 ghost use Rattle.snap_content.specs.declared.error.Error.{Error};
@@ -47,6 +50,22 @@ pub const fn saved_snapshots_are_read_back()
     ensures pending_refused { (path : List ℕ) (file : Option (List ℕ)) (meta : Meta) (raw : List ℕ)
         (e : Error) → IsOfText meta → IsTextFile file (text_under meta raw)
         → IsRefused path file e → (e ≡ Error.FileIo path) ⊎ (e ≡ Error.OutOfMemory) }
+{}
+
+/// What is saved of a binary snapshot is read back where the file and the payload beside it stand: as its metadata, by the same rule
+/// as those of a text, and as that payload.
+pub const fn saved_binaries_are_read_back()
+    ensures saved { (path extension payload : List ℕ) (m : Files) (meta : Meta)
+        (snapshot : Snapshot) → IsOfBinary meta extension
+        → IsTextFile (get m path) (image (without_line meta) (SnapshotContents.Binary (Some payload)))
+        → get m (sidecar_path path extension) ≡ Some payload
+        → IsReadFrom path (Some m) (Ok snapshot)
+        → IsBinaryBack (without_line meta) payload snapshot }
+    ensures pending { (path extension payload : List ℕ) (m : Files) (meta : Meta)
+        (snapshot : Snapshot) → IsOfBinary meta extension
+        → IsTextFile (get m path) (image meta (SnapshotContents.Binary (Some payload)))
+        → get m (sidecar_path path extension) ≡ Some payload
+        → IsReadFrom path (Some m) (Ok snapshot) → IsBinaryBack meta payload snapshot }
 {}
 
 /// The tree that metadata are made as tells them again, but for a nil info.
