@@ -40,7 +40,8 @@ fn text_contents(
     Ok(SnapshotContents::from_text(TextSnapshotContents::new(text, kind)))
 }
 
-fn contents_of(alloc: Global, column: &str) -> Result<SnapshotContents, OutOfMemory> {
+/// The contents of a column.
+pub(crate) fn contents_of(alloc: Global, column: &str) -> Result<SnapshotContents, OutOfMemory> {
     let (kind, held) = column.split_once('=').unwrap_or((column, ""));
     match kind {
         "text" => text_contents(alloc, held, TextSnapshotKind::File),

@@ -16,6 +16,7 @@ mod reading;
 mod relative;
 mod saving;
 mod shown;
+mod sidecars;
 mod trees;
 
 use crate::calls::called;

@@ -3,7 +3,7 @@ use crate::shown::{add_metadata, snapshot_into_line};
 use rows::{add_escaped, first_column, text_of};
 use rows_snapshots::bytes_of;
 use snap_content::{Error, OutOfMemory, Text};
-use snap_io::SteadyStore;
+use snap_io::{SteadyStore, Store};
 use snap_store::legacy::{legacy_metadata, legacy_text};
 use snap_store::split::{Headed, split_file};
 use snap_store::{MetaData, Snapshot};
@@ -45,7 +45,11 @@ pub(crate) fn legacy_line(alloc: Global, columns: &str) -> Result<Text, OutOfMem
 }
 
 /// The snapshot of a store's file.
-fn found_line(alloc: Global, store: &mut SteadyStore, path: &Text) -> Result<Text, Error> {
+pub(crate) fn found_line<S: Store>(
+    alloc: Global,
+    store: &mut S,
+    path: &Text,
+) -> Result<Text, Error> {
     Ok(snapshot_into_line(alloc, Snapshot::from_file(alloc, store, path)?)?)
 }
 

@@ -1,7 +1,4 @@
 //! Snapshots that are saved.
-ghost use Rattle.std.specs.Prelude.{IsSome};
-ghost use Rattle.snap_store.specs.Views.{contents_in, text_in};
-
 use rows::{add_escaped, add_file, first_column, text_of};
 use rows_snapshots::snapshot_of;
 use snap_content::{Error, OutOfMemory, Text};
@@ -20,9 +17,7 @@ fn stored_line(alloc: Global, store: &SteadyStore, path: &Text) -> Result<Text, 
     Ok(line)
 }
 
-fn saved(alloc: Global, path: &Text, snapshot: &Snapshot) -> Result<Text, Error>
-    requires { IsSome (text_in (contents_in snapshot.now)) }
-{
+fn saved(alloc: Global, path: &Text, snapshot: &Snapshot) -> Result<Text, Error> {
     let mut store = SteadyStore::new(alloc);
     saved_in(alloc, &mut store, path, snapshot)
 }
@@ -32,9 +27,7 @@ fn saved_in(
     store: &mut SteadyStore,
     path: &Text,
     snapshot: &Snapshot,
-) -> Result<Text, Error>
-    requires { IsSome (text_in (contents_in snapshot.now)) }
-{
+) -> Result<Text, Error> {
     snapshot.save(alloc, store, path)?;
     Ok(stored_line(alloc, store, path)?)
 }
@@ -47,9 +40,7 @@ pub(crate) fn save_line(alloc: Global, columns: &str) -> Result<Text, Error> {
     saved(alloc, &path, &snapshot)
 }
 
-fn saved_new(alloc: Global, path: &Text, snapshot: &Snapshot) -> Result<Text, Error>
-    requires { IsSome (text_in (contents_in snapshot.now)) }
-{
+fn saved_new(alloc: Global, path: &Text, snapshot: &Snapshot) -> Result<Text, Error> {
     let mut store = SteadyStore::new(alloc);
     saved_new_in(alloc, &mut store, path, snapshot)
 }
@@ -59,9 +50,7 @@ fn saved_new_in(
     store: &mut SteadyStore,
     path: &Text,
     snapshot: &Snapshot,
-) -> Result<Text, Error>
-    requires { IsSome (text_in (contents_in snapshot.now)) }
-{
+) -> Result<Text, Error> {
     let pending = snapshot.save_new(alloc, store, path)?;
     Ok(stored_line(alloc, store, &pending)?)
 }

@@ -1,7 +1,7 @@
 //! How metadata, snapshots and refusals stand on a line.
 use rows::add_escaped;
 use snap_content::{Content, Error, OutOfMemory, Text};
-use snap_store::{MetaData, Snapshot, SnapshotKind};
+use snap_store::{MetaData, Snapshot, SnapshotContents, SnapshotKind};
 use std::alloc::Global;
 use std::fmt::Display;
 
@@ -92,7 +92,7 @@ pub(crate) fn add_tree(alloc: Global, line: &mut Text, tree: &Content) -> Result
     }
 }
 
-/// Adds whether the snapshot's file had a header, its names, its metadata, and its text or that its contents are a payload.
+/// Adds whether the snapshot's file had a header, its names, its metadata, and its text or its payload.
 fn add_snapshot(alloc: Global, line: &mut Text, snapshot: &Snapshot) -> Result<(), OutOfMemory> {
     if snapshot.was_legacy() {
         line.push_ascii(alloc, "legacy\t")?;
@@ -101,10 +101,20 @@ fn add_snapshot(alloc: Global, line: &mut Text, snapshot: &Snapshot) -> Result<(
     add_field(alloc, line, "name", snapshot.snapshot_name())?;
     add_metadata(alloc, line, snapshot.metadata())?;
     line.push_ascii(alloc, "\t")?;
-    match snapshot.as_text() {
-        Some(text) => add_escaped(alloc, line, text.as_raw()),
-        None => line.push_ascii(alloc, "a payload"),
+    match snapshot.contents() {
+        SnapshotContents::Text(text) => add_escaped(alloc, line, text.as_raw()),
+        SnapshotContents::Binary(None) => line.push_ascii(alloc, "no payload"),
+        SnapshotContents::Binary(Some(payload)) => add_payload(alloc, line, payload.as_slice()),
     }
+}
+
+/// Adds the bytes of a payload, each after a blank.
+pub(crate) fn add_payload(alloc: Global, line: &mut Text, bytes: &[u8]) -> Result<(), OutOfMemory> {
+    line.push_ascii(alloc, "payload")?;
+    for byte in bytes {
+        add_number(alloc, line, " ", byte)?;
+    }
+    Ok(())
 }
 
 /// What metadata tell.
