@@ -1,6 +1,7 @@
 mod Prelude
 mod FileLines
 mod Ends
+mod LinesStand
 mod Records
 mod Refusals
 mod LastRun

@@ -1,15 +1,24 @@
 -- What saving records comes to.
-use Rattle.std.specs.Prelude.{◌≡◌, ℕ, Bool, true, false, List, [], ◌∷◌, Result, Ok, Err, encode_utf8_all}
+use Rattle.std.specs.Prelude.{◌≡◌, ℕ, Bool, true, false, List, [], ◌∷◌, Result, Ok, Err, encode_utf8_all, map}
 use Rattle.std.specs.FinMap.{insert, remove}
 use Rattle.std.specs.List.{flat_map}
 use Rattle.snap_content.specs.declared.error.Error.{Error}
 use Rattle.snap_content.specs.declared.error.Error.TheVariants.{FailedParsingYaml, UnexpectedDataType, MissingField, FileIo, FloatText, JsonKey, NotText, NoFile, OutOfMemory}
+use Rattle.snap_io.specs.Changes.{Change, appends, removes}
 use Rattle.snap_io.specs.Files.{Files}
 
 -- the file at the path is these lines, one after the other, and gone where there are none
 abbrev pub with_lines : Files → List ℕ → List (List ℕ) → Files
 with_lines m path [] = remove m path
 with_lines m path (line ∷ lines) = insert m path (flat_map encode_utf8_all (line ∷ lines))
+
+-- a line is added to the file
+abbrev pub adds : List ℕ → List ℕ → Change
+adds path line = appends path (encode_utf8_all line)
+
+-- the file is taken away, and then each line is added
+abbrev pub rewrites : List ℕ → List (List ℕ) → List Change
+rewrites path lines = removes path ∷ map (adds path) lines
 
 -- why records were not saved: `JsonKey` where a key is refused, or a fault, which names the path and is told only where none is
 abbrev pub SavingRefused : List ℕ → Bool → Error → Type 0

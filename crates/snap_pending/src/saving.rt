@@ -1,15 +1,16 @@
 //! Writing records to a file.
-ghost use Rattle.std.specs.Prelude.{◌≡◌, ◌++◌, ◌∷◌, [], IfOk, OnOk, OnErr, IsErrOf, encode_utf8_all, map};
+ghost use Rattle.std.specs.Prelude.{◌≡◌, ◌++◌, ◌∷◌, [], IfOk, OnOk, OnErr, IfErr, IsErrOf, encode_utf8_all, map};
 ghost use Rattle.std.specs.FinMap.{remove};
 ghost use Rattle.std.specs.List.{list_any};
 ghost use Rattle.snap_content.specs.declared.error.Error.TheVariants.{JsonKey};
 ghost use Rattle.snap_io.specs.Files.{SameBut, appended};
 ghost use Rattle.snap_io.specs.Outside.{Becomes, Given};
 ghost use Rattle.snap_io.specs.Causes.{Counted};
-ghost use Rattle.snap_store.specs.Causes.{is_file_fault, CallEnd};
+ghost use Rattle.snap_io.specs.StandsAfter.{StandsAfter};
+ghost use Rattle.snap_store.specs.Causes.{is_file_fault, named_by, CallEnd};
 ghost use Rattle.snap_pending.specs.Pending.{pending_of};
 ghost use Rattle.snap_pending.specs.Record.{is_refused, record_line};
-ghost use Rattle.snap_pending.specs.Saved.{with_lines, SavingEnd, PrintEnd};
+ghost use Rattle.snap_pending.specs.Saved.{with_lines, adds, rewrites, SavingEnd, PrintEnd};
 
 use crate::pending::PendingInlineSnapshot;
 use snap_content::{Error, OutOfMemory, Text};
@@ -27,6 +28,9 @@ impl PendingInlineSnapshot {
         ensures same { IsErrOf result JsonKey → S.files store.new ≡ S.files store.old }
         ensures unknown { OnErr result (Given (S.files store.old)
             (λ m. SameBut path.now m (S.files store.new))) }
+        ensures stopped { IfErr result (λ error. StandsAfter
+            (adds path.now (record_line (pending_of self.now)) ∷ []) (named_by error)
+            (S.files store.old) (S.files store.new)) }
         ensures cause { Counted is_file_fault (S.faults store.old) (S.faults store.new) result }
     {
         let line = self.record_line(alloc)?;
@@ -45,6 +49,8 @@ impl PendingInlineSnapshot {
             (λ m. appended m path.now (encode_utf8_all line.now))) }
         ensures unknown { OnErr result (Given (S.files store.old)
             (λ m. SameBut path.now m (S.files store.new))) }
+        ensures stopped { IfErr result (λ error. StandsAfter (adds path.now line.now ∷ [])
+            (named_by error) (S.files store.old) (S.files store.new)) }
         ensures error { CallEnd path.now result }
         ensures cause { Counted is_file_fault (S.faults store.old) (S.faults store.new) result }
     {
@@ -52,7 +58,8 @@ impl PendingInlineSnapshot {
     }
 
     /// Makes the file at the path the lines of these records, and takes it away where there are none. `JsonKey`, where a key
-    /// of a record is one that JSON refuses, changes nothing; after any other error only that file is unknown.
+    /// of a record is one that JSON refuses, changes nothing; after any other error only that file is unknown: it is as it was, or the
+    /// lines before the one in work stand in it.
     pub fn save_batch<S: Store>(
         alloc: Global,
         store: &mut S,
@@ -67,6 +74,9 @@ impl PendingInlineSnapshot {
         ensures same { IsErrOf result JsonKey → S.files store.new ≡ S.files store.old }
         ensures unknown { OnErr result (Given (S.files store.old)
             (λ m. SameBut path.now m (S.files store.new))) }
+        ensures stopped { IfErr result (λ error. StandsAfter (rewrites path.now
+            (map (λ pending. record_line (pending_of pending)) batch.now)) (named_by error)
+            (S.files store.old) (S.files store.new)) }
         ensures cause { Counted is_file_fault (S.faults store.old) (S.faults store.new) result }
     {
         let lines = line_texts(alloc, batch)?;
@@ -107,6 +117,8 @@ fn write_lines<S: Store>(
         (λ m. with_lines m path.now lines.now)) }
     ensures unknown { OnErr result (Given (S.files store.old)
         (λ m. SameBut path.now m (S.files store.new))) }
+    ensures stopped { IfErr result (λ error. StandsAfter (rewrites path.now lines.now) (named_by error)
+        (S.files store.old) (S.files store.new)) }
     ensures error { CallEnd path.now result }
     ensures cause { Counted is_file_fault (S.faults store.old) (S.faults store.new) result }
 {
