@@ -42,7 +42,7 @@ fn warning_name(warning: &Warning) -> &'static str {
 }
 
 /// The verdict, and the warnings in their order.
-fn outcome_line(alloc: Global, outcome: &Outcome) -> Result<Text, anyhow::Error> {
+pub(crate) fn outcome_line(alloc: Global, outcome: &Outcome) -> Result<Text, anyhow::Error> {
     let mut line = Text::from_str(alloc, verdict_name(outcome.verdict))?;
     for index in 0..outcome.warnings.len() {
         if let Some(warning) = outcome.warnings.get(index) {

@@ -9,6 +9,8 @@
 //!   with literal blocks or without.
 //! - `full`: a description, an info and a stored file, `-` where nothing is set. The answer is as for `judged`, where a full match is
 //!   required.
+//! - `text`: a mode with flags, a stored file, a name and a text, `-` for no file and for the name of the function. The answer is the verdict on
+//!   the text with its warnings, the path of its snapshot, the file there, and the pending one.
 //! - `new_settings`: what new settings say.
 //! - `settings`: what is done with new settings, a column each, as `settings` says. The answer is what became of each, and the file
 //!   that is saved of the tree `id: 42` with those settings.
@@ -34,6 +36,7 @@ mod places;
 mod sessions;
 mod settings;
 mod stored;
+mod texts;
 
 use crate::errors::error_line;
 use crate::full::full_line;
@@ -44,6 +47,7 @@ use crate::places::{path_line, place_line};
 use crate::sessions::{counted_line, session_line};
 use crate::settings::settings_line;
 use crate::stored::{depth_line, function_line, object_line};
+use crate::texts::text_line;
 use rows::{answer_rows, first_column};
 use snap_content::Text;
 use std::alloc::Global;
@@ -56,6 +60,7 @@ fn answer_case(alloc: Global, call: &str, columns: &str) -> Result<Text, anyhow:
         "judged" => judged_line(alloc, columns),
         "judged_text" => judged_text_line(alloc, columns),
         "full" => full_line(alloc, columns),
+        "text" => text_line(alloc, columns),
         "new_settings" => new_settings_line(alloc),
         "settings" => settings_line(alloc, columns),
         "function" => function_line(alloc, columns),

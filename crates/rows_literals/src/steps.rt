@@ -6,7 +6,8 @@
 use crate::answers::add_answer;
 use rows::{add_file, add_text_column, text_of};
 use snap_assert::{
-    AssertError, Config, DefaultComparator, Outcome, Place, Session, Settings, assert_literal,
+    AssertError, Config, DefaultComparator, InlineValue, Outcome, Place, Session, Settings,
+    SnapshotValue, assert_snapshot,
 };
 use snap_content::{Content, List, OutOfMemory, Pairs, Text};
 use snap_io::MemoryStore;
@@ -38,7 +39,8 @@ fn asserted(
     let reference = text_of(alloc, reference)?;
     let content = text_of(alloc, content)?;
     let place = place_in(alloc, function, line)?;
-    Ok(assert_literal(
+    let value = SnapshotValue::inline(InlineValue(reference), content);
+    Ok(assert_snapshot(
         alloc,
         session,
         store,
@@ -46,8 +48,7 @@ fn asserted(
         settings,
         &DefaultComparator,
         &place,
-        &reference,
-        content,
+        value,
     ))
 }
 

@@ -1,6 +1,11 @@
 -- What an assertion would answer, in turn: the name, the block, and the file.
 use Rattle.snap_assert.proofs.Prelude.{◌≡◌, ℕ, Bool, List, Option, None, Result, Ok, Err, refl, IfOk, ap, ◌∙◌, subst, Files, Assertion, asked_under, key_under, new_contents, SessionView, IsPrepared, IsJudged, Prepared, Asked, contents_in, AssertError, Judged}
 use Rattle.snap_io.specs.Outside.{Given, Becomes}
+use Rattle.snap_store.specs.declared.contents.SnapshotContents.{SnapshotContents}
+use Rattle.snap_assert_place.specs.Place.{PlaceView}
+use Rattle.snap_assert_settings.specs.Settings.{SettingsView}
+use Rattle.snap_assert.specs.Steps.{asked_for}
+use Rattle.snap_assert.specs.Subjects.{Subject, IsHeld}
 use Rattle.snap_assert.specs.Default.{default_relation}
 use Rattle.snap_assert.specs.Blocks.{keep_step}
 use Rattle.snap_assert.specs.Courses.{named_course, kept_course}
@@ -11,16 +16,20 @@ use Rattle.snap_assert.specs.Previews.{IsForeseen, IsPreviewed}
 use Rattle.snap_assert.specs.declared.preview.Preview.{Preview}
 
 -- what was prepared, and how the file was judged, as one answer
-pub foreseen : (fully : Bool) (result : Result Preview AssertError) (judged : Result Judged AssertError) (asked : Asked) (prepared : Prepared) (files : Option Files) → IsPrepared asked prepared
+pub foreseen : (fully : Bool) (result : Result Preview AssertError) (judged : Result Judged AssertError) (settings : SettingsView) (place : PlaceView) (name : List ℕ) (contents : SnapshotContents) (prepared : Prepared) (files : Option Files)
+    → ((subject : Subject) → IsHeld subject contents → IsPrepared (asked_for settings place name subject) prepared)
     → IfOk judged (λ j. (other : Asked) → IsPrepared other prepared → Given files (λ m. IsJudged (default_relation fully) other m j))
     → IfOk result (λ preview. preview.path ≡ prepared.path) → IfOk result (λ preview. contents_in preview.snapshot ≡ contents_in prepared.snapshot) → IfOk result (λ preview. judged ≡ Ok preview.judged)
-    → IfOk result (λ preview. IsForeseen fully asked preview files)
-foreseen fully (Ok preview) judged asked prepared files p compared path contents is = record {
-  path = path ∙ p.path;
-  contents = contents ∙ p.contents;
-  judged = (subst (λ r. IfOk r (λ j. (other : Asked) → IsPrepared other prepared → Given files (λ m. IsJudged (default_relation fully) other m j))) is compared) asked p;
-}
-foreseen fully (Err error) judged asked prepared files p compared path contents is = tt
+    → IfOk result (λ preview. (subject : Subject) → IsHeld subject contents → IsForeseen fully (asked_for settings place name subject) preview files)
+foreseen fully (Ok preview) judged settings place name held prepared files p compared path contents is = λ subject by.
+    let asked = asked_for settings place name subject in
+    let ready = p subject by in
+    record {
+      path = path ∙ ready.path;
+      contents = contents ∙ ready.held.contents_is;
+      judged = (subst (λ r. IfOk r (λ j. (other : Asked) → IsPrepared other prepared → Given files (λ m. IsJudged (default_relation fully) other m j))) is compared) asked ready;
+    }
+foreseen fully (Err error) judged settings place name held prepared files p compared path contents is = tt
 
 -- the name is taken, and the block goes along
 pub previewed : (fully : Bool) (a : Assertion) (preview : Preview) (files : Option Files) (s t s' : SessionView) (name : List ℕ) → name_step a.settings a.place a.given s ≡ Ok (record { name = name; session = t })

@@ -6,10 +6,10 @@ use Rattle.snap_fields.specs.Fields.{text_at}
 use Rattle.snap_store.specs.Fields.{is_binary, kind_in, binary_kind, fields}
 use Rattle.snap_store.specs.Meta.{legacy_meta}
 use Rattle.snap_store.specs.Views.{snapshot_of}
-use Rattle.snap_assert.specs.Assertions.{new_contents}
 use Rattle.snap_assert.specs.Default.{SameMeta, MatchFully, default_relation}
 use Rattle.snap_assert.specs.Prepared.{new_view}
-use Rattle.snap_assert.proofs.HeldTexts.{fresh, full_held, held_full, full_binary}
+use Rattle.snap_assert.specs.Subjects.{tree_with, file_text}
+use Rattle.snap_assert.proofs.HeldTexts.{full_held, held_full, full_binary}
 use Rattle.snap_store.specs.declared.metadata.SnapshotKind.TheVariants as kind
 use Rattle.snap_store.proofs.Readings.{one_text, no_text_file, text_or_none, one_reading, headed_or_not, entries_same}
 use Rattle.snap_assert.proofs.Saved.{against_saved, fully_saved}
@@ -97,13 +97,17 @@ refused_shut path file (FloatText named) h io memory = absurd h
 refused_shut path file JsonKey h io memory = absurd h
 refused_shut path file OutOfMemory h io memory = absurd (memory refl)
 
+-- what is asked of a tree
+abbrev pub with_tree : Asked → Blocks → Plain → Asked
+with_tree asked w tree = record asked { subject = tree_with w tree }
+
 -- a refusal of the file is no pass
-pub refused_no_pass : (fully : Bool) (asked : Asked) (path : List ℕ) (file : Option (List ℕ)) (error : Error) → is_trimmed asked.blocks ≡ true → IsRefused path file error
-    → ((named : List ℕ) → error ≡ FileIo named → ⊥) → (error ≡ OutOfMemory → ⊥) → Allowed fully asked false file
-refused_no_pass false asked path file error trimmed h io memory =
-    let s = refused_shut path file error h io memory in no_pass file asked.blocks asked.tree trimmed s.unheaded s.headed
-refused_no_pass true asked path file error trimmed h io memory =
-    let s = refused_shut path file error h io memory in no_full_pass file asked.meta asked.blocks asked.tree trimmed s.unheaded s.headed
+pub refused_no_pass : (fully : Bool) (asked : Asked) (w : Blocks) (tree : Plain) (path : List ℕ) (file : Option (List ℕ)) (error : Error) → is_trimmed w ≡ true → IsRefused path file error
+    → ((named : List ℕ) → error ≡ FileIo named → ⊥) → (error ≡ OutOfMemory → ⊥) → Allowed fully (with_tree asked w tree) false file
+refused_no_pass false asked w tree path file error trimmed h io memory =
+    let s = refused_shut path file error h io memory in no_pass file w tree trimmed s.unheaded s.headed
+refused_no_pass true asked w tree path file error trimmed h io memory =
+    let s = refused_shut path file error h io memory in no_full_pass file asked.meta w tree trimmed s.unheaded s.headed
 
 -- a file that was read: a text passes where the contents agree, and a payload never does
 pub record Compares (passed : Bool) (k : SnapshotKind) (old new : SnapshotContents) (printed : List ℕ) : Type 0 where
@@ -121,27 +125,27 @@ fresh_legacy k raw printed e file =
 
 held_agrees : (k : SnapshotKind) (body printed : List ℕ) (old new : SnapshotContents) → HoldsBody k body old → text_in new ≡ Some printed → IsFileText new → Agree old new
     → legacy body ≡ legacy printed
-held_agrees kind.Text body printed (Text held) (Text fresh) h e f a =
+held_agrees kind.Text body printed (Text held) (Text file_text) h e f a =
     sym (held_legacy (kind_of held) (raw_of held) body h.0 h.1)
-    ∙ files_older (kind_of held) (kind_of fresh) (raw_of held) (raw_of fresh) h.1 f a
-    ∙ fresh_legacy (kind_of fresh) (raw_of fresh) printed e f
+    ∙ files_older (kind_of held) (kind_of file_text) (raw_of held) (raw_of file_text) h.1 f a
+    ∙ fresh_legacy (kind_of file_text) (raw_of file_text) printed e f
 held_agrees kind.Text body printed (Text held) (Binary payload) h e f a = absurd a
 held_agrees kind.Text body printed (Binary payload) new h e f a = absurd h
 held_agrees (kind.Binary extension) body printed (Text held) new h e f a = absurd h
-held_agrees (kind.Binary extension) body printed (Binary payload) (Text fresh) h e f a = absurd a
+held_agrees (kind.Binary extension) body printed (Binary payload) (Text file_text) h e f a = absurd a
 held_agrees (kind.Binary extension) body printed (Binary payload) (Binary other) h e f a = absurd f
 
 agrees_held : (body printed : List ℕ) (old new : SnapshotContents) → HoldsBody kind.Text body old → text_in new ≡ Some printed → IsFileText new → legacy body ≡ legacy printed
     → Agree old new
-agrees_held body printed (Text held) (Text fresh) h e f n =
-    inr (held_legacy (kind_of held) (raw_of held) body h.0 h.1 ∙ n ∙ sym (fresh_legacy (kind_of fresh) (raw_of fresh) printed e f))
+agrees_held body printed (Text held) (Text file_text) h e f n =
+    inr (held_legacy (kind_of held) (raw_of held) body h.0 h.1 ∙ n ∙ sym (fresh_legacy (kind_of file_text) (raw_of file_text) printed e f))
 agrees_held body printed (Text held) (Binary payload) h e f n = absurd f
 agrees_held body printed (Binary payload) new h e f n = absurd h
 
 no_agreement : (k : SnapshotKind) (body printed : List ℕ) (old new : SnapshotContents) → (extension : List ℕ) → k ≡ kind.Binary extension → HoldsBody k body old → text_in new ≡ Some printed → Agree old new → ⊥
 no_agreement kind.Text body printed old new extension e h t a = cc
 no_agreement (kind.Binary x) body printed (Text held) new extension e h t a = h
-no_agreement (kind.Binary x) body printed (Binary payload) (Text fresh) extension e h t a = a
+no_agreement (kind.Binary x) body printed (Binary payload) (Text file_text) extension e h t a = a
 no_agreement (kind.Binary x) body printed (Binary payload) (Binary other) extension e h t a = cc t
 
 -- the kind of a header that says binary
@@ -227,7 +231,7 @@ told_legacy file true text meta told kept there t h = h.told_is ∙ ap legacy_me
 
 -- the text of a file passes fully where the body and the metadata match
 matches_all : (file : Option (List ℕ)) (w : Blocks) (tree : Plain) (snapshot : Snapshot) (told meta : Meta) (passed : Bool) (r : IsReadAs file snapshot)
-    → IsTrue passed ↔ MatchFully (contents_in snapshot) (fresh (text_of w tree)) (meta_in snapshot) meta → told ≡ meta_in snapshot → (meta_in snapshot).kind ≡ kind.Text
+    → IsTrue passed ↔ MatchFully (contents_in snapshot) (file_text (text_of w tree)) (meta_in snapshot) meta → told ≡ meta_in snapshot → (meta_in snapshot).kind ≡ kind.Text
     → (passed ≡ true) ↔ MatchesAll file told meta (text_of w tree)
 matches_all file w tree snapshot told meta passed r tells told_is text =
     let Holds : SnapshotKind → Type 0 = λ k. HoldsBody k (body_of r.text) (contents_in snapshot) in (
@@ -240,7 +244,7 @@ matches_all file w tree snapshot told meta passed r tells told_is text =
     )
 
 full_judged : (file : Option (List ℕ)) (meta : Meta) (w : Blocks) (tree : Plain) (snapshot : Snapshot) (passed : Bool) → is_trimmed w ≡ true → (r : IsReadAs file snapshot)
-    → IsTrue passed ↔ MatchFully (contents_in snapshot) (fresh (text_of w tree)) (meta_in snapshot) meta → MayFully passed file meta w tree
+    → IsTrue passed ↔ MatchFully (contents_in snapshot) (file_text (text_of w tree)) (meta_in snapshot) meta → MayFully passed file meta w tree
 full_judged file meta w tree snapshot passed trimmed r tells =
     let old = meta_in snapshot in
     let was = legacy_in snapshot in
@@ -265,9 +269,9 @@ full_judged file meta w tree snapshot passed trimmed r tells =
     }
 
 -- a text of a file against what the default comparator says of the snapshot that was read
-pub read_allowed : (fully : Bool) (asked : Asked) (file : Option (List ℕ)) (snapshot : Snapshot) (passed : Bool) → is_trimmed asked.blocks ≡ true → asked.meta.kind ≡ kind.Text
-    → IsReadAs file snapshot → IsTrue passed ↔ default_relation fully (snapshot_of snapshot) (new_view asked) → Allowed fully asked passed file
-read_allowed false asked file snapshot passed trimmed text r tells =
-    read_judged file asked.blocks asked.tree snapshot (new_contents asked) passed trimmed r
+pub read_allowed : (fully : Bool) (asked : Asked) (w : Blocks) (tree : Plain) (file : Option (List ℕ)) (snapshot : Snapshot) (passed : Bool) → is_trimmed w ≡ true → asked.meta.kind ≡ kind.Text
+    → IsReadAs file snapshot → IsTrue passed ↔ default_relation fully (snapshot_of snapshot) (new_view (with_tree asked w tree)) → Allowed fully (with_tree asked w tree) passed file
+read_allowed false asked w tree file snapshot passed trimmed text r tells =
+    read_judged file w tree snapshot (file_text (text_of w tree)) passed trimmed r
     (record { tells = (λ yes. ((tells.0 yes).0, (tells.0 yes).1 ∙ text), λ both. tells.1 (both.0, both.1 ∙ sym text)); printed_is = refl; in_file = refl })
-read_allowed true asked file snapshot passed trimmed text r tells = full_judged file asked.meta asked.blocks asked.tree snapshot passed trimmed r tells
+read_allowed true asked w tree file snapshot passed trimmed text r tells = full_judged file asked.meta w tree snapshot passed trimmed r tells

@@ -1,5 +1,5 @@
 -- What was seen of a file, and of what is asked.
-use Rattle.snap_assert.proofs.Prelude.{◌≡◌, ℕ, Bool, true, false, List, [], ◌∷◌, Option, Some, Result, Ok, Err, refl, sym, ap, ◌∙◌, subst, inl, inr, IfOk, get, is_trimmed, text_of, Error, FailedParsingYaml, UnexpectedDataType, MissingField, FileIo, FloatText, JsonKey, NotText, NoFile, OutOfMemory, Files, Agree, normal, body_of, Meta, IsTextFile, IsReadAs, IsReadFrom, IsRefused, Tells, meta_in, contents_in, legacy_in, number_text_in, Snapshot, Allowed, Asked, new_contents, AreWarnings, PassWarns, IsHeadedFile, IsNotUnderstood, IsPrepared, IsJudged, OlderAs, NoPass, RefusedEnd, IsCompared, SpeakOfOne, said_if, said, NamesOnly, AssertError, Judged, Prepared}
+use Rattle.snap_assert.proofs.Prelude.{◌≡◌, ℕ, Bool, true, false, List, [], ◌∷◌, Option, Some, Plain, Blocks, Result, Ok, Err, refl, sym, ap, ◌∙◌, subst, inl, inr, IfOk, get, is_trimmed, text_of, Error, FailedParsingYaml, UnexpectedDataType, MissingField, FileIo, FloatText, JsonKey, NotText, NoFile, OutOfMemory, Files, Agree, normal, body_of, Meta, IsTextFile, IsReadAs, IsReadFrom, IsRefused, Tells, meta_in, contents_in, legacy_in, number_text_in, Snapshot, Allowed, Asked, AreWarnings, PassWarns, IsHeadedFile, IsNotUnderstood, IsPrepared, IsJudged, OlderAs, NoPass, RefusedEnd, IsCompared, SpeakOfOne, said_if, said, NamesOnly, AssertError, Judged, Prepared}
 use Rattle.snap_content.specs.List.{items_of}
 use Rattle.snap_store.specs.Reading.{FileEnd}
 use Rattle.snap_store.specs.Views.{snapshot_of}
@@ -10,8 +10,9 @@ use Rattle.snap_assert.specs.Relations.{Relation}
 use Rattle.snap_assert.specs.declared.error.AssertError.TheVariants as stop
 use Rattle.snap_assert.specs.declared.outcome.Warning.{Warning}
 use Rattle.snap_assert.specs.declared.outcome.Warning.TheVariants.{Unreadable, LegacyContents}
-use Rattle.snap_assert.proofs.HeldTexts.{fresh, full_agrees, pass_matches, pass_differs}
-use Rattle.snap_assert.proofs.Judgements.{read_allowed, refused_no_pass}
+use Rattle.snap_assert.specs.Subjects.{file_text}
+use Rattle.snap_assert.proofs.HeldTexts.{full_agrees, pass_matches, pass_differs}
+use Rattle.snap_assert.proofs.Judgements.{with_tree, read_allowed, refused_no_pass}
 use Rattle.snap_store.proofs.Readings.{one_text}
 
 no_warning : (path : List ℕ) (file : Option (List ℕ)) (passed : Bool) (printed : List ℕ) (ws : List Warning) → ws ≡ [] → AreWarnings path file passed printed [] → AreWarnings path file passed printed ws
@@ -23,7 +24,7 @@ one_warning path file passed printed ws error one none h = let P : List Warning 
 
 -- what is said of a pass
 warned_pass : (file : Option (List ℕ)) (snapshot : Snapshot) (passed older : Bool) (printed : List ℕ) → IsReadAs file snapshot
-    → (passed ≡ true → Agree (contents_in snapshot) (fresh printed)) → OlderAs passed older (contents_in snapshot) (fresh printed)
+    → (passed ≡ true → Agree (contents_in snapshot) (file_text printed)) → OlderAs passed older (contents_in snapshot) (file_text printed)
     → PassWarns file passed printed (said_if older LegacyContents)
 warned_pass file snapshot passed false printed r agrees how = λ yes. record {
   whole = r.text;
@@ -50,23 +51,23 @@ warned_file path file false false false passed text printed meta there t h = inr
 warned_file path file false false true passed text printed meta there t h = inr (headed_file file text meta false there t, h)
 
 -- what the default comparator tells implies that the contents agree
-default_agrees : (fully : Bool) (asked : Asked) (snapshot : Snapshot) → default_relation fully (snapshot_of snapshot) (new_view asked) → Agree (contents_in snapshot) (new_contents asked)
-default_agrees false asked snapshot h = h.0
-default_agrees true asked snapshot h = full_agrees (contents_in snapshot) (text_of asked.blocks asked.tree) (meta_in snapshot) asked.meta h
+default_agrees : (fully : Bool) (asked : Asked) (w : Blocks) (tree : Plain) (snapshot : Snapshot) → default_relation fully (snapshot_of snapshot) (new_view (with_tree asked w tree)) → Agree (contents_in snapshot) (file_text (text_of w tree))
+default_agrees false asked w tree snapshot h = h.0
+default_agrees true asked w tree snapshot h = full_agrees (contents_in snapshot) (text_of w tree) (meta_in snapshot) asked.meta h
 
 -- by what was read, and how it was compared, it may pass
-pub judged_allowed : (fully : Bool) (asked : Asked) (file : Option (List ℕ)) (passed : Bool) (warnings : List Warning) → is_trimmed asked.blocks ≡ true → asked.meta.kind ≡ kind.Text
-    → IsPassedBy (default_relation fully) asked file passed warnings → Allowed fully asked passed file
-judged_allowed fully asked file passed warnings trimmed text j = by_read j.read j.end j.comes_to
+pub judged_allowed : (fully : Bool) (asked : Asked) (w : Blocks) (tree : Plain) (file : Option (List ℕ)) (passed : Bool) (warnings : List Warning) → is_trimmed w ≡ true → asked.meta.kind ≡ kind.Text
+    → IsPassedBy (default_relation fully) (with_tree asked w tree) file passed warnings → Allowed fully (with_tree asked w tree) passed file
+judged_allowed fully asked w tree file passed warnings trimmed text j = by_read j.read j.end j.comes_to
   where
     none : (error : Error) → IsRefused asked.path file error → ((named : List ℕ) → error ≡ FileIo named → ⊥) → (error ≡ OutOfMemory → ⊥) → passed ≡ false
-        → Allowed fully asked passed file
+        → Allowed fully (with_tree asked w tree) passed file
     none error h io memory e =
-        subst (λ b. Allowed fully asked b file) (sym e) (refused_no_pass fully asked asked.path file error trimmed h io memory)
+        subst (λ b. Allowed fully (with_tree asked w tree) b file) (sym e) (refused_no_pass fully asked w tree asked.path file error trimmed h io memory)
 
-    by_read : (read : Result Snapshot Error) → FileEnd asked.path file read → JudgedBy (default_relation fully) read (new_view asked) passed warnings
-        → Allowed fully asked passed file
-    by_read (Ok snapshot) r c = read_allowed fully asked file snapshot passed trimmed text r c.passes
+    by_read : (read : Result Snapshot Error) → FileEnd asked.path file read → JudgedBy (default_relation fully) read (new_view (with_tree asked w tree)) passed warnings
+        → Allowed fully (with_tree asked w tree) passed file
+    by_read (Ok snapshot) r c = read_allowed fully asked w tree file snapshot passed trimmed text r c.passes
     by_read (Err (NoFile named)) h c = none (NoFile named) h (λ n e. cc e) (λ e. cc e) c.0
     by_read (Err (NotText named)) h c = none (NotText named) h (λ n e. cc e) (λ e. cc e) c.0
     by_read (Err (FailedParsingYaml named)) h c = none (FailedParsingYaml named) h (λ n e. cc e) (λ e. cc e) c.0
@@ -78,21 +79,21 @@ judged_allowed fully asked file passed warnings trimmed text j = by_read j.read 
     by_read (Err JsonKey) h c = absurd c
 
 -- and this is said
-pub judged_warned : (fully : Bool) (asked : Asked) (file : Option (List ℕ)) (passed : Bool) (warnings : List Warning) → IsPassedBy (default_relation fully) asked file passed warnings
-    → AreWarnings asked.path file passed (text_of asked.blocks asked.tree) warnings
-judged_warned fully asked file passed warnings j = by_read j.read j.end j.comes_to
+pub judged_warned : (fully : Bool) (asked : Asked) (w : Blocks) (tree : Plain) (file : Option (List ℕ)) (passed : Bool) (warnings : List Warning) → IsPassedBy (default_relation fully) (with_tree asked w tree) file passed warnings
+    → AreWarnings asked.path file passed (text_of w tree) warnings
+judged_warned fully asked w tree file passed warnings j = by_read j.read j.end j.comes_to
   where
     printed : List ℕ
-    printed = text_of asked.blocks asked.tree
+    printed = text_of w tree
 
     one : (error : Error) → warnings ≡ Unreadable error ∷ [] → passed ≡ false → IsNotUnderstood asked.path file error
         → AreWarnings asked.path file passed printed warnings
     one error is none h = one_warning asked.path file passed printed warnings error is none h
 
-    by_read : (read : Result Snapshot Error) → FileEnd asked.path file read → JudgedBy (default_relation fully) read (new_view asked) passed warnings
+    by_read : (read : Result Snapshot Error) → FileEnd asked.path file read → JudgedBy (default_relation fully) read (new_view (with_tree asked w tree)) passed warnings
         → AreWarnings asked.path file passed printed warnings
     by_read (Ok snapshot) r c =
-        let pass = warned_pass file snapshot passed c.older printed r (λ yes. default_agrees fully asked snapshot (c.passes.0 yes)) c.older_is in
+        let pass = warned_pass file snapshot passed c.older printed r (λ yes. default_agrees fully asked w tree snapshot (c.passes.0 yes)) c.older_is in
         subst (λ ws. AreWarnings asked.path file passed printed ws) (sym c.said_is)
         (warned_file asked.path file (legacy_in snapshot) (number_text_in snapshot) c.older passed r.text printed (meta_in snapshot) r.there r.metadata pass)
     by_read (Err (NoFile named)) h c = no_warning asked.path file passed printed warnings c.1 (inl (h.1, refl))

@@ -1,37 +1,37 @@
 -- What an assertion leaves: each step, and what it keeps.
-use Rattle.snap_assert.proofs.Prelude.{◌≡◌, inl, inr, ℕ, Bool, true, ◌||◌, List, [], ◌∷◌, ◌++◌, Option, None, Some, Result, Ok, Err, refl, sym, ap, ◌∙◌, subst, codes, bytes_eq-Decides, encode_utf8_all, IsSome, insert, remove, bytes_eq, Plain, Blocks, off, text_of, document_of, normal, Files, SameBut, MayBeGone, text_under, saved_text, file_of, Meta, header_tree, without_line, meta_in, contents_in, text_in, Keeps, KeptBy, IsWrittenAlone, IsTakenAlone, IsOwn, FaultIsOwn, FaultIsAt, NamesOwn, NamesOnly, is_none, is_written, is_waiting, may_change, Asked, written, cleared, passed_files, is_stray, pending_path, AreStrays, AllStray, remove_each, is_among, FaultIsAmong, IsPrepared, Update, InPlace, NewFile, AssertError, Prepared, or_right}
+use Rattle.snap_assert.proofs.Prelude.{◌≡◌, inl, inr, ℕ, Bool, true, ◌||◌, List, [], ◌∷◌, ◌++◌, Option, None, Some, Result, Ok, Err, refl, sym, ap, ◌∙◌, subst, codes, bytes_eq-Decides, encode_utf8_all, IsSome, insert, remove, bytes_eq, off, document_of, Files, SameBut, MayBeGone, text_under, saved_text, Meta, header_tree, without_line, meta_in, contents_in, text_in, Keeps, KeptBy, IsWrittenAlone, IsTakenAlone, IsOwn, FaultIsOwn, FaultIsAt, NamesOwn, NamesOnly, is_none, is_written, is_waiting, may_change, Asked, written, cleared, passed_files, is_stray, pending_path, AreStrays, AllStray, remove_each, is_among, FaultIsAmong, IsPrepared, Update, InPlace, NewFile, AssertError, Prepared, or_right}
 use Rattle.std.specs.Result.{IsErrAnd}
-use Rattle.snap_text.proofs.NormalForms.{normal-printed}
 use Rattle.snap_assert.specs.declared.error.AssertError.TheVariants as refusal
 use Rattle.snap_assert.proofs.Keeping.{kept_same, kept_then, kept_but, kept_written, kept_gone, kept_in_place, kept_beside, kept_pending, kept_strays}
-use Rattle.snap_assert.proofs.Printing.{printed_text}
+use Rattle.snap_store.specs.declared.contents.SnapshotContents.{SnapshotContents}
+use Rattle.snap_assert.specs.Subjects.{Subject, IsHeld}
+use Rattle.snap_assert.specs.Steps.{image_bytes}
+use Rattle.snap_assert.proofs.Printing.{held_text}
 use Rattle.snap_assert.proofs.Removals.{strays_gone}
 
-printed_under : (meta : Meta) (w : Blocks) (p : Plain) → normal (text_of w p) ++ 10 ∷ [] ≡ text_of w p → text_under meta (text_of w p) ≡ file_of (header_tree meta) w p
-printed_under meta w p printed = ap (λ t. document_of off (header_tree meta) ++ (codes "---\n" ++ t)) printed
+-- the image of what is held
+held_image : (meta : Meta) (subject : Subject) (contents : SnapshotContents) (h : IsHeld subject contents) → encode_utf8_all (text_under meta h.raw) ≡ image_bytes meta subject
+held_image meta subject contents h = ap (λ t. encode_utf8_all (document_of off (header_tree meta) ++ (codes "---\n" ++ t))) h.saved
 
 -- the new snapshot is saved as the file of the step
 pub updated : (asked : Asked) (m : Files) (prepared : Prepared) (files files' : Option Files) → IsPrepared asked prepared → files ≡ Some m
     → ((n : Files) (raw : List ℕ) → files ≡ Some n → text_in (contents_in prepared.snapshot) ≡ Some raw → files' ≡ Some (insert n prepared.path (encode_utf8_all (saved_text (meta_in prepared.snapshot) raw))))
     → files' ≡ Some (written InPlace asked m)
 updated asked m prepared files files' p told saved =
-    saved m (text_of asked.blocks asked.tree) told (printed_text asked prepared p)
-    ∙ ap (λ q. Some (insert m q (encode_utf8_all (saved_text (meta_in prepared.snapshot) (text_of asked.blocks asked.tree))))) p.path
-    ∙ ap (λ t. Some (insert m asked.path (encode_utf8_all (saved_text t (text_of asked.blocks asked.tree))))) p.metadata
-    ∙ ap (λ t. Some (insert m asked.path (encode_utf8_all t))) (printed_under (without_line asked.meta) asked.blocks asked.tree (normal-printed asked.blocks asked.tree p.trimmed p.within))
+    saved m p.held.raw told (held_text asked.subject (contents_in prepared.snapshot) p.held)
+    ∙ ap (λ q. Some (insert m q (encode_utf8_all (saved_text (meta_in prepared.snapshot) p.held.raw)))) p.path
+    ∙ ap (λ t. Some (insert m asked.path (encode_utf8_all (saved_text t p.held.raw)))) p.metadata
+    ∙ ap (λ t. Some (insert m asked.path t)) (held_image (without_line asked.meta) asked.subject (contents_in prepared.snapshot) p.held)
 
 -- and as the pending snapshot, with the line of its assertion
 pub postponed : (asked : Asked) (m : Files) (prepared : Prepared) (files files' : Option Files) → IsPrepared asked prepared → files ≡ Some m
     → ((n : Files) (raw : List ℕ) → files ≡ Some n → text_in (contents_in prepared.snapshot) ≡ Some raw → files' ≡ Some (insert n (pending_path prepared.path) (encode_utf8_all (text_under (meta_in prepared.snapshot) raw))))
     → files' ≡ Some (written NewFile asked m)
 postponed asked m prepared files files' p told saved =
-    saved m (text_of asked.blocks asked.tree) told (printed_text asked prepared p)
-    ∙ ap (λ q. Some (insert m (pending_path q) (encode_utf8_all (text_under (meta_in prepared.snapshot) (text_of asked.blocks asked.tree))))) p.path
-    ∙ ap (λ t. Some (insert m (pending_path asked.path) (encode_utf8_all (text_under t (text_of asked.blocks asked.tree))))) p.metadata
-    ∙ ap (λ t. Some (insert m (pending_path asked.path) (encode_utf8_all t))) (printed_under asked.meta asked.blocks asked.tree (normal-printed asked.blocks asked.tree p.trimmed p.within))
-
-pub has_text : (asked : Asked) (prepared : Prepared) → IsPrepared asked prepared → IsSome (text_in (contents_in prepared.snapshot))
-has_text asked prepared p = subst IsSome (sym (printed_text asked prepared p)) refl
+    saved m p.held.raw told (held_text asked.subject (contents_in prepared.snapshot) p.held)
+    ∙ ap (λ q. Some (insert m (pending_path q) (encode_utf8_all (text_under (meta_in prepared.snapshot) p.held.raw)))) p.path
+    ∙ ap (λ t. Some (insert m (pending_path asked.path) (encode_utf8_all (text_under t p.held.raw)))) p.metadata
+    ∙ ap (λ t. Some (insert m (pending_path asked.path) t)) (held_image asked.meta asked.subject (contents_in prepared.snapshot) p.held)
 
 -- the files once the strays are gone
 pub cleared_is : (asked : Asked) (m : Files) (strays : List (List ℕ)) (files files' : Option Files) → files ≡ Some m → AreStrays asked.path m strays

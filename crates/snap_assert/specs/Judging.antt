@@ -14,6 +14,7 @@ use Rattle.snap_store.specs.Reading.{IsTextFile, HasHeader, IsNoText}
 use Rattle.snap_store.specs.declared.metadata.SnapshotKind.TheVariants.{Text}
 use Rattle.snap_assert.specs.Default.{SameMeta}
 use Rattle.snap_assert.specs.Steps.{Asked}
+use Rattle.snap_assert.specs.Subjects.{OfTree}
 
 -- the file's body agrees with the text
 pub record BodyAgrees (file : Option (List ℕ)) (printed : List ℕ) : Type 0 where
@@ -132,7 +133,7 @@ pub record MayFully (passed : Bool) (file : Option (List ℕ)) (meta : Meta) (w 
   -- against a file that was saved for a tree in the same way exactly where both trees are equal, and the metadata of its header match
   pub saved : (stored : Plain) (s : IsSavedFor file w stored) → IsWithin tree → (passed ≡ true) ↔ ((stored ≡ tree) × SameMeta (fields s.entries Text) meta)
 
--- whether what is asked may pass against the file, fully where that is asked
+-- whether the tree that is asked may pass against the file, fully where that is asked
 abbrev pub Allowed : Bool → Asked → Bool → Option (List ℕ) → Type 0
-Allowed true asked passed file = MayFully passed file asked.meta asked.blocks asked.tree
-Allowed false asked passed file = May passed file asked.blocks asked.tree
+Allowed true asked passed file = OfTree (λ w tree. MayFully passed file asked.meta w tree) asked.subject
+Allowed false asked passed file = OfTree (λ w tree. May passed file w tree) asked.subject

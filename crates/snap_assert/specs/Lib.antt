@@ -4,8 +4,9 @@ pub mod LiteralNames
 pub mod Blocks
 pub mod Relations
 pub mod Default
-pub mod Judging
+pub mod Subjects
 pub mod Steps
+pub mod Judging
 pub mod Kept
 pub mod Assertions
 pub mod Courses
@@ -20,3 +21,4 @@ pub mod Literals
 pub mod LiteralCourses
 pub mod LiteralOutcomes
 pub mod Previews
+pub mod Values

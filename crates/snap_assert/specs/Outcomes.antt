@@ -20,6 +20,7 @@ use Rattle.snap_assert.specs.Courses.{Course, Refused, course_of, cleared_at}
 use Rattle.snap_assert.specs.Names.{Named, name_step}
 use Rattle.snap_assert.specs.Session.{SessionView}
 use Rattle.snap_assert.specs.Steps.{Asked, step, verdict_of, is_failure}
+use Rattle.snap_assert.specs.Subjects.{OfTree}
 use Rattle.snap_assert_settings.specs.declared.config.Config.{Config}
 use Rattle.snap_assert.specs.declared.error.AssertError.{AssertError}
 use Rattle.snap_assert.specs.declared.error.AssertError.TheVariants.{FileIo, OutOfMemory}
@@ -92,7 +93,7 @@ pub record IsDone (config : Config) (asked : Asked) (outcome : Outcome) (files f
   pub fails : outcome.fails ≡ (is_failure outcome.verdict && not config.force_pass)
   pub allowed : Given files (λ m. Allowed config.require_full_match asked passed (get m asked.path))
   pub stands : Becomes files files' (λ m. step config.update config.force_update asked passed m)
-  pub warned : Given files (λ m. AreWarnings asked.path (get m asked.path) passed (text_of asked.blocks asked.tree) (items_of outcome.warnings))
+  pub warned : Given files (λ m. OfTree (λ w tree. AreWarnings asked.path (get m asked.path) passed (text_of w tree) (items_of outcome.warnings)) asked.subject)
   pub one : Given files (λ m. SpeakOfOne asked.path (get m asked.path) passed (items_of outcome.warnings))
 
 -- an assertion is answered: whatever the files are, it goes on under the name of its course, and what is remembered is that of the course

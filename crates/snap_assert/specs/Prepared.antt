@@ -2,10 +2,8 @@
 use Rattle.std.specs.Prelude.{◌≡◌, ◌⊎◌, ℕ, Bool, true, List, [], ◌∷◌, false, Option, Some, Result, Ok, Err}
 use Rattle.std.specs.FinMap.{get}
 use Rattle.snap_content.specs.List.{items_of}
-use Rattle.snap_print.specs.Readable.{IsWithin}
 use Rattle.snap_io.specs.Files.{Files}
 use Rattle.snap_path.specs.Paths.{parent_of}
-use Rattle.snap_print.specs.Printed.{is_trimmed}
 use Rattle.snap_text.specs.Contents.{legacy_of, MatchLatest}
 use Rattle.snap_text.specs.declared.contents.TextSnapshotContents.{TextSnapshotContents}
 use Rattle.snap_store.specs.declared.contents.SnapshotContents.{SnapshotContents}
@@ -18,6 +16,7 @@ use Rattle.snap_assert.specs.Assertions.{new_contents}
 use Rattle.snap_assert.specs.Relations.{Relation, PassesBy}
 use Rattle.snap_assert.specs.Session.{SessionView}
 use Rattle.snap_assert.specs.Steps.{Asked, pending_path, step}
+use Rattle.snap_assert.specs.Subjects.{IsHeld}
 use Rattle.snap_assert_settings.specs.declared.config.Config.{Config}
 use Rattle.snap_assert_place.specs.SnapshotPath.{IsFilePath}
 use Rattle.snap_assert.specs.Strays.{AreStrays}
@@ -43,15 +42,13 @@ new_view asked = record {
   number_as_text = false;
 }
 
--- the paths, and the new snapshot with the tree's text
+-- the paths, and the new snapshot with what is asserted
 pub record IsPrepared (asked : Asked) (prepared : Prepared) : Type 0 where
   pub path : prepared.path ≡ asked.path
   pub file_path : IsFilePath asked.path
   pub folder : prepared.folder ≡ parent_of asked.path
   pub pending : prepared.pending ≡ pending_path asked.path
-  pub contents : contents_in prepared.snapshot ≡ new_contents asked
-  pub trimmed : is_trimmed asked.blocks ≡ true
-  pub within : IsWithin asked.tree
+  pub held : IsHeld asked.subject (contents_in prepared.snapshot)
   pub metadata : meta_in prepared.snapshot ≡ asked.meta
   pub module_name : module_in prepared.snapshot ≡ asked.module_name
   pub name : name_in prepared.snapshot ≡ Some asked.name

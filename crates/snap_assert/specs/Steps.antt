@@ -1,43 +1,45 @@
 -- What one assertion leaves.
 use Rattle.std.specs.Prelude.{ℕ, Bool, true, false, not, List, ◌++◌, Option, None, Some, codes, if◌then◌else◌, encode_utf8_all}
 use Rattle.std.specs.FinMap.{insert, remove, retain_keys}
-use Rattle.snap_content.specs.Plain.{Plain, plain}
+use Rattle.snap_content.specs.Plain.{plain}
 use Rattle.snap_content.specs.Tree.{Tree}
 use Rattle.snap_io.specs.Files.{Files}
 use Rattle.snap_print.specs.Blocks.{Blocks}
 use Rattle.snap_store.specs.Meta.{Meta, header_tree, without_line}
 pub use Rattle.snap_store.specs.Image.{pending_path}
-use Rattle.snap_store.specs.Image.{file_of}
+use Rattle.snap_store.specs.Image.{image_of}
 use Rattle.snap_assert_settings.specs.Settings.{SettingsView}
 use Rattle.snap_path.specs.Names.{past_mark}
 use Rattle.snap_assert_place.specs.Place.{PlaceView, holds_slash}
 use Rattle.snap_assert_place.specs.SnapshotPath.{path_of, flat_module, new_meta}
 use Rattle.snap_assert_place.specs.Names.{suffixed}
+use Rattle.snap_assert.specs.Subjects.{Subject, tree_with, body_in}
 use Rattle.snap_assert_settings.specs.declared.config.Update.{Update}
 use Rattle.snap_assert_settings.specs.declared.config.Update.TheVariants.{InPlace, NewFile, NoUpdate}
 use Rattle.snap_assert.specs.declared.outcome.Verdict.{Verdict}
 use Rattle.snap_assert.specs.declared.outcome.Verdict.TheVariants.{Passed, Updated, Pending, Rejected}
 
--- what is asked of the files: a plain tree, printed with literal blocks or without, under metadata at a path, with the module and
--- the name that are kept with it
+-- what is asked of the files: a tree or a text, under metadata at a path, with the module and the name that are kept with it
 pub record Asked : Type 0 where
   pub path : List ℕ
   pub module_name : List ℕ
   pub name : List ℕ
   pub meta : Meta
-  pub blocks : Blocks
-  pub tree : Plain
+  pub subject : Subject
 
--- under a name with its suffix: the plain form of the tree that is printed is asked
-abbrev pub asked_as : Blocks → SettingsView → PlaceView → List ℕ → Tree → Asked
-asked_as blocks settings place name printed = record {
+-- under a name with its suffix
+abbrev pub asked_for : SettingsView → PlaceView → List ℕ → Subject → Asked
+asked_for settings place name subject = record {
   path = path_of settings place name;
   module_name = flat_module place.module_name;
   name = name;
   meta = new_meta settings place;
-  blocks = blocks;
-  tree = plain printed;
+  subject = subject;
 }
+
+-- the plain form of the tree that is printed is asked
+abbrev pub asked_as : Blocks → SettingsView → PlaceView → List ℕ → Tree → Asked
+asked_as blocks settings place name printed = asked_for settings place name (tree_with blocks (plain printed))
 
 -- under a given name, which gets the suffix of the settings
 abbrev pub asked_of : Blocks → SettingsView → PlaceView → List ℕ → Tree → Asked
@@ -63,10 +65,14 @@ is_stray path q = is_slashless (past_mark (stray_front path) q)
 abbrev pub cleared : List ℕ → Files → Files
 cleared path files = retain_keys files (λ q. not (is_stray path q))
 
--- what is written where the tree did not pass
+-- the file of a header and what is asserted, as its bytes; of a tree it is `file_of` the header and the tree
+abbrev pub image_bytes : Meta → Subject → List ℕ
+image_bytes meta subject = encode_utf8_all (image_of (header_tree meta) (body_in subject))
+
+-- what is written where it did not pass
 abbrev pub written : Update → Asked → Files → Files
-written InPlace asked files = insert files asked.path (encode_utf8_all (file_of (header_tree (without_line asked.meta)) asked.blocks asked.tree))
-written NewFile asked files = insert files (pending_path asked.path) (encode_utf8_all (file_of (header_tree asked.meta) asked.blocks asked.tree))
+written InPlace asked files = insert files asked.path (image_bytes (without_line asked.meta) asked.subject)
+written NewFile asked files = insert files (pending_path asked.path) (image_bytes asked.meta asked.subject)
 written NoUpdate asked files = files
 
 -- on a pass the pending snapshot goes

@@ -3,7 +3,7 @@ ghost use Rattle.std.specs.Prelude.{◌≡◌, ◌⊎◌, ◌&&◌, not, Ok, Err
 ghost use Rattle.snap_content.specs.Tree.{Tree};
 ghost use Rattle.snap_content.specs.View.{tree};
 ghost use Rattle.snap_assert.specs.Outcomes.{IsAnswered, IsStopped, IsUnprinted, AssertCause};
-ghost use Rattle.snap_assert.specs.Assertions.{assertion_of, key_under, new_contents};
+ghost use Rattle.snap_assert.specs.Assertions.{assertion_of, assertion_about, key_under, new_contents};
 ghost use Rattle.snap_assert.specs.Blocks.{keep_step};
 ghost use Rattle.snap_assert.specs.Kept.{KeptBy, NamesOwn};
 ghost use Rattle.snap_assert.specs.Listed.{IsCovered, IsKnown, StaysCovered};
@@ -19,7 +19,8 @@ ghost use Rattle.snap_store.specs.Views.{contents_in, text_in};
 ghost use Rattle.snap_assert.specs.Compared.{IsDoneBy, IsAnsweredBy};
 ghost use Rattle.snap_assert.specs.Relations.{asked_relation};
 ghost use Rattle.snap_assert.specs.Prepared.{IsPrepared, IsSettled, KeepStops};
-ghost use Rattle.snap_assert.specs.Steps.{Asked, asked_as, cleared, step, verdict_of, is_failure};
+ghost use Rattle.snap_assert.specs.Steps.{Asked, asked_for, cleared, step, verdict_of, is_failure};
+ghost use Rattle.snap_assert.specs.Subjects.{Subject, contents_of, IsHeld};
 ghost use Rattle.snap_assert.specs.declared.error.AssertError.{AssertError};
 
 use crate::comparator::Comparator;
@@ -31,7 +32,7 @@ use crate::listed::Listed;
 use crate::look::look_and_clear;
 use crate::names::take_name;
 use crate::outcome::{Outcome, Verdict};
-use crate::prepare::{Prepared, prepare};
+use crate::prepare::{Prepared, prepare, printed_contents};
 use crate::session::Session;
 use crate::settle::settle;
 use snap_assert_place::place::Place;
@@ -40,6 +41,7 @@ use snap_assert_settings::settings::Settings;
 use snap_content::{Content, Text};
 use snap_io::Store;
 use snap_select::Redactor;
+use snap_store::SnapshotContents;
 use std::alloc::Global;
 
 /// The verdict of an assertion.
@@ -153,7 +155,7 @@ fn assert_prepared<S: Store, C: Comparator>(
     Ok(judged)
 }
 
-/// Asserts the tree that is printed under the name that is taken, with all that is written printed before the store is touched.
+/// Asserts the contents under the name that is taken, with all that is written ready before the store is touched.
 fn assert_named<S: Store, C: Comparator>(
     alloc: Global,
     session: &mut Session,
@@ -164,36 +166,35 @@ fn assert_named<S: Store, C: Comparator>(
     settings: &Settings,
     place: &Place,
     name: &Text,
-    printed: &Content,
+    contents: SnapshotContents,
 ) -> Result<Outcome, AssertError>
-    ensures done { IfOk result (λ outcome. (known : Option Files)
-        → IsKnown known (S.files store.old) listed.old → IsDoneBy
+    requires { IsSome (text_in contents) }
+    ensures done { IfOk result (λ outcome. (subject : Subject) → IsHeld subject contents
+        → (known : Option Files) → IsKnown known (S.files store.old) listed.old → IsDoneBy
         (asked_relation (C.agrees comparator.now) (C.agrees_fully comparator.now)
         config.now.require_full_match) config.now
-        (asked_as (blocks_if config.now.literal) (settings_of settings.now) (place_of place.now)
-        name.now (tree printed.now)) outcome known (S.files store.new)) }
-    ensures covered { OnOk result (StaysCovered (S.files store.old) (S.files store.new) listed.old
-        listed.new) }
-    ensures remembered { OnOk result (keep_step (key_under (place_of place.now) name.now)
-        (new_contents (asked_as (blocks_if config.now.literal) (settings_of settings.now)
-        (place_of place.now) name.now (tree printed.now))) (session_of session.old)
+        (asked_for (settings_of settings.now) (place_of place.now) name.now subject) outcome
+        known (S.files store.new)) }
+    ensures covered { OnOk result ((subject : Subject) → IsHeld subject contents
+        → StaysCovered (S.files store.old) (S.files store.new) listed.old listed.new) }
+    ensures remembered { OnOk result ((subject : Subject) → IsHeld subject contents
+        → keep_step (key_under (place_of place.now) name.now) (contents_of subject)
+        (session_of session.old)
         ≡ Ok (session_of session.new)) }
-    ensures stopped { IfErr result (λ e. (known : Option Files)
-        → IsKnown known (S.files store.old) listed.old → KeepStops
+    ensures stopped { IfErr result (λ e. (subject : Subject) → IsHeld subject contents
+        → (known : Option Files) → IsKnown known (S.files store.old) listed.old → KeepStops
         (Becomes known (S.files store.new)
         (cleared (path_of (settings_of settings.now) (place_of place.now) name.now)))
-        (keep_step (key_under (place_of place.now) name.now)
-        (new_contents (asked_as (blocks_if config.now.literal) (settings_of settings.now)
-        (place_of place.now) name.now (tree printed.now))) (session_of session.old))
-        (session_of session.old) (session_of session.new) e) }
-    ensures kept { KeptBy config.now.update
+        (keep_step (key_under (place_of place.now) name.now) (contents_of subject)
+        (session_of session.old)) (session_of session.old) (session_of session.new) e) }
+    ensures kept { (subject : Subject) → IsHeld subject contents → KeptBy config.now.update
         (path_of (settings_of settings.now) (place_of place.now) name.now)
         (S.files store.old) (S.files store.new) }
-    ensures named { NamesOwn config.now.update
+    ensures named { (subject : Subject) → IsHeld subject contents → NamesOwn config.now.update
         (path_of (settings_of settings.now) (place_of place.now) name.now) result }
     ensures cause { AssertCause (S.faults store.old) (S.faults store.new) result }
 {
-    let prepared = prepare(alloc, settings, place, name, printed, config.literal)?;
+    let prepared = prepare(alloc, settings, place, name, contents)?;
     let judged = assert_prepared(
         alloc, session, listed, store, config, comparator, place, name, &prepared,
     );
@@ -208,8 +209,8 @@ fn assert_named<S: Store, C: Comparator>(
     })
 }
 
-/// Takes the name, and asserts the tree that is printed under it.
-fn assert_printed<S: Store, C: Comparator>(
+/// Takes the name, and asserts the contents under it.
+pub(crate) fn assert_contents<S: Store, C: Comparator>(
     alloc: Global,
     session: &mut Session,
     listed: &mut Listed,
@@ -219,28 +220,31 @@ fn assert_printed<S: Store, C: Comparator>(
     settings: &Settings,
     place: &Place,
     given: Option<&Text>,
-    printed: &Content,
+    contents: SnapshotContents,
 ) -> Result<Outcome, AssertError>
-    ensures answered { IfOk result (λ outcome. (known : Option Files)
-        → IsKnown known (S.files store.old) listed.old → IsAnsweredBy
+    requires { IsSome (text_in contents) }
+    ensures answered { IfOk result (λ outcome. (subject : Subject) → IsHeld subject contents
+        → (known : Option Files) → IsKnown known (S.files store.old) listed.old → IsAnsweredBy
         (asked_relation (C.agrees comparator.now) (C.agrees_fully comparator.now)
         config.now.require_full_match) config.now
-        (assertion_of (blocks_if config.now.literal) (settings_of settings.now)
-        (place_of place.now) (option_copied given.entry) (tree printed.now)) outcome
+        (assertion_about (settings_of settings.now) (place_of place.now)
+        (option_copied given.entry) subject) outcome
         known (S.files store.new) (session_of session.old) (session_of session.new)) }
-    ensures stopped { IfErr result (λ e. (known : Option Files)
-        → IsKnown known (S.files store.old) listed.old → IsStopped
-        (assertion_of (blocks_if config.now.literal) (settings_of settings.now)
-        (place_of place.now) (option_copied given.entry) (tree printed.now)) e
+    ensures stopped { IfErr result (λ e. (subject : Subject) → IsHeld subject contents
+        → (known : Option Files) → IsKnown known (S.files store.old) listed.old → IsStopped
+        (assertion_about (settings_of settings.now) (place_of place.now)
+        (option_copied given.entry) subject) e
         known (S.files store.new) (session_of session.old) (session_of session.new)) }
-    ensures covered { OnOk result (StaysCovered (S.files store.old) (S.files store.new) listed.old
-        listed.new) }
-    ensures kept { (named : Named) → name_step (settings_of settings.now) (place_of place.now)
+    ensures covered { OnOk result ((subject : Subject) → IsHeld subject contents
+        → StaysCovered (S.files store.old) (S.files store.new) listed.old listed.new) }
+    ensures kept { (subject : Subject) → IsHeld subject contents → (named : Named)
+        → name_step (settings_of settings.now) (place_of place.now)
         (option_copied given.entry) (session_of session.old) ≡ Ok named
         → KeptBy config.now.update
         (path_of (settings_of settings.now) (place_of place.now) named.name)
         (S.files store.old) (S.files store.new) }
-    ensures named { (named : Named) → name_step (settings_of settings.now) (place_of place.now)
+    ensures named { (subject : Subject) → IsHeld subject contents → (named : Named)
+        → name_step (settings_of settings.now) (place_of place.now)
         (option_copied given.entry) (session_of session.old) ≡ Ok named
         → NamesOwn config.now.update
         (path_of (settings_of settings.now) (place_of place.now) named.name) result }
@@ -249,12 +253,19 @@ fn assert_printed<S: Store, C: Comparator>(
         → store.new ≡ store.old }
     ensures cause { AssertCause (S.faults store.old) (S.faults store.new) result }
 {
-    let name = take_name(alloc, session, settings, place, given)?;
-    let outcome = assert_named(
-        alloc, session, listed, store, config, comparator, settings, place, &name, printed,
-    );
-    drop(name);
-    outcome
+    match take_name(alloc, session, settings, place, given) {
+        Ok(name) => {
+            let outcome = assert_named(
+                alloc, session, listed, store, config, comparator, settings, place, &name, contents,
+            );
+            drop(name);
+            outcome
+        }
+        Err(error) => {
+            drop(contents);
+            Err(error)
+        }
+    }
 }
 
 /// Asserts the tree by the comparator, as the settings print it.
@@ -303,14 +314,10 @@ pub(crate) fn assert_sorted<S: Store, C: Comparator>(
         → store.new ≡ store.old }
     ensures cause { AssertCause (S.faults store.old) (S.faults store.new) result }
 {
-    match settings.printed_tree(alloc, content) {
-        Ok(printed) => {
-            let outcome = assert_printed(
-                alloc, session, listed, store, config, comparator, settings, place, name, &printed,
-            );
-            drop(printed);
-            outcome
-        }
+    match printed_contents(alloc, settings, content, config.literal) {
+        Ok(contents) => assert_contents(
+            alloc, session, listed, store, config, comparator, settings, place, name, contents,
+        ),
         Err(_) => Err(AssertError::OutOfMemory),
     }
 }

@@ -3,8 +3,8 @@
 //! In the order in which data flows: `session` (what is remembered), `names` and `literal_names` (the name that is taken), `kept` (what
 //! an open block keeps), `duplicates` (a block round a closure), `comparator` and `default` with `same_metadata` (whether a new snapshot
 //! matches an old one), `prepare`, `judge`, `strays`, `listed` and `look` (what is there), `settle` and `removal` (what is left), `engine`
-//! and `by_comparator` (one assertion), `preview` (what one would answer); of literals `literals` (their snapshots), `record` (their records) and `literal` (one assertion); `outcome` and
-//! `error` (its answer), `laws`.
+//! and `by_comparator` (one assertion of a tree), `file` (one of a text), `preview` (what one would answer); of literals `literals` (their snapshots), `record` (their records) and `literal` (one assertion); `value` and `snapshot` (an
+//! assertion of any value); `outcome` and `error` (its answer), `laws`.
 #![tactic(auto)]
 
 pub mod by_comparator;
@@ -13,6 +13,7 @@ pub mod default;
 pub mod duplicates;
 pub mod engine;
 pub mod error;
+pub mod file;
 mod judge;
 mod kept;
 pub mod laws;
@@ -30,7 +31,9 @@ mod removal;
 mod same_metadata;
 pub mod session;
 mod settle;
+pub mod snapshot;
 mod strays;
+pub mod value;
 
 pub use by_comparator::assert_content_by;
 pub use comparator::Comparator;
@@ -38,6 +41,7 @@ pub use default::DefaultComparator;
 pub use duplicates::with_allow_duplicates;
 pub use engine::{assert_content, assert_listed};
 pub use error::{AssertError, DuplicateKey};
+pub use file::assert_file;
 pub use judge::Judged;
 pub use listed::Listed;
 pub use literal::assert_literal;
@@ -46,3 +50,5 @@ pub use preview::{Preview, preview_content};
 pub use session::Session;
 pub use snap_assert_place::{BadPlace, Place};
 pub use snap_assert_settings::{Config, Flags, Redactions, Settings, Update};
+pub use snapshot::assert_snapshot;
+pub use value::{AutoName, InlineValue, SnapshotValue};

@@ -1,15 +1,15 @@
 //! What is ready before anything is looked at.
 ghost use Rattle.std.specs.Prelude.{◌≡◌, false, Some, IfOk};
 ghost use Rattle.snap_content.specs.Plain.{plain};
-ghost use Rattle.snap_print.specs.Readable.{IsWithin};
+ghost use Rattle.snap_content.specs.Tree.{Tree};
 ghost use Rattle.snap_content.specs.View.{tree};
 ghost use Rattle.snap_print.specs.Blocks.{blocks_if};
-ghost use Rattle.snap_assert_settings.specs.Settings.{settings_of};
+ghost use Rattle.snap_assert_settings.specs.Settings.{settings_of, PrintsAs};
 ghost use Rattle.snap_assert_place.specs.Place.{place_of};
 ghost use Rattle.snap_store.specs.Views.{meta_in, module_in, name_in, contents_in, legacy_in, number_text_in};
 ghost use Rattle.snap_assert_place.specs.SnapshotPath.{flat_module, new_meta};
-ghost use Rattle.snap_assert.specs.Assertions.{new_contents};
-ghost use Rattle.snap_assert.specs.Steps.{asked_as};
+ghost use Rattle.snap_assert.specs.Steps.{asked_for};
+ghost use Rattle.snap_assert.specs.Subjects.{Subject, tree_with, file_text, IsHeld};
 ghost use Rattle.snap_assert.specs.Prepared.{IsPrepared};
 
 use snap_assert_place::metadata::new_metadata;
@@ -19,6 +19,7 @@ use snap_assert_settings::settings::Settings;
 use snap_content::{Content, OutOfMemory, Text};
 use snap_emit::body_to_string;
 use snap_path::path_parent;
+use snap_select::Redactor;
 use snap_store::{Snapshot, SnapshotContents};
 use snap_text::{TextSnapshotContents, TextSnapshotKind};
 use std::alloc::Global;
@@ -52,18 +53,38 @@ impl Prepared {
     }
 }
 
+/// The contents of a file for a text.
+pub fn file_contents(text: Text) -> SnapshotContents
+    ensures { result ≡ file_text text }
+{
+    SnapshotContents::from_text(TextSnapshotContents::new(text, TextSnapshotKind::File))
+}
+
+/// The contents of a file for the tree, as the settings print it, where `literal` is on with texts of several lines as literal blocks.
+pub fn printed_contents(
+    alloc: Global,
+    settings: &Settings,
+    content: Content,
+    literal: bool,
+) -> Result<SnapshotContents, OutOfMemory>
+    ensures { IfOk result (λ contents. (printed : Tree)
+        × PrintsAs (λ v. (⟦<dyn Redactor as Redactor>⟧ v).allows) settings.now (tree content) printed
+        × IsHeld (tree_with (blocks_if literal) (plain printed)) contents) }
+{
+    let printed = settings.printed_tree(alloc, content)?;
+    let text = body_to_string(alloc, &printed, literal);
+    drop(printed);
+    Ok(file_contents(text?))
+}
+
 fn new_snapshot(
     alloc: Global,
     settings: &Settings,
     place: &Place,
     name: &Text,
-    content: &Content,
-    literal: bool,
+    contents: SnapshotContents,
 ) -> Result<Snapshot, OutOfMemory>
-    ensures contents { IfOk result (λ snapshot. contents_in snapshot
-        ≡ new_contents (asked_as (blocks_if literal) (settings_of settings.now)
-        (place_of place.now) name.now (tree content.now))) }
-    ensures within { IfOk result (λ _. IsWithin (plain (tree content.now))) }
+    ensures contents { IfOk result (λ snapshot. contents_in snapshot ≡ contents) }
     ensures metadata { IfOk result (λ snapshot. meta_in snapshot
         ≡ new_meta (settings_of settings.now) (place_of place.now)) }
     ensures module_name { IfOk result (λ snapshot. module_in snapshot
@@ -72,38 +93,30 @@ fn new_snapshot(
     ensures legacy { IfOk result (λ snapshot. legacy_in snapshot ≡ false) }
     ensures number { IfOk result (λ snapshot. number_text_in snapshot ≡ false) }
 {
-    let text = body_to_string(alloc, content, literal)?;
     let module_name = module_text(alloc, place)?;
     let name = name.try_clone(alloc)?;
     let metadata = new_metadata(alloc, settings, place)?;
-    let contents = TextSnapshotContents::new(text, TextSnapshotKind::File);
-    Ok(Snapshot::from_components(
-        module_name,
-        Some(name),
-        metadata,
-        SnapshotContents::from_text(contents),
-    ))
+    Ok(Snapshot::from_components(module_name, Some(name), metadata, contents))
 }
 
-/// All that an assertion of the tree that is printed needs under the name that it takes: it is printed before anything is looked at, where `literal` is on with
-/// texts of several lines as literal blocks.
+/// All that an assertion of the contents needs under the name that it takes: it is ready before anything is looked at.
 pub fn prepare(
     alloc: Global,
     settings: &Settings,
     place: &Place,
     name: &Text,
-    printed: &Content,
-    literal: bool,
+    contents: SnapshotContents,
 ) -> Result<Prepared, OutOfMemory>
-    ensures { IfOk result (λ prepared. IsPrepared
-        (asked_as (blocks_if literal) (settings_of settings.now) (place_of place.now) name.now
-        (tree printed.now)) prepared) }
+    ensures prepared { IfOk result (λ prepared. (subject : Subject) → IsHeld subject contents
+        → IsPrepared
+        (asked_for (settings_of settings.now) (place_of place.now) name.now subject) prepared) }
+    ensures contents { IfOk result (λ prepared. contents_in prepared.snapshot ≡ contents) }
 {
     let path = snapshot_path(alloc, settings, place, name)?;
     let folder = path_parent(alloc, &path)?;
     let mut pending = path.try_clone(alloc)?;
     pending.push_ascii(alloc, ".new")?;
-    let snapshot = new_snapshot(alloc, settings, place, name, printed, literal)?;
+    let snapshot = new_snapshot(alloc, settings, place, name, contents)?;
     Ok(Prepared {
         path,
         folder,

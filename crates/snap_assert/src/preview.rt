@@ -5,14 +5,15 @@ ghost use Rattle.snap_content.specs.View.{tree};
 ghost use Rattle.snap_io.specs.Outside.{Given};
 ghost use Rattle.snap_print.specs.Blocks.{blocks_if};
 ghost use Rattle.snap_store.specs.Views.{contents_in};
-ghost use Rattle.snap_assert.specs.Assertions.{assertion_of, key_under, new_contents};
+ghost use Rattle.snap_assert.specs.Assertions.{assertion_of, assertion_about, key_under};
 ghost use Rattle.snap_assert.specs.Default.{default_relation};
 ghost use Rattle.snap_assert.specs.Blocks.{keep_step};
 ghost use Rattle.snap_assert.specs.Outcomes.{AssertCause, IsUnprinted};
 ghost use Rattle.snap_assert.specs.Prepared.{IsPrepared, IsJudged, KeepStops};
 ghost use Rattle.snap_assert.specs.Previews.{IsForeseen, IsPreviewed, IsStoppedBefore};
 ghost use Rattle.snap_assert.specs.Session.{session_of};
-ghost use Rattle.snap_assert.specs.Steps.{Asked, asked_as};
+ghost use Rattle.snap_assert.specs.Steps.{Asked, asked_for};
+ghost use Rattle.snap_assert.specs.Subjects.{Subject, contents_of, IsHeld};
 ghost use Rattle.snap_assert_settings.specs.Settings.{settings_of, PrintsAs};
 ghost use Rattle.snap_assert_place.specs.Place.{place_of};
 
@@ -21,7 +22,7 @@ use crate::error::AssertError;
 use crate::judge::{Judged, judge_file};
 use crate::kept::keep;
 use crate::names::take_name;
-use crate::prepare::{Prepared, prepare};
+use crate::prepare::{Prepared, prepare, printed_contents};
 use crate::session::Session;
 use snap_assert_place::place::Place;
 use snap_assert_settings::config::Config;
@@ -29,7 +30,7 @@ use snap_assert_settings::settings::Settings;
 use snap_content::{Content, Text};
 use snap_io::Store;
 use snap_select::Redactor;
-use snap_store::Snapshot;
+use snap_store::{Snapshot, SnapshotContents};
 use std::alloc::Global;
 
 /// What an assertion would answer.
@@ -101,7 +102,7 @@ fn keep_and_judge<S: Store>(
     judge_file(alloc, store, &DefaultComparator, fully, prepared)
 }
 
-/// What an assertion of the tree that is printed would answer under the name that is taken.
+/// What an assertion of the contents would answer under the name that is taken.
 fn preview_named<S: Store>(
     alloc: Global,
     session: &mut Session,
@@ -110,24 +111,24 @@ fn preview_named<S: Store>(
     settings: &Settings,
     place: &Place,
     name: &Text,
-    printed: &Content,
+    contents: SnapshotContents,
 ) -> Result<Preview, AssertError>
-    ensures foreseen { IfOk result (λ preview. IsForeseen config.now.require_full_match
-        (asked_as (blocks_if config.now.literal) (settings_of settings.now) (place_of place.now)
-        name.now (tree printed.now)) preview (S.files store.old)) }
-    ensures remembered { OnOk result (keep_step (key_under (place_of place.now) name.now)
-        (new_contents (asked_as (blocks_if config.now.literal) (settings_of settings.now)
-        (place_of place.now) name.now (tree printed.now))) (session_of session.old)
+    ensures foreseen { IfOk result (λ preview. (subject : Subject) → IsHeld subject contents
+        → IsForeseen config.now.require_full_match
+        (asked_for (settings_of settings.now) (place_of place.now) name.now subject) preview
+        (S.files store.old)) }
+    ensures remembered { OnOk result ((subject : Subject) → IsHeld subject contents
+        → keep_step (key_under (place_of place.now) name.now) (contents_of subject)
+        (session_of session.old)
         ≡ Ok (session_of session.new)) }
-    ensures stopped { IfErr result (λ e. KeepStops (Unit {0})
-        (keep_step (key_under (place_of place.now) name.now)
-        (new_contents (asked_as (blocks_if config.now.literal) (settings_of settings.now)
-        (place_of place.now) name.now (tree printed.now))) (session_of session.old))
-        (session_of session.old) (session_of session.new) e) }
+    ensures stopped { IfErr result (λ e. (subject : Subject) → IsHeld subject contents
+        → KeepStops (Unit {0})
+        (keep_step (key_under (place_of place.now) name.now) (contents_of subject)
+        (session_of session.old)) (session_of session.old) (session_of session.new) e) }
     ensures same { S.files store.new ≡ S.files store.old }
     ensures cause { AssertCause (S.faults store.old) (S.faults store.new) result }
 {
-    let prepared = prepare(alloc, settings, place, name, printed, config.literal)?;
+    let prepared = prepare(alloc, settings, place, name, contents)?;
     let judged = keep_and_judge(
         alloc,
         session,
@@ -140,8 +141,8 @@ fn preview_named<S: Store>(
     preview_of(prepared, judged)
 }
 
-/// Takes the name, and tells what an assertion of the tree that is printed would answer under it.
-fn preview_printed<S: Store>(
+/// Takes the name, and tells what an assertion of the contents would answer under it.
+fn preview_contents<S: Store>(
     alloc: Global,
     session: &mut Session,
     store: &mut S,
@@ -149,25 +150,34 @@ fn preview_printed<S: Store>(
     settings: &Settings,
     place: &Place,
     given: Option<&Text>,
-    printed: &Content,
+    contents: SnapshotContents,
 ) -> Result<Preview, AssertError>
-    ensures previewed { IfOk result (λ preview. IsPreviewed config.now.require_full_match
-        (assertion_of (blocks_if config.now.literal) (settings_of settings.now)
-        (place_of place.now) (option_copied given.entry) (tree printed.now)) preview
+    ensures previewed { IfOk result (λ preview. (subject : Subject) → IsHeld subject contents
+        → IsPreviewed config.now.require_full_match
+        (assertion_about (settings_of settings.now) (place_of place.now)
+        (option_copied given.entry) subject) preview
         (S.files store.old) (session_of session.old) (session_of session.new)) }
-    ensures stopped { IfErr result (λ e. IsStoppedBefore
-        (assertion_of (blocks_if config.now.literal) (settings_of settings.now)
-        (place_of place.now) (option_copied given.entry) (tree printed.now)) e
+    ensures stopped { IfErr result (λ e. (subject : Subject) → IsHeld subject contents
+        → IsStoppedBefore
+        (assertion_about (settings_of settings.now) (place_of place.now)
+        (option_copied given.entry) subject) e
         (session_of session.old) (session_of session.new)) }
     ensures same { S.files store.new ≡ S.files store.old }
     ensures cause { AssertCause (S.faults store.old) (S.faults store.new) result }
 {
-    let name = take_name(alloc, session, settings, place, given)?;
-    let preview = preview_named(
-        alloc, session, store, config, settings, place, &name, printed,
-    );
-    drop(name);
-    preview
+    match take_name(alloc, session, settings, place, given) {
+        Ok(name) => {
+            let preview = preview_named(
+                alloc, session, store, config, settings, place, &name, contents,
+            );
+            drop(name);
+            preview
+        }
+        Err(error) => {
+            drop(contents);
+            Err(error)
+        }
+    }
 }
 
 /// Tells what `assert_content` would answer, and remembers what it would: the name is taken, an open block is asked, and the file is read and
@@ -197,14 +207,10 @@ pub fn preview_content<S: Store>(
     ensures same { S.files store.new ≡ S.files store.old }
     ensures cause { AssertCause (S.faults store.old) (S.faults store.new) result }
 {
-    match settings.printed_tree(alloc, content) {
-        Ok(printed) => {
-            let preview = preview_printed(
-                alloc, session, store, config, settings, place, name, &printed,
-            );
-            drop(printed);
-            preview
-        }
+    match printed_contents(alloc, settings, content, config.literal) {
+        Ok(contents) => preview_contents(
+            alloc, session, store, config, settings, place, name, contents,
+        ),
         Err(_) => Err(AssertError::OutOfMemory),
     }
 }

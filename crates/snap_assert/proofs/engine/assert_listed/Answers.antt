@@ -1,4 +1,4 @@
-use Rattle.snap_assert.proofs.Prelude.{IfOk-weaker, settings_of, place_of, blocks_if, assertion_of}
+use Rattle.snap_assert.proofs.Prelude.{IfOk-weaker, settings_of, place_of, blocks_if}
 use Rattle.std.specs.Option.{option_copied}
 use Rattle.snap_assert.specs.Session.{session_of}
 use Rattle.snap_assert.proofs.Answering.{default_answered}
@@ -10,6 +10,6 @@ returns-clause-answered g c = IfOk-weaker c.assert_sorted.result _ _ (λ outcome
   h.0,
   h.1,
   λ known held. default_answered c.args.config.now
-      (assertion_of (blocks_if c.args.config.now.literal) (settings_of c.args.settings.now) (place_of c.args.place.now) (option_copied c.args.name) h.0)
+      (blocks_if c.args.config.now.literal) (settings_of c.args.settings.now) (place_of c.args.place.now) (option_copied c.args.name) h.0
       outcome known _ (session_of c.args.session.now) _ (trimmed-if c.args.config.now.literal) (h.2 known held),
 )) c.assert_sorted.ensures.answered

@@ -28,7 +28,7 @@ returns-in_err-keep_and_settle-clause-stopped g c =
     let told = err_from_is_err_and c.from_residual-in_err-keep_and_settle.result c.from_residual-in_err-keep_and_settle.ensures.1 in
     rw (told.1, told.2) (λ asked prepared known held. stops_as _ _ _ _ _ _ c.in_err-keep_and_settle.field-0.0
     (λ same m is. same ∙ c.in_ok-judged.ensures.cleared asked prepared m (held m is).0 (held m is).1)
-    (ap (λ contents. keep_step (key_under (place_of c.args.place.now) c.args.name.now) contents (session_of c.args.session.now)) prepared.contents)
+    (ap (λ contents. keep_step (key_under (place_of c.args.place.now) c.args.name.now) contents (session_of c.args.session.now)) prepared.held.contents_is)
     c.in_err-keep_and_settle.ensures.stopped)
 
 pub returns-in_err-keep_and_settle-clause-kept : goal.returns-in_err-keep_and_settle-clause-kept
@@ -45,7 +45,7 @@ returns-clause-kept g c = λ asked prepared.
 
 pub returns-clause-remembered : goal.returns-clause-remembered
 returns-clause-remembered g c = λ asked prepared.
-    sym (ap (λ contents. keep_step (key_under (place_of c.args.place.now) c.args.name.now) contents (session_of c.args.session.now)) prepared.contents)
+    sym (ap (λ contents. keep_step (key_under (place_of c.args.place.now) c.args.name.now) contents (session_of c.args.session.now)) prepared.held.contents_is)
     ∙ c.in_ok-keep_and_settle.ensures.remembered
 
 pub returns-clause-settled : goal.returns-clause-settled

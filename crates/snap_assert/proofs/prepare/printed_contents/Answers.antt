@@ -1,0 +1,12 @@
+use Rattle.snap_assert.proofs.Prelude.{blocks_if}
+use Rattle.snap_content.specs.Plain.{plain}
+use Rattle.snap_content.specs.View.{tree}
+use Rattle.snap_assert.proofs.Printing.{tree_held}
+use Rattle.snap_assert.proofs.prepare.printed_contents.Goals as goal
+
+pub returns : goal.returns
+returns g c = (
+  tree c.in_ok-printed.printed,
+  c.in_ok-printed.ensures.printed,
+  tree_held c.args.literal (plain (tree c.in_ok-printed.printed)) c.file_contents.result _ c.file_contents.ensures c.in_ok-text.ensures.printed c.in_ok-text.ensures.within,
+)
