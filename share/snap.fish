@@ -15,6 +15,7 @@ end
 
 complete -c snap -f
 complete -c snap -n '__snap_at 1' -a run -d 'Compare the values on standard input'
+complete -c snap -n '__snap_at 1' -a demo -d 'Run requests of its own twice'
 complete -c snap -n '__snap_at 1' -l help -d 'Say which words snap takes'
 complete -c snap -n '__snap_at 1' -l version -d 'Say its version'
 complete -c snap -n '__snap_at 2' -a inplace -d 'Write what does not pass as approved'

@@ -3,7 +3,7 @@
 _snap() {
   local -a flags given
   if (( CURRENT == 2 )); then
-    compadd -- run --help --version
+    compadd -- run demo --help --version
   elif [[ $words[2] != run ]]; then
     return 1
   elif (( CURRENT == 3 )); then

@@ -6,8 +6,8 @@ use snap_io::Store;
 use snap_run::Status;
 use std::alloc::Global;
 
-/// The folder of every file of the rows.
-const FOLDER: &str = "w/src/snapshots";
+/// The folders of the files of the rows: those of runs, and those of demonstrations.
+const FOLDERS: [&str; 2] = ["w/src/snapshots", "demo/src/d0/snapshots"];
 
 /// Adds how a run ended, what is said of it, and what was written.
 pub(crate) fn add_ending(
@@ -23,16 +23,29 @@ pub(crate) fn add_ending(
     Ok(())
 }
 
-/// Adds the path and the bytes of each file of the folder.
+/// Adds the path and the bytes of each file of the folders.
 pub(crate) fn add_files<F: Store>(
     alloc: Global,
     line: &mut Text,
     store: &mut F,
 ) -> Result<(), anyhow::Error> {
-    let folder = Text::from_str(alloc, FOLDER)?;
-    let names = store.list(alloc, &folder)?;
+    for folder in FOLDERS {
+        add_files_in(alloc, line, store, folder)?;
+    }
+    Ok(())
+}
+
+/// The same of one folder.
+fn add_files_in<F: Store>(
+    alloc: Global,
+    line: &mut Text,
+    store: &mut F,
+    folder: &str,
+) -> Result<(), anyhow::Error> {
+    let path = Text::from_str(alloc, folder)?;
+    let names = store.list(alloc, &path)?;
     for name in names.as_slice() {
-        add_named_file(alloc, line, store, name)?;
+        add_named_file(alloc, line, store, folder, name)?;
     }
     Ok(())
 }
@@ -42,9 +55,10 @@ fn add_named_file<F: Store>(
     alloc: Global,
     line: &mut Text,
     store: &mut F,
+    folder: &str,
     name: &Text,
 ) -> Result<(), anyhow::Error> {
-    let path = format!(in alloc; "{FOLDER}/{}", name.as_str())?;
+    let path = format!(in alloc; "{folder}/{}", name.as_str())?;
     add_file(alloc, line, store, path.as_str())
 }
 

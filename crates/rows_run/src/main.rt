@@ -6,6 +6,7 @@
 //!   the sink fail where the second column says so. The answer is the exit status, what the status says and the lines that were
 //!   written, of each run; how often the store failed; and how many files there are then, each with its path and its bytes.
 //! - `steady`: the same over forms that never fail, whose answer counts no faults.
+//! - `ends`: the same as `steady`, without the paths and the bytes of the files.
 //! - `long`: the words, and of how many line ends the input is. The answer ends with how many of them were not read.
 //! - `request`: a document, and whether it is a request. Else the answer is why it is none: what is wrong with its text, its tree, a key
 //!   (`unknown` has the place of its pair, counted from 0) or a redaction, whose place in the list comes first.
@@ -30,7 +31,7 @@ use crate::faulty::run_line;
 use crate::long::long_line;
 use crate::requests::request_line;
 use crate::statuses::{conclude_line, status_line};
-use crate::steady::steady_line;
+use crate::steady::{ends_line, steady_line};
 use crate::usage::{usage_length_line, usage_line};
 use rows::{answer_rows, first_column};
 use snap_content::Text;
@@ -41,6 +42,7 @@ fn answer_case(alloc: Global, call: &str, columns: &str) -> Result<Text, anyhow:
     match call {
         "run" => run_line(alloc, columns),
         "steady" => steady_line(alloc, columns),
+        "ends" => ends_line(alloc, columns),
         "long" => long_line(alloc, columns),
         "request" => request_line(alloc, columns),
         "status" => status_line(alloc, columns),

@@ -35,9 +35,27 @@ fn add_run(
 pub(crate) fn steady_line(alloc: Global, columns: &str) -> Result<Text, anyhow::Error> {
     let case = case_of(columns);
     let mut store = store_of(alloc, case)?;
+    files_line(alloc, case, &mut store)
+}
+
+/// The same without the files.
+pub(crate) fn ends_line(alloc: Global, columns: &str) -> Result<Text, anyhow::Error> {
+    let case = case_of(columns);
+    let mut store = store_of(alloc, case)?;
     runs_line(alloc, case, &mut store)
 }
 
+fn files_line(
+    alloc: Global,
+    case: Case<'_>,
+    store: &mut SteadyStore,
+) -> Result<Text, anyhow::Error> {
+    let mut line = runs_line(alloc, case, store)?;
+    add_files(alloc, &mut line, store)?;
+    Ok(line)
+}
+
+/// How the runs ended, and how many files there are then.
 fn runs_line(
     alloc: Global,
     case: Case<'_>,
@@ -48,6 +66,5 @@ fn runs_line(
         add_run(alloc, &mut line, case, store)?;
     }
     add_number_column(alloc, &mut line, "files", store.len() as u64)?;
-    add_files(alloc, &mut line, store)?;
     Ok(line)
 }

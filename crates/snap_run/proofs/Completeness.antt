@@ -1,5 +1,5 @@
 -- A run without faults over spelled requests ends well.
-use Rattle.snap_run.proofs.Prelude.{◌≡◌, ℕ, List, [], ◌∷◌, ◌++◌, length, ◌+◌, inl, inr, sym, ap, ◌∙◌, subst, arith, Rose, Outside, RequestView, RunWords, SessionView, empty_session, asserts, requests_of, is_taken, remembered_by, remembered_after, Reads, StopsAt, status_at, RunsTo, AreSpelled, IsSteady, EndsWell, DocumentError, Status, AllPassed, SomeFailed, BadWords, BadRequest, Refused, ReadFault, OutOfMemory, InputTooLong}
+use Rattle.snap_run.proofs.Prelude.{◌≡◌, ℕ, List, [], ◌∷◌, ◌++◌, length, ◌+◌, inl, inr, sym, ap, ◌∙◌, subst, arith, Rose, Outside, RequestView, RunWords, SessionView, empty_session, asserts, requests_of, is_taken, remembered_by, remembered_after, Reads, StopsAt, Stopped, status_at, RunsTo, AreSpelled, IsSteady, EndsWell, DocumentError, Status, AllPassed, SomeFailed, BadWords, BadRequest, Refused, ReadFault, OutOfMemory, InputTooLong}
 use Rattle.std.specs.Prelude.{refl, is_ok}
 use Rattle.snap_run_requests.proofs.Requesting.{only_spelled}
 use Rattle.snap_run.specs.Status.{SpellsTaken, one_more}
@@ -40,20 +40,28 @@ not_refused words (error.FileIo p) n k kind d s a b e h t = cc
 not_refused words error.WriteFault n k kind d s a b e h t = cc
 not_refused words error.OutOfMemory n k kind d s a b e h t = cc
 
+-- a run over spelled documents stops at none that is no request, and at none that is refused
+
+pub never_bad : (n : ℕ) (said : RunWords) (docs : List (List ℕ)) (before after : Outside) → AreSpelled said docs empty_session → Stopped (BadRequest n) said docs empty_session before after → ⊥
+never_bad n said docs before after spelled run =
+    let at = spelled_at said run.done run.document run.later (requests_of run.answers) empty_session (subst (λ ds. AreSpelled said ds empty_session) run.cut spelled) run.ran.reads in
+    no_request said run.error (length run.done + 1) n run.document run.remembered run.between after run.status_is run.stops (subst (SpellsTaken said run.document) (sym run.ran.remembered) at)
+
+pub never_refused : (n : ℕ) (kind : RefusalKind) (said : RunWords) (docs : List (List ℕ)) (before after : Outside) → AreSpelled said docs empty_session → Stopped (Refused n kind) said docs empty_session before after → ⊥
+never_refused n kind said docs before after spelled run =
+    let at = spelled_at said run.done run.document run.later (requests_of run.answers) empty_session (subst (λ ds. AreSpelled said ds empty_session) run.cut spelled) run.ran.reads in
+    not_refused said run.error (length run.done + 1) n kind run.document run.remembered run.between after run.status_is run.stops (subst (SpellsTaken said run.document) (sym run.ran.remembered) at)
+
 -- what no fault leaves of the statuses
 pub ends_well : (status : Status) (said : RunWords) (docs : List (List ℕ)) (before after : Outside) → AreSpelled said docs empty_session → RunsTo status said docs before after
-    → (status ≡ BadWords → ⊥) → ((n : ℕ) (p : List ℕ) → status ≡ FileIo n p → ⊥) → (status ≡ ReadFault → ⊥) → (status ≡ WriteFault → ⊥) → (status ≡ InputTooLong → ⊥) → EndsWell status
-ends_well AllPassed said docs before after spelled run a b c d e = inl refl
-ends_well SomeFailed said docs before after spelled run a b c d e = inr (inl refl)
-ends_well OutOfMemory said docs before after spelled run a b c d e = inr (inr refl)
-ends_well BadWords said docs before after spelled run a b c d e = absurd (a refl)
-ends_well (FileIo n p) said docs before after spelled run a b c d e = absurd (b n p refl)
-ends_well ReadFault said docs before after spelled run a b c d e = absurd (c refl)
-ends_well WriteFault said docs before after spelled run a b c d e = absurd (d refl)
-ends_well InputTooLong said docs before after spelled run a b c d e = absurd (e refl)
-ends_well (Refused n kind) said docs before after spelled run a b c d e =
-    let at = spelled_at said run.done run.document run.later (requests_of run.answers) empty_session (subst (λ ds. AreSpelled said ds empty_session) run.cut spelled) run.ran.reads in
-    absurd (not_refused said run.error (length run.done + 1) n kind run.document run.remembered run.between after run.status_is run.stops (subst (SpellsTaken said run.document) (sym run.ran.remembered) at))
-ends_well (BadRequest n) said docs before after spelled run a b c d e =
-    let at = spelled_at said run.done run.document run.later (requests_of run.answers) empty_session (subst (λ ds. AreSpelled said ds empty_session) run.cut spelled) run.ran.reads in
-    absurd (no_request said run.error (length run.done + 1) n run.document run.remembered run.between after run.status_is run.stops (subst (SpellsTaken said run.document) (sym run.ran.remembered) at))
+    → ((n : ℕ) (p : List ℕ) → status ≡ FileIo n p → ⊥) → (status ≡ ReadFault → ⊥) → (status ≡ WriteFault → ⊥) → (status ≡ InputTooLong → ⊥) → EndsWell status
+ends_well AllPassed said docs before after spelled run b c d e = inl refl
+ends_well SomeFailed said docs before after spelled run b c d e = inr (inl refl)
+ends_well OutOfMemory said docs before after spelled run b c d e = inr (inr refl)
+ends_well BadWords said docs before after spelled run b c d e = absurd run
+ends_well (FileIo n p) said docs before after spelled run b c d e = absurd (b n p refl)
+ends_well ReadFault said docs before after spelled run b c d e = absurd (c refl)
+ends_well WriteFault said docs before after spelled run b c d e = absurd (d refl)
+ends_well InputTooLong said docs before after spelled run b c d e = absurd (e refl)
+ends_well (Refused n kind) said docs before after spelled run b c d e = absurd (never_refused n kind said docs before after spelled run)
+ends_well (BadRequest n) said docs before after spelled run b c d e = absurd (never_bad n said docs before after spelled run)

@@ -1,5 +1,5 @@
 -- What one document leaves.
-use Rattle.snap_run.proofs.Prelude.{◌≡◌, ◌⊎◌, ◌&&◌, not, inl, inr, Bool, true, false, ℕ, List, ◌++◌, map, Option, None, Some, refl, sym, ap, ◌∙◌, subst, Result, Ok, Err, encode_utf8_all, append-nil, Files, outside, HoldsFront, verdict_of, is_failure, SessionView, is_open, opened, closed, AssertionView, RequestView, asserts, begins, ends, Spells, ReadsAs, RunWords, place_by, settings_by, printed_by, assertion_by, line_text, line_by, course_line, course_files, MayPass, KeptBy, FaultIsOwn, is_written, may_change, words_of, RanOne, StopsAt, AssertionStops, IsInWork, IsRefusedWith, LineFails, IsMade, IsSeenFrom, name_in, path_in, CountedIf, is_store_fault, DocumentError, Outcome, Runner}
+use Rattle.snap_run.proofs.Prelude.{◌≡◌, ◌⊎◌, ◌&&◌, not, inl, inr, Bool, true, false, ℕ, List, ◌++◌, map, Option, None, Some, refl, sym, ap, ◌∙◌, subst, Result, Ok, Err, encode_utf8_all, append-nil, Files, outside, HoldsFront, verdict_of, is_failure, SessionView, is_open, opened, closed, AssertionView, RequestView, asserts, begins, ends, Spells, ReadsAs, RunWords, place_by, settings_by, printed_by, assertion_by, line_text, line_by, course_line, course_files, MayPass, KeptBy, FaultIsOwn, is_written, may_change, words_of, RanOne, StopsAt, AssertionStops, IsInWork, IsRefusedWith, LineFails, IsMade, IsSeenFrom, name_in, path_in, CountedIf, is_store_fault, DocumentError, Outcome, Runner, passes_in, no_tally, Tally, Update, if◌then◌else◌, failed_verdict}
 use Rattle.std.specs.Result.{IfErr, OnOk, is_ok}
 use Rattle.snap_content.proofs.Booleans.{some_same}
 use Rattle.snap_content.specs.Tree.{Tree}
@@ -27,6 +27,7 @@ use Rattle.snap_run_requests.specs.declared.fault.Reason.{Reason}
 use Rattle.snap_run.specs.Refused.{unread, unanswered, kind_of}
 use Rattle.snap_run.specs.Runs.{is_sink_fault}
 use Rattle.snap_run.specs.declared.document_error.DocumentError.TheVariants as error
+use Rattle.snap_assert_settings.specs.declared.config.Update.TheVariants.{InPlace, NewFile, NoUpdate}
 use Rattle.snap_run.specs.declared.status.RefusalKind.{RefusalKind}
 use Rattle.snap_run.specs.declared.status.RefusalKind.TheVariants as kind
 use Rattle.snap_assert.specs.declared.error.AssertError.{AssertError}
@@ -187,13 +188,25 @@ line_is words a outcome line bytes s t f g d told encoded =
     encoded ∙ ap encode_utf8_all (told ∙ ap (λ v. line_text v outcome.path) d.verdict ∙ ap (λ p. line_text (verdict_of words.update d.passed) p) d.path)
     ∙ ap (course_line words a d.passed) (sym d.course_is)
 
+-- a verdict passes where the answer does
+failed_none : (mode : Update) → passes_in (failed_verdict mode) ≡ 0
+failed_none InPlace = refl
+failed_none NewFile = refl
+failed_none NoUpdate = refl
+
+passes_by : (mode : Update) (passed : Bool) → (if passed then 1 else 0) ≡ passes_in (verdict_of mode passed)
+passes_by mode true = refl
+passes_by mode false = sym (failed_none mode)
+
 -- the assertion of a document was answered, and its line is written
-pub document_ran : (words : RunWords) (a : AssertionView) (outcome : Outcome) (line bytes : List ℕ) (s t : SessionView) (f g : Option Files) (w v : Option (List ℕ)) (d : IsMade words a outcome s t f g)
+pub document_ran : (words : RunWords) (a : AssertionView) (outcome : Outcome) (tally : Tally) (line bytes : List ℕ) (s t : SessionView) (f g : Option Files) (w v : Option (List ℕ)) (d : IsMade words a outcome s t f g)
     → line ≡ line_text outcome.verdict outcome.path → bytes ≡ encode_utf8_all line → ((x : List ℕ) → w ≡ Some x → v ≡ Some (x ++ bytes))
-    → (document : List ℕ) → ReadsAs document (asserts a) → RanOne words document outcome.fails s t (outside f w) (outside g v)
-document_ran words a outcome line bytes s t f g w v d told encoded wrote document reads = record {
+    → tally.fails ≡ outcome.fails → tally.passed ≡ passes_in outcome.verdict
+    → (document : List ℕ) → ReadsAs document (asserts a) → RanOne words document tally s t (outside f w) (outside g v)
+document_ran words a outcome tally line bytes s t f g w v d told encoded wrote failing passing document reads = record {
   answer = record { request = asserts a; passed = d.passed };
-  failing = sym d.fails;
+  failing = sym (failing ∙ d.fails);
+  passing = passes_by words.update d.passed ∙ sym (passing ∙ ap passes_in d.verdict);
   ran = record {
     reads = (reads, tt);
     taken = (ap is_ok d.course_is, tt);
@@ -243,20 +256,22 @@ unread_stops words document s f w (request.NoRequest why) none = (refl, refl, λ
 unread_stops words document s f w request.OutOfMemory none = (refl, inl refl)
 
 -- a block begins
-pub block_begins : (words : RunWords) (document : List ℕ) (s t : SessionView) (f g : Option Files) (w : Option (List ℕ)) (fails : Bool) → ReadsAs document begins → fails ≡ false → t ≡ opened s
-    → ((m : Files) → f ≡ Some m → g ≡ Some m) → RanOne words document fails s t (outside f w) (outside g w)
-block_begins words document s t f g w fails reads none same of_store = record {
+pub block_begins : (words : RunWords) (document : List ℕ) (s t : SessionView) (f g : Option Files) (w : Option (List ℕ)) (tally : Tally) → ReadsAs document begins → tally ≡ no_tally → t ≡ opened s
+    → ((m : Files) → f ≡ Some m → g ≡ Some m) → RanOne words document tally s t (outside f w) (outside g w)
+block_begins words document s t f g w tally reads none same of_store = record {
   answer = record { request = begins; passed = true };
-  failing = sym none;
+  failing = sym (ap (λ k. k.fails) none);
+  passing = sym (ap (λ k. k.passed) none);
   ran = record { reads = (reads, tt); taken = (refl, tt); remembered = same; allowed = λ m e. (tt, tt); stands = of_store; lines = λ x e. e ∙ ap Some (sym (append-nil x)) };
 }
 
 -- a block ends
-pub block_ends : (words : RunWords) (document : List ℕ) (s t : SessionView) (f g : Option Files) (w : Option (List ℕ)) (fails : Bool) → ReadsAs document ends → fails ≡ false → is_open s ≡ true → t ≡ closed s
-    → ((m : Files) → f ≡ Some m → g ≡ Some m) → RanOne words document fails s t (outside f w) (outside g w)
-block_ends words document s t f g w fails reads none is same of_store = record {
+pub block_ends : (words : RunWords) (document : List ℕ) (s t : SessionView) (f g : Option Files) (w : Option (List ℕ)) (tally : Tally) → ReadsAs document ends → tally ≡ no_tally → is_open s ≡ true → t ≡ closed s
+    → ((m : Files) → f ≡ Some m → g ≡ Some m) → RanOne words document tally s t (outside f w) (outside g w)
+block_ends words document s t f g w tally reads none is same of_store = record {
   answer = record { request = ends; passed = true };
-  failing = sym none;
+  failing = sym (ap (λ k. k.fails) none);
+  passing = sym (ap (λ k. k.passed) none);
   ran = record { reads = (reads, tt); taken = (is, tt); remembered = same; allowed = λ m e. (tt, tt); stands = of_store; lines = λ x e. e ∙ ap Some (sym (append-nil x)) };
 }
 

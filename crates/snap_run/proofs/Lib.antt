@@ -8,3 +8,5 @@ mod RunEnds
 mod RunKept
 mod Messages
 mod FlagWords
+mod Meanings
+mod Demonstrating

@@ -1,5 +1,5 @@
 -- What a whole run keeps.
-use Rattle.snap_run.proofs.Prelude.{◌≡◌, inl, inr, ℕ, false, Bool, List, [], ◌∷◌, ◌++◌, Option, None, Some, Result, Ok, Err, refl, sym, ◌∙◌, ap, subst, get, Files, Outside, Answer, RunWords, place_by, assertion_by, asked_by, requests_of, remembered_by, remembered_after, course_files, step, step_by, files_after, documents, IsKeptOrGone, is_written, may_change, SessionView, empty_session, AssertionView, RequestView, asserts, begins, ends, ReadsAs, Reads, Ran, Stopped, StopsAt, IsInWork, LineFails, name_in, path_in, RunsTo, RunsBy, RunsFrom, DocumentError, Status, step_keeps, gone_after, Update}
+use Rattle.snap_run.proofs.Prelude.{◌≡◌, inl, inr, ℕ, false, Bool, List, [], ◌∷◌, ◌++◌, Option, None, Some, Result, Ok, Err, refl, sym, ◌∙◌, ap, subst, get, Files, Outside, Answer, RunWords, place_by, assertion_by, asked_by, requests_of, remembered_by, remembered_after, course_files, step, step_by, files_after, documents, IsKeptOrGone, is_written, may_change, SessionView, empty_session, AssertionView, RequestView, asserts, begins, ends, ReadsAs, Reads, Ran, Stopped, StopsAt, IsInWork, LineFails, name_in, path_in, RunsTo, RunsFrom, DocumentError, Status, step_keeps, gone_after, Update}
 use Rattle.snap_content.proofs.Booleans.{some_same}
 use Rattle.snap_assert.specs.Assertions.{key_under, new_contents}
 use Rattle.snap_assert.specs.Blocks.{keep_step}
@@ -160,9 +160,9 @@ stopped_keeps words end docs z a b m s told =
 
 -- whatever the status is
 runs_keep : (words : RunWords) (end : Status) (docs : List (List ℕ)) (a b : Outside) (m : Files) → RunsTo end words docs a b → a.files ≡ Some m → RunKeeps words docs empty_session m b.files
-runs_keep words status.AllPassed docs a b m r told = ran_keeps words docs r.answers empty_session r.remembered a b m r.ran told
-runs_keep words status.SomeFailed docs a b m r told = ran_keeps words docs r.answers empty_session r.remembered a b m r.ran told
-runs_keep words status.BadWords docs a b m r told = same_keeps words docs empty_session m a.files b.files r.0 told
+runs_keep words status.AllPassed docs a b m r told = ran_keeps words docs r.1.answers empty_session r.1.remembered a b m r.1.ran told
+runs_keep words status.SomeFailed docs a b m r told = ran_keeps words docs r.1.answers empty_session r.1.remembered a b m r.1.ran told
+runs_keep words status.BadWords docs a b m r told = absurd r
 runs_keep words (status.BadRequest n) docs a b m r told = stopped_keeps words (status.BadRequest n) docs empty_session a b m r told
 runs_keep words (status.Refused n kind) docs a b m r told = stopped_keeps words (status.Refused n kind) docs empty_session a b m r told
 runs_keep words (status.FileIo n path) docs a b m r told = stopped_keeps words (status.FileIo n path) docs empty_session a b m r told
@@ -172,11 +172,7 @@ runs_keep words status.OutOfMemory docs a b m (inl r) told = same_keeps words do
 runs_keep words status.OutOfMemory docs a b m (inr r) told = stopped_keeps words status.OutOfMemory docs empty_session a b m r told
 runs_keep words status.InputTooLong docs a b m r told = same_keeps words docs empty_session m a.files b.files r.0 told
 
-by_words : (words : Option RunWords) (end : Status) (docs : List (List ℕ)) (a b : Outside) → RunsBy end words docs a b → KeptByRun words docs a.files b.files
-by_words None end docs a b r = r.0
-by_words (Some words) end docs a b r = λ m told. runs_keep words end docs a b m r told
-
-pub run_keeps : (end : Status) (words : Option RunWords) (left : Option (List ℕ)) (input : List ℕ) (a b : Outside) → RunsFrom end words left a b → left ≡ Some input
+pub run_keeps : (end : Status) (words : RunWords) (left : Option (List ℕ)) (input : List ℕ) (a b : Outside) → RunsFrom end words left a b → left ≡ Some input
     → KeptByRun words (documents input) a.files b.files
 run_keeps end words left input a b r told =
-    subst (λ t. KeptByRun words (documents t) a.files b.files) (r.told input told) (by_words words end (documents r.input) a b r.runs)
+    subst (λ t. KeptByRun words (documents t) a.files b.files) (r.told input told) (λ m files. runs_keep words end (documents r.input) a b m r.runs files)

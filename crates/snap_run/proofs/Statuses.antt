@@ -1,5 +1,5 @@
 -- Statuses before any document is run, and runs in place.
-use Rattle.snap_run.proofs.Prelude.{◌≡◌, ◌||◌, ◌&&◌, ℕ, Bool, true, false, not, List, [], ◌∷◌, Option, None, Some, refl, ap, ◌∙◌, Outside, RequestView, asserts, begins, ends, Answer, RunWords, answer_fails, some_fails, verdict_of, is_failure, RunsBy, RunsFrom, Update, Status}
+use Rattle.snap_run.proofs.Prelude.{◌≡◌, ◌||◌, ◌&&◌, ℕ, Bool, true, false, not, List, [], ◌∷◌, Option, None, Some, refl, ap, ◌∙◌, Outside, RequestView, asserts, begins, ends, Answer, RunWords, answer_fails, some_fails, verdict_of, is_failure, RunsTo, RunsFrom, Update, Status}
 use Rattle.snap_assert_settings.specs.declared.config.Update.TheVariants.{InPlace}
 
 -- some bytes are those that are left, where these are told
@@ -7,7 +7,7 @@ input_of : (left : Option (List ℕ)) → (input : List ℕ) × ((xs : List ℕ)
 input_of None = ([], λ xs e. cc)
 input_of (Some y) = (y, λ xs e. cc)
 
-pub before_all : (status : Status) (words : Option RunWords) (left : Option (List ℕ)) (a b : Outside) → ((docs : List (List ℕ)) → RunsBy status words docs a b) → RunsFrom status words left a b
+pub before_all : (status : Status) (words : RunWords) (left : Option (List ℕ)) (a b : Outside) → ((docs : List (List ℕ)) → RunsTo status words docs a b) → RunsFrom status words left a b
 before_all status words left a b h = let i = input_of left in record { input = i.0; told = i.1; runs = h _ }
 
 -- in place no answer fails

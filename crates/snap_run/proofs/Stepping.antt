@@ -1,5 +1,5 @@
 -- How a run over documents goes on from one to the next.
-use Rattle.snap_run.proofs.Prelude.{◌≡◌, ◌||◌, Bool, true, false, ℕ, ◌+◌, List, [], ◌∷◌, ◌++◌, length, take, drop, Option, None, Some, inl, inr, refl, sym, ◌∙◌, ap, subst, arith, append_assoc, length-append, append-nil, Files, Outside, outside, documents, RequestView, Reads, Answer, RunWords, SessionView, remembered_by, remembered_after, AreTaken, step_by, line_by, requests_of, AreAllowed, files_after, lines_of, answer_fails, some_fails, Ran, RanOne, Stopped, StopsAt, IsSeenFrom, Ended, status_at, DocumentError, Status}
+use Rattle.snap_run.proofs.Prelude.{◌≡◌, ◌||◌, Bool, true, false, ℕ, ◌+◌, ◌<◌, ◌≤◌, List, [], ◌∷◌, ◌++◌, length, take, drop, Option, None, Some, inl, inr, refl, sym, ◌∙◌, ap, subst, arith, append_assoc, length-append, append-nil, Files, Outside, outside, documents, RequestView, Reads, Answer, RunWords, SessionView, remembered_by, remembered_after, AreTaken, step_by, line_by, requests_of, AreAllowed, files_after, lines_of, answer_fails, some_fails, passes, passed_count, no_tally, added, Tally, Ran, RanOne, Stopped, StopsAt, IsSeenFrom, Ended, status_at, DocumentError, Status}
 use Rattle.std.specs.Prelude.{option_map}
 use Rattle.snap_assert.specs.Listed.{IsCovered, IsKnown, StaysCovered}
 use Rattle.snap_assert.specs.declared.listed.Listed.{Listed}
@@ -66,6 +66,14 @@ some_fails-append words (x ∷ a) b = ap (λ t. answer_fails words x.request x.p
     grouped true y z = refl
     grouped false y z = refl
 
+passed_count-append : (a b : List Answer) → passed_count (a ++ b) ≡ passed_count a + passed_count b
+passed_count-append [] b = omega arith
+passed_count-append (x ∷ a) b = let more = passed_count-append a b in omega (arith, more)
+
+one_more_passes : (answers : List Answer) (answer : Answer) (passed more : ℕ) → passed_count answers ≡ passed → passes answer.request answer.passed ≡ more
+    → passed_count (answers ++ answer ∷ []) ≡ passed + more
+one_more_passes answers answer passed more before now = let all = passed_count-append answers (answer ∷ []) in omega (arith, all, before, now)
+
 one_more_fails : (words : RunWords) (answers : List Answer) (answer : Answer) (fails failed : Bool) → some_fails words answers ≡ fails → answer_fails words answer.request answer.passed ≡ failed
     → some_fails words (answers ++ answer ∷ []) ≡ (fails || failed)
 one_more_fails words answers answer fails failed before now =
@@ -77,40 +85,43 @@ one_more_fails words answers answer fails failed before now =
     alone false = refl
 
 -- n documents of all were run, and these bytes are left
-pub record IsRun (words : RunWords) (all : List (List ℕ)) (rest : List ℕ) (n : ℕ) (fails : Bool) (session session' : SessionView) (before after : Outside) : Type 0 where
+pub record IsRun (words : RunWords) (all : List (List ℕ)) (rest : List ℕ) (n : ℕ) (tally : Tally) (session session' : SessionView) (before after : Outside) : Type 0 where
   pub done : List (List ℕ)
   pub answers : List Answer
   pub cut : all ≡ done ++ documents rest
   pub number : n ≡ length done
   pub ran : Ran words done answers session session' before after
-  pub failing : some_fails words answers ≡ fails
+  pub failing : some_fails words answers ≡ tally.fails
+  pub passing : passed_count answers ≡ tally.passed
 
-pub begins_run : (words : RunWords) (input : List ℕ) (s t : SessionView) (o : Outside) → t ≡ s → IsRun words (documents input) input 0 false s t o o
-begins_run words input s t o same = record { done = []; answers = []; cut = refl; number = refl; ran = subst (λ k. Ran words [] [] s k o o) (sym same) (nothing_run words s o); failing = refl }
+pub begins_run : (words : RunWords) (input : List ℕ) (s t : SessionView) (o : Outside) (tally : Tally) → t ≡ s → tally ≡ no_tally → IsRun words (documents input) input 0 tally s t o o
+begins_run words input s t o tally same none = record { done = []; answers = []; cut = refl; number = refl; ran = subst (λ k. Ran words [] [] s k o o) (sym same) (nothing_run words s o); failing = sym (ap (λ k. k.fails) none); passing = sym (ap (λ k. k.passed) none) }
 
-pub goes_on : (words : RunWords) (all : List (List ℕ)) (rest d later : List ℕ) (n : ℕ) (fails failed : Bool) (s t u : SessionView) (x y z : Outside)
-    → documents rest ≡ d ∷ documents later → IsRun words all rest n fails s t x y → RanOne words d failed t u y z → IsRun words all later (n + 1) (fails || failed) s u x z
-goes_on words all rest d later n fails failed s t u x y z first r q = record {
+pub goes_on : (words : RunWords) (all : List (List ℕ)) (rest d later : List ℕ) (n : ℕ) (tally answered : Tally) (s t u : SessionView) (x y z : Outside)
+    → documents rest ≡ d ∷ documents later → IsRun words all rest n tally s t x y → RanOne words d answered t u y z → IsRun words all later (n + 1) (added tally answered) s u x z
+goes_on words all rest d later n tally answered s t u x y z first r q = record {
   done = r.done ++ d ∷ [];
   answers = r.answers ++ q.answer ∷ [];
   cut = r.cut ∙ ap (λ t. r.done ++ t) first ∙ sym (append_assoc r.done (d ∷ []) (documents later));
   number = omega (arith, r.number, length-append r.done (d ∷ []));
   ran = Ran-append words r.done (d ∷ []) r.answers (q.answer ∷ []) s t u x y z r.ran q.ran;
-  failing = one_more_fails words r.answers q.answer fails failed r.failing q.failing;
+  failing = one_more_fails words r.answers q.answer tally.fails answered.fails r.failing q.failing;
+  passing = one_more_passes r.answers q.answer tally.passed answered.passed r.passing q.passing;
 }
 
-pub ends_run : (words : RunWords) (all : List (List ℕ)) (rest : List ℕ) (n : ℕ) (fails : Bool) (s t : SessionView) (x y : Outside) → length rest ≡ 0 → IsRun words all rest n fails s t x y → Ended fails words all s x y
-ends_run words all [] n fails s t x y none r = record {
+pub ends_run : (words : RunWords) (all : List (List ℕ)) (rest : List ℕ) (n : ℕ) (tally : Tally) (s t : SessionView) (x y : Outside) → length rest ≡ 0 → IsRun words all rest n tally s t x y → Ended tally words all s x y
+ends_run words all [] n tally s t x y none r = record {
   answers = r.answers;
   remembered = t;
   ran = subst (λ ds. Ran words ds r.answers s t x y) (sym (r.cut ∙ append-nil r.done)) r.ran;
   failing = r.failing;
+  passing = r.passing;
 }
-ends_run words all (b ∷ rest) n fails s t x y none r = absurd (omega arith)
+ends_run words all (b ∷ rest) n tally s t x y none r = absurd (omega arith)
 
-pub stops : (words : RunWords) (all : List (List ℕ)) (rest d later : List ℕ) (n : ℕ) (fails : Bool) (e : DocumentError) (status : Status) (s t : SessionView) (x y z : Outside)
-    → documents rest ≡ d ∷ documents later → IsRun words all rest n fails s t x y → StopsAt words e d t y z → status ≡ status_at (n + 1) e → Stopped status words all s x z
-stops words all rest d later n fails e status s t x y z first r stop is = record {
+pub stops : (words : RunWords) (all : List (List ℕ)) (rest d later : List ℕ) (n : ℕ) (tally : Tally) (e : DocumentError) (status : Status) (s t : SessionView) (x y z : Outside)
+    → documents rest ≡ d ∷ documents later → IsRun words all rest n tally s t x y → StopsAt words e d t y z → status ≡ status_at (n + 1) e → Stopped status words all s x z
+stops words all rest d later n tally e status s t x y z first r stop is = record {
   done = r.done;
   document = d;
   later = documents later;
@@ -132,9 +143,9 @@ abbrev pub known_after : RunWords → List Answer → SessionView → Option Fil
 known_after words answers s start = option_map (λ m. files_after words answers s m) start
 
 -- the same run, as it is seen from there
-pub known_run : (words : RunWords) (all : List (List ℕ)) (rest : List ℕ) (n : ℕ) (fails : Bool) (s t : SessionView) (x : Outside) (g : Option Files) (w : Option (List ℕ)) (r : IsRun words all rest n fails s t x (outside g w))
-    → IsRun words all rest n fails s t x (outside (known_after words r.answers s x.files) w)
-known_run words all rest n fails s t x g w r = record {
+pub known_run : (words : RunWords) (all : List (List ℕ)) (rest : List ℕ) (n : ℕ) (tally : Tally) (s t : SessionView) (x : Outside) (g : Option Files) (w : Option (List ℕ)) (r : IsRun words all rest n tally s t x (outside g w))
+    → IsRun words all rest n tally s t x (outside (known_after words r.answers s x.files) w)
+known_run words all rest n tally s t x g w r = record {
   done = r.done;
   answers = r.answers;
   cut = r.cut;
@@ -148,6 +159,7 @@ known_run words all rest n fails s t x g w r = record {
     lines = r.ran.lines;
   };
   failing = r.failing;
+  passing = r.passing;
 }
 
 -- where the files were told before the run, those that are told now are covered
@@ -158,34 +170,42 @@ known_files : (start now : Option Files) (f : Files → Files) (listed : Listed)
 known_files None now f listed stands covered n is = absurd (cc is)
 known_files (Some m) now f listed stands covered n is = let told = stands m refl ∙ is in (told, covered m refl n told)
 
-pub known_now : (words : RunWords) (all : List (List ℕ)) (rest : List ℕ) (n : ℕ) (fails : Bool) (s t : SessionView) (start now : Option Files) (v w : Option (List ℕ)) (listed : Listed)
-    → (r : IsRun words all rest n fails s t (outside start v) (outside now w)) → CoversNow start now listed → IsKnown (known_after words r.answers s start) now listed
-known_now words all rest n fails s t start now v w listed r covered = known_files start now (λ m. files_after words r.answers s m) listed r.ran.stands covered
+pub known_now : (words : RunWords) (all : List (List ℕ)) (rest : List ℕ) (n : ℕ) (tally : Tally) (s t : SessionView) (start now : Option Files) (v w : Option (List ℕ)) (listed : Listed)
+    → (r : IsRun words all rest n tally s t (outside start v) (outside now w)) → CoversNow start now listed → IsKnown (known_after words r.answers s start) now listed
+known_now words all rest n tally s t start now v w listed r covered = known_files start now (λ m. files_after words r.answers s m) listed r.ran.stands covered
 
-pub covers_on : (words : RunWords) (all : List (List ℕ)) (rest : List ℕ) (n : ℕ) (fails : Bool) (s t : SessionView) (start now next : Option Files) (v w : Option (List ℕ)) (listed listed' : Listed)
-    → IsRun words all rest n fails s t (outside start v) (outside now w) → CoversNow start now listed → StaysCovered now next listed listed' → CoversNow start next listed'
-covers_on words all rest n fails s t start now next v w listed listed' r covered stays m told k is =
+pub covers_on : (words : RunWords) (all : List (List ℕ)) (rest : List ℕ) (n : ℕ) (tally : Tally) (s t : SessionView) (start now next : Option Files) (v w : Option (List ℕ)) (listed listed' : Listed)
+    → IsRun words all rest n tally s t (outside start v) (outside now w) → CoversNow start now listed → StaysCovered now next listed listed' → CoversNow start next listed'
+covers_on words all rest n tally s t start now next v w listed listed' r covered stays m told k is =
     let here = r.ran.stands m told in stays (files_after words r.answers s m) here (covered m told (files_after words r.answers s m) here) k is
 
 -- a turn of the run
-pub goes_known : (words : RunWords) (all : List (List ℕ)) (rest d later : List ℕ) (n : ℕ) (fails failed : Bool) (s t u : SessionView) (start now : Option Files) (v w : Option (List ℕ)) (z : Outside) (listed : Listed)
-    → documents rest ≡ d ∷ documents later → IsRun words all rest n fails s t (outside start v) (outside now w) → CoversNow start now listed
-    → ((known : Option Files) → IsKnown known now listed → RanOne words d failed t u (outside known w) z) → IsRun words all later (n + 1) (fails || failed) s u (outside start v) z
-goes_known words all rest d later n fails failed s t u start now v w z listed first r covered ran =
-    goes_on words all rest d later n fails failed s t u (outside start v) (outside (known_after words r.answers s start) w) z first
-    (known_run words all rest n fails s t (outside start v) now w r)
-    (ran (known_after words r.answers s start) (known_now words all rest n fails s t start now v w listed r covered))
+pub goes_known : (words : RunWords) (all : List (List ℕ)) (rest d later : List ℕ) (n : ℕ) (tally answered : Tally) (s t u : SessionView) (start now : Option Files) (v w : Option (List ℕ)) (z : Outside) (listed : Listed) (counted : Tally)
+    → documents rest ≡ d ∷ documents later → IsRun words all rest n tally s t (outside start v) (outside now w) → CoversNow start now listed
+    → ((known : Option Files) → IsKnown known now listed → RanOne words d answered t u (outside known w) z) → counted ≡ added tally answered → IsRun words all later (n + 1) counted s u (outside start v) z
+goes_known words all rest d later n tally answered s t u start now v w z listed counted first r covered ran is =
+    subst (λ k. IsRun words all later (n + 1) k s u (outside start v) z) (sym is) (goes_on words all rest d later n tally answered s t u (outside start v) (outside (known_after words r.answers s start) w) z first
+    (known_run words all rest n tally s t (outside start v) now w r)
+    (ran (known_after words r.answers s start) (known_now words all rest n tally s t start now v w listed r covered)))
 
-stops_seen : (words : RunWords) (all : List (List ℕ)) (rest d later : List ℕ) (n : ℕ) (fails : Bool) (e : DocumentError) (status : Status) (s t : SessionView) (start now : Option Files) (v w : Option (List ℕ)) (z : Outside)
-    → documents rest ≡ d ∷ documents later → (r : IsRun words all rest n fails s t (outside start v) (outside now w))
+stops_seen : (words : RunWords) (all : List (List ℕ)) (rest d later : List ℕ) (n : ℕ) (tally : Tally) (e : DocumentError) (status : Status) (s t : SessionView) (start now : Option Files) (v w : Option (List ℕ)) (z : Outside)
+    → documents rest ≡ d ∷ documents later → (r : IsRun words all rest n tally s t (outside start v) (outside now w))
     → IsSeenFrom now (known_after words r.answers s start) (λ files. StopsAt words e d t (outside files w) z) → status ≡ status_at (n + 1) e → Stopped status words all s (outside start v) z
-stops_seen words all rest d later n fails e status s t start now v w z first r (inl stop) is = stops words all rest d later n fails e status s t (outside start v) (outside now w) z first r stop is
-stops_seen words all rest d later n fails e status s t start now v w z first r (inr stop) is =
-    stops words all rest d later n fails e status s t (outside start v) (outside (known_after words r.answers s start) w) z first (known_run words all rest n fails s t (outside start v) now w r) stop is
+stops_seen words all rest d later n tally e status s t start now v w z first r (inl stop) is = stops words all rest d later n tally e status s t (outside start v) (outside now w) z first r stop is
+stops_seen words all rest d later n tally e status s t start now v w z first r (inr stop) is =
+    stops words all rest d later n tally e status s t (outside start v) (outside (known_after words r.answers s start) w) z first (known_run words all rest n tally s t (outside start v) now w r) stop is
 
-pub stops_known : (words : RunWords) (all : List (List ℕ)) (rest d later : List ℕ) (n : ℕ) (fails : Bool) (e : DocumentError) (status : Status) (s t : SessionView) (start now : Option Files) (v w : Option (List ℕ)) (z : Outside) (listed : Listed)
-    → documents rest ≡ d ∷ documents later → IsRun words all rest n fails s t (outside start v) (outside now w) → CoversNow start now listed
+pub stops_known : (words : RunWords) (all : List (List ℕ)) (rest d later : List ℕ) (n : ℕ) (tally : Tally) (e : DocumentError) (status : Status) (s t : SessionView) (start now : Option Files) (v w : Option (List ℕ)) (z : Outside) (listed : Listed)
+    → documents rest ≡ d ∷ documents later → IsRun words all rest n tally s t (outside start v) (outside now w) → CoversNow start now listed
     → ((known : Option Files) → IsKnown known now listed → IsSeenFrom now known (λ files. StopsAt words e d t (outside files w) z)) → status ≡ status_at (n + 1) e → Stopped status words all s (outside start v) z
-stops_known words all rest d later n fails e status s t start now v w z listed first r covered seen is =
-    stops_seen words all rest d later n fails e status s t start now v w z first r
-    (seen (known_after words r.answers s start) (known_now words all rest n fails s t start now v w listed r covered)) is
+stops_known words all rest d later n tally e status s t start now v w z listed first r covered seen is =
+    stops_seen words all rest d later n tally e status s t start now v w z first r
+    (seen (known_after words r.answers s start) (known_now words all rest n tally s t start now v w listed r covered)) is
+
+-- the counts of a turn
+pub passed_more : (n : ℕ) (tally answered counted : Tally) → counted ≡ added tally answered → tally.passed ≤ n → answered.passed ≤ 1 → counted.passed ≤ n + 1
+passed_more n tally answered counted is few one = let sum = ap (λ k. k.passed) is in omega (arith, sum, few, one)
+
+-- bytes that are left are of bytes
+pub not_empty : (input rest : List ℕ) (n : ℕ) → n + length rest ≤ length input → 0 < length rest → input ≡ [] → ⊥
+not_empty input rest n few some none = let size = ap length none in omega (arith, few, some, size)

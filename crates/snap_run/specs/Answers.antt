@@ -1,5 +1,5 @@
 -- The answers of a run: its requests in turn, what they leave and the lines that tell of them.
-use Rattle.std.specs.Prelude.{◌≡◌, ◌&&◌, ◌||◌, Result, Ok, Err, is_ok, ℕ, Bool, true, false, not, List, [], ◌∷◌, ◌++◌, codes, encode_utf8_all, Option, None, Some, option_and_then, if◌then◌else◌}
+use Rattle.std.specs.Prelude.{◌≡◌, ◌+◌, ◌&&◌, ◌||◌, Result, Ok, Err, is_ok, ℕ, Bool, true, false, not, List, [], ◌∷◌, ◌++◌, codes, encode_utf8_all, Option, None, Some, option_and_then, if◌then◌else◌}
 use Rattle.std.specs.List.{list_any}
 use Rattle.std.specs.Str.{bytes_eq}
 use Rattle.std.specs.FinMap.{get}
@@ -23,6 +23,7 @@ use Rattle.snap_assert_settings.specs.declared.config.Update.{Update}
 use Rattle.snap_assert_settings.specs.declared.config.Update.TheVariants.{InPlace, NewFile, NoUpdate}
 use Rattle.snap_assert.specs.declared.outcome.Verdict.{Verdict}
 use Rattle.snap_assert.specs.declared.outcome.Verdict.TheVariants.{Passed, Updated, Pending, Rejected}
+use Rattle.snap_run.specs.declared.tally.Tally.{Tally}
 
 -- what the words of a run say
 pub record RunWords : Type 0 where
@@ -102,6 +103,10 @@ words_at workspace update flags = record {
   full = flags.full;
   literal = flags.literal;
 }
+
+-- the words of a demonstration's two runs: in place in the workspace `demo`, without flags
+abbrev pub demo_run : RunWords
+demo_run = words_at (codes "demo") InPlace no_flags
 
 abbrev pub said_of : List ℕ → Option Update → Option Flags → Option RunWords
 said_of workspace (Some mode) (Some flags) = Some (words_at workspace mode flags)
@@ -242,3 +247,27 @@ answer_fails words ends passed = false
 abbrev pub some_fails : RunWords → List Answer → Bool
 some_fails words [] = false
 some_fails words (a ∷ more) = answer_fails words a.request a.passed || some_fails words more
+
+-- how many assertions a request and its answer are that passed: one or none
+abbrev pub passes : RequestView → Bool → ℕ
+passes (asserts a) passed = if passed then 1 else 0
+passes begins passed = 0
+passes ends passed = 0
+
+-- how many assertions passed
+abbrev pub passed_count : List Answer → ℕ
+passed_count [] = 0
+passed_count (a ∷ more) = passes a.request a.passed + passed_count more
+
+-- the same by a verdict
+abbrev pub passes_in : Verdict → ℕ
+passes_in Passed = 1
+passes_in _ = 0
+
+-- what is counted of no answers
+abbrev pub no_tally : Tally
+no_tally = record { fails = false; passed = 0 }
+
+-- what is counted of these answers and of those after them
+abbrev pub added : Tally → Tally → Tally
+added tally later = record { fails = tally.fails || later.fails; passed = tally.passed + later.passed }

@@ -1,8 +1,10 @@
 pub mod Answers
+pub mod Meaning
 pub mod Runner
 pub mod Refused
 pub mod Runs
 pub mod RunKept
 pub mod Status
+pub mod Demonstrations
 pub mod Describe
 pub mod Program

@@ -2,9 +2,12 @@
 use Rattle.std.specs.Prelude.{◌≡◌, ◌⊎◌, ℕ, Bool, true, false, List, [], ◌∷◌, ◌++◌, Option, None, Some, encode_utf8_all}
 use Rattle.snap_io.specs.Outside.{Outside, Given}
 use Rattle.snap_io.specs.Streams.{HoldsFront}
-use Rattle.snap_run.specs.Answers.{words_mean, text_asked}
+use Rattle.snap_demo.specs.declared.words.DemoWords.{DemoWords}
+use Rattle.snap_run.specs.Answers.{RunWords}
+use Rattle.snap_run.specs.Demonstrations.{Demonstrates}
 use Rattle.snap_run.specs.Describe.{code_of, description}
-use Rattle.snap_run.specs.Status.{WordsCause, IsTold, RunsFrom, IsSteady}
+use Rattle.snap_run.specs.Meaning.{meaning, a_text, a_run, a_demonstration, nothing}
+use Rattle.snap_run.specs.Status.{WordsCause, IsTold, IsUnchanged, RunsFrom, IsSteady}
 use Rattle.snap_run.specs.declared.status.Status.{Status}
 use Rattle.snap_run.specs.declared.status.Status.TheVariants.{AllPassed, SomeFailed, BadRequest, Refused, FileIo, OutOfMemory}
 
@@ -32,11 +35,13 @@ pub record IsSaid (status : Status) (before now : ℕ) (written written' : Optio
   pub front : Given written (λ w. HoldsFront (message status) w written')
   pub whole : (w : List ℕ) → written ≡ Some w → IsSteady before now → (written' ≡ Some (w ++ message status)) ⊎ ((tells_document status ≡ true) × (written' ≡ Some w))
 
--- the run of these words ended with this status
+-- what these words ask for ended with this status
 pub record IsRunOf (words : List (List ℕ)) (status : Status) (left : Option (List ℕ)) (before after : Outside) : Type 0 where
   pub words_cause : WordsCause words status
-  pub told : (text : List ℕ) → text_asked words ≡ Some text → IsTold text status before.written after.written
-  pub runs : text_asked words ≡ None → RunsFrom status (words_mean words) left before after
+  pub told : (text : List ℕ) → meaning words ≡ a_text text → (after.files ≡ before.files) × IsTold text status before.written after.written
+  pub runs : (said : RunWords) → meaning words ≡ a_run said → RunsFrom status said left before after
+  pub demonstrated : (said : DemoWords) → meaning words ≡ a_demonstration said → Demonstrates status said before after
+  pub unchanged : meaning words ≡ nothing → IsUnchanged before after
 
 -- there was no memory for the words, and nothing was begun
 pub record IsNotBegun (status : Status) (before after : Outside) : Type 0 where

@@ -44,7 +44,6 @@ pub record RunKeeps (words : RunWords) (documents : List (List ℕ)) (session : 
   pub unwritten : (q : List ℕ) → AreSpared words is_written q requests session → IsKeptOrGone (get m q) (get files q)
   pub others : (q : List ℕ) → AreSpared words may_change q requests session → get files q ≡ get m q
 
--- what a whole run keeps; without words of a run nothing is changed
-abbrev pub KeptByRun : Option RunWords → List (List ℕ) → Option Files → Option Files → Type 0
-KeptByRun None documents files files' = files' ≡ files
-KeptByRun (Some words) documents files files' = Given files (λ m. RunKeeps words documents empty_session m files')
+-- what a whole run keeps
+abbrev pub KeptByRun : RunWords → List (List ℕ) → Option Files → Option Files → Type 0
+KeptByRun words documents files files' = Given files (λ m. RunKeeps words documents empty_session m files')

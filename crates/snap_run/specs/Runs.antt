@@ -6,7 +6,7 @@ use Rattle.snap_io.specs.Outside.{Outside, Given, Becomes}
 use Rattle.snap_io.specs.Streams.{HoldsFront}
 use Rattle.snap_run_requests.specs.Requests.{AssertionView, RequestView, asserts, ends, Spells, ReadsAs, Reads}
 use Rattle.snap_run.specs.Refused.{status_at, kind_of}
-use Rattle.snap_run.specs.Answers.{Answer, RunWords, place_by, settings_by, assertion_by, asked_by, is_taken, AreTaken, remembered_after, IsAllowed, step_by, line_by, requests_of, AreAllowed, files_after, lines_of, answer_fails}
+use Rattle.snap_run.specs.Answers.{Answer, RunWords, place_by, settings_by, assertion_by, asked_by, is_taken, AreTaken, remembered_after, IsAllowed, step_by, line_by, requests_of, AreAllowed, files_after, lines_of, answer_fails, passes}
 use Rattle.snap_assert_place.specs.SnapshotPath.{path_of}
 use Rattle.snap_assert.specs.Courses.{Course, Refused, course_of, cleared_at}
 use Rattle.snap_assert.specs.Judging.{Allowed}
@@ -20,6 +20,7 @@ use Rattle.snap_run.specs.declared.document_error.DocumentError.{DocumentError}
 use Rattle.snap_run.specs.declared.document_error.DocumentError.TheVariants as error
 use Rattle.snap_run.specs.declared.status.RefusalKind.{RefusalKind}
 use Rattle.snap_run.specs.declared.status.Status.{Status}
+use Rattle.snap_run.specs.declared.tally.Tally.{Tally}
 
 -- these documents were run with these answers: each was read as its answer's request, and was taken; and where the store and the
 -- sink tell, each pass is allowed, the files are those after all steps, and the lines are written. What is remembered is the requests' alone
@@ -31,11 +32,12 @@ pub record Ran (words : RunWords) (documents : List (List ℕ)) (answers : List 
   pub stands : Becomes before.files after.files (λ m. files_after words answers session m)
   pub lines : Becomes before.written after.written (λ w. w ++ lines_of words answers session)
 
--- the same of one document, and whether its answer fails
-pub record RanOne (words : RunWords) (document : List ℕ) (fails : Bool) (session session' : SessionView) (before after : Outside) : Type 0 where
+-- the same of one document, and what is counted of its answer
+pub record RanOne (words : RunWords) (document : List ℕ) (tally : Tally) (session session' : SessionView) (before after : Outside) : Type 0 where
   pub answer : Answer
   pub ran : Ran words (document ∷ []) (answer ∷ []) session session' before after
-  pub failing : answer_fails words answer.request answer.passed ≡ fails
+  pub failing : answer_fails words answer.request answer.passed ≡ tally.fails
+  pub passing : passes answer.request answer.passed ≡ tally.passed
 
 -- the name that an assertion takes, or why it takes none
 abbrev pub name_in : RunWords → AssertionView → SessionView → Result Named AssertError

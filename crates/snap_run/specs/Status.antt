@@ -5,21 +5,18 @@ use Rattle.snap_io.specs.Streams.{HoldsFront}
 use Rattle.snap_run_requests.specs.Cut.{documents}
 use Rattle.snap_run_requests.specs.Requests.{RequestView, Spells}
 use Rattle.snap_assert.specs.Session.{SessionView, empty_session}
-use Rattle.snap_run.specs.Answers.{Answer, RunWords, words_mean, text_asked, some_fails, is_taken, remembered_by}
+use Rattle.snap_run.specs.Answers.{Answer, RunWords, some_fails, passed_count, is_taken, remembered_by}
+use Rattle.snap_run.specs.Meaning.{meaning, nothing}
 use Rattle.snap_run.specs.Runs.{Ran, Stopped}
 use Rattle.snap_io_streams.specs.Streams.{TakesAtMost, TakesExactly}
 use Rattle.snap_run.specs.declared.status.Status.{Status}
+use Rattle.snap_run.specs.declared.tally.Tally.{Tally}
 use Rattle.snap_run.specs.declared.status.Status.TheVariants.{AllPassed, SomeFailed, BadWords, BadRequest, Refused, FileIo, ReadFault, WriteFault, OutOfMemory, InputTooLong}
 
--- `BadWords` exactly where the words say no run
-abbrev pub RunCause : List (List ℕ) → Status → Type 0
-RunCause words BadWords = words_mean words ≡ None
-RunCause words _ = (said : RunWords) × (words_mean words ≡ Some said)
-
--- `BadWords` exactly where the words say no run and ask for no text
+-- `BadWords` exactly where the words ask for nothing
 abbrev pub WordsCause : List (List ℕ) → Status → Type 0
-WordsCause words BadWords = (words_mean words ≡ None) × (text_asked words ≡ None)
-WordsCause words _ = ((said : RunWords) × (words_mean words ≡ Some said)) ⊎ ((text : List ℕ) × (text_asked words ≡ Some text))
+WordsCause words BadWords = meaning words ≡ nothing
+WordsCause words _ = meaning words ≡ nothing → ⊥
 
 -- a text that was asked for was written, or a part of its front where the sink failed
 abbrev pub IsTold : List ℕ → Status → Option (List ℕ) → Option (List ℕ) → Type 0
@@ -30,18 +27,28 @@ IsTold text _ written written' = ⊥
 abbrev pub IsUnchanged : Outside → Outside → Type 0
 IsUnchanged before after = (after.files ≡ before.files) × (after.written ≡ before.written)
 
--- the run came to its end, and some answer fails or none does
-pub record Ended (fails : Bool) (words : RunWords) (docs : List (List ℕ)) (session : SessionView) (before after : Outside) : Type 0 where
+-- the run came to its end, and this is counted of its answers
+pub record Ended (tally : Tally) (words : RunWords) (docs : List (List ℕ)) (session : SessionView) (before after : Outside) : Type 0 where
   pub answers : List Answer
   pub remembered : SessionView
   pub ran : Ran words docs answers session remembered before after
-  pub failing : some_fails words answers ≡ fails
+  pub failing : some_fails words answers ≡ tally.fails
+  pub passing : passed_count answers ≡ tally.passed
+
+-- the same, where some answer fails or none does
+abbrev pub EndedBy : Bool → RunWords → List (List ℕ) → SessionView → Outside → Outside → Type 0
+EndedBy fails words docs session before after = (passed : ℕ) × Ended (record { fails = fails; passed = passed }) words docs session before after
+
+-- the status of a run that came to its end
+abbrev pub ended_status : Bool → Status
+ended_status true = SomeFailed
+ended_status false = AllPassed
 
 -- what each status says of the documents, the files and the lines; before the first document nothing is remembered
 abbrev pub RunsTo : Status → RunWords → List (List ℕ) → Outside → Outside → Type 0
-RunsTo AllPassed words docs before after = Ended false words docs empty_session before after
-RunsTo SomeFailed words docs before after = Ended true words docs empty_session before after
-RunsTo BadWords words docs before after = IsUnchanged before after
+RunsTo AllPassed words docs before after = EndedBy false words docs empty_session before after
+RunsTo SomeFailed words docs before after = EndedBy true words docs empty_session before after
+RunsTo BadWords words docs before after = ⊥
 RunsTo (BadRequest n) words docs before after = Stopped (BadRequest n) words docs empty_session before after
 RunsTo (Refused n kind) words docs before after = Stopped (Refused n kind) words docs empty_session before after
 RunsTo (FileIo n path) words docs before after = Stopped (FileIo n path) words docs empty_session before after
@@ -50,16 +57,11 @@ RunsTo WriteFault words docs before after = Stopped WriteFault words docs empty_
 RunsTo OutOfMemory words docs before after = IsUnchanged before after ⊎ Stopped OutOfMemory words docs empty_session before after
 RunsTo InputTooLong words docs before after = IsUnchanged before after
 
--- without words of a run nothing is changed
-abbrev pub RunsBy : Status → Option RunWords → List (List ℕ) → Outside → Outside → Type 0
-RunsBy status None docs before after = IsUnchanged before after
-RunsBy status (Some words) docs before after = RunsTo status words docs before after
-
 -- the run is over the bytes that the source had left, where it tells them, and else over some bytes
-pub record RunsFrom (status : Status) (words : Option RunWords) (left : Option (List ℕ)) (before after : Outside) : Type 0 where
+pub record RunsFrom (status : Status) (words : RunWords) (left : Option (List ℕ)) (before after : Outside) : Type 0 where
   pub input : List ℕ
   pub told : (xs : List ℕ) → left ≡ Some xs → input ≡ xs
-  pub runs : RunsBy status words (documents input) before after
+  pub runs : RunsTo status words (documents input) before after
 
 -- the source was read to its end, within the limit
 pub record IsReadToEnd (limit : ℕ) (left left' : Option (List ℕ)) : Type 0 where
@@ -71,7 +73,7 @@ pub record IsReadToEnd (limit : ℕ) (left left' : Option (List ℕ)) : Type 0 w
 abbrev pub LengthCause : ℕ → Option (List ℕ) → Option (List ℕ) → Status → Type 0
 LengthCause limit left left' AllPassed = IsReadToEnd limit left left'
 LengthCause limit left left' SomeFailed = IsReadToEnd limit left left'
-LengthCause limit left left' BadWords = left' ≡ left
+LengthCause limit left left' BadWords = ⊥
 LengthCause limit left left' (BadRequest n) = IsReadToEnd limit left left'
 LengthCause limit left left' (Refused n kind) = IsReadToEnd limit left left'
 LengthCause limit left left' (FileIo n path) = IsReadToEnd limit left left'

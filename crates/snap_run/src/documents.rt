@@ -1,5 +1,5 @@
 //! One document, and many in turn.
-ghost use Rattle.std.specs.Prelude.{◌≡◌, ◌<◌, ◌≤◌, ◌^◌, List, ℕ, Option, IfOk, IfErr, OnOk, length, option_copied, true, false};
+ghost use Rattle.std.specs.Prelude.{◌≡◌, ◌<◌, ◌≤◌, ◌^◌, [], List, ℕ, Option, IfOk, IfErr, OnOk, length, option_copied, true, false};
 ghost use Rattle.snap_io.specs.Causes.{Counted};
 ghost use Rattle.snap_io.specs.Files.{Files};
 ghost use Rattle.snap_io.specs.Outside.{outside};
@@ -8,7 +8,7 @@ ghost use Rattle.snap_assert_place.specs.Place.{names_file, place_of};
 ghost use Rattle.snap_assert.specs.Session.{session_of, opened, closed, is_open};
 ghost use Rattle.snap_assert.specs.Listed.{IsKnown, StaysCovered};
 ghost use Rattle.snap_run.specs.Runner.{words_of};
-ghost use Rattle.snap_run.specs.Answers.{line_text, place_at};
+ghost use Rattle.snap_run.specs.Answers.{line_text, no_tally, place_at};
 ghost use Rattle.snap_run.specs.Status.{Ended, says_file_fault, says_write_fault};
 ghost use Rattle.snap_run.specs.Runs.{RanOne, StopsAt, Stopped, IsMade, AssertionStops, IsSeenFrom, is_store_fault, is_sink_fault};
 ghost use Rattle.snap_run_requests.specs.Requests.{ReadsAs, asserts};
@@ -17,6 +17,7 @@ ghost use Rattle.snap_run_requests.specs.RequestOf.{assertion_of};
 use crate::document_error::DocumentError;
 use crate::runner::Runner;
 use crate::status::Status;
+use crate::tally::Tally;
 use snap_assert::engine::assert_listed;
 use snap_assert::listed::Listed;
 use snap_assert::outcome::{Outcome, Verdict};
@@ -135,7 +136,7 @@ fn make_assertion<F: Store>(
     Ok(outcome?)
 }
 
-/// Makes the assertion that a document asks for and writes its line. Whether the answer fails.
+/// Makes the assertion that a document asks for and writes its line. What is counted of the answer.
 fn run_assertion<K: Sink, F: Store>(
     alloc: Global,
     runner: &Runner,
@@ -144,12 +145,12 @@ fn run_assertion<K: Sink, F: Store>(
     assertion: Assertion,
     sink: &mut K,
     store: &mut F,
-) -> Result<bool, DocumentError>
+) -> Result<Tally, DocumentError>
     requires { names_file assertion.file ≡ true }
-    ensures ok { IfOk result (λ fails. (document : List ℕ) (known : Option Files)
+    ensures ok { IfOk result (λ tally. (document : List ℕ) (known : Option Files)
         → ReadsAs document (asserts (assertion_of assertion))
         → IsKnown known (F.files store.old) listed.old
-        → RanOne (words_of runner.now) document fails (session_of session.old)
+        → RanOne (words_of runner.now) document tally (session_of session.old)
         (session_of session.new) (outside known (K.written sink.old))
         (outside (F.files store.new) (K.written sink.new))) }
     ensures err { IfErr result (λ error. (document : List ℕ) (known : Option Files)
@@ -161,41 +162,42 @@ fn run_assertion<K: Sink, F: Store>(
         (outside (F.files store.new) (K.written sink.new)))) }
     ensures covered { OnOk result (StaysCovered (F.files store.old) (F.files store.new) listed.old
         listed.new) }
+    ensures one { IfOk result (λ tally. tally.passed ≤ 1) }
     ensures store_count { Counted is_store_fault (F.faults store.old) (F.faults store.new) result }
     ensures sink_count { Counted is_sink_fault (K.faults sink.old) (K.faults sink.new) result }
 {
     let outcome = make_assertion(alloc, runner, session, listed, assertion, store)?;
     let line = line(alloc, outcome.verdict, &outcome.path)?;
     write_all(sink, line.as_str().as_bytes())?;
-    Ok(outcome.fails)
+    Ok(Tally::of_outcome(&outcome))
 }
 
-/// Opens a block of duplicates. No answer fails by that.
-fn begin_block(session: &mut Session) -> Result<bool, DocumentError>
-    ensures ok { IfOk result (λ fails. (fails ≡ false)
+/// Opens a block of duplicates. No answer is counted for that.
+fn begin_block(session: &mut Session) -> Result<Tally, DocumentError>
+    ensures ok { IfOk result (λ tally. (tally ≡ no_tally)
         × (session_of session.new ≡ opened (session_of session.old))) }
     ensures err { IfErr result (λ error. error ≡ DocumentError.OutOfMemory) }
 {
     session.begin_duplicates()?;
-    Ok(false)
+    Ok(Tally::none())
 }
 
 /// Closes a block of duplicates, where one is open.
-fn end_block(session: &mut Session) -> Result<bool, DocumentError>
-    ensures ok { IfOk result (λ fails. (fails ≡ false) × (is_open (session_of session.old) ≡ true)
+fn end_block(session: &mut Session) -> Result<Tally, DocumentError>
+    ensures ok { IfOk result (λ tally. (tally ≡ no_tally) × (is_open (session_of session.old) ≡ true)
         × (session_of session.new ≡ closed (session_of session.old))) }
     ensures err { IfErr result (λ error. (error ≡ DocumentError.NoRequest)
         × (is_open (session_of session.old) ≡ false)) }
 {
     if session.end_duplicates() {
-        Ok(false)
+        Ok(Tally::none())
     } else {
         Err(DocumentError::NoRequest)
     }
 }
 
 /// Reads one document and runs its request: an assertion is made and its line written; a block begins or ends without one.
-/// Whether the answer fails.
+/// What is counted of the answer.
 fn run_document<K: Sink, F: Store>(
     alloc: Global,
     runner: &Runner,
@@ -204,10 +206,10 @@ fn run_document<K: Sink, F: Store>(
     document: &[u8],
     sink: &mut K,
     store: &mut F,
-) -> Result<bool, DocumentError>
-    ensures ok { IfOk result (λ fails. (known : Option Files)
+) -> Result<Tally, DocumentError>
+    ensures ok { IfOk result (λ tally. (known : Option Files)
         → IsKnown known (F.files store.old) listed.old
-        → RanOne (words_of runner.now) document.now fails
+        → RanOne (words_of runner.now) document.now tally
         (session_of session.old) (session_of session.new)
         (outside known (K.written sink.old))
         (outside (F.files store.new) (K.written sink.new))) }
@@ -219,6 +221,7 @@ fn run_document<K: Sink, F: Store>(
         (outside (F.files store.new) (K.written sink.new)))) }
     ensures covered { OnOk result (StaysCovered (F.files store.old) (F.files store.new) listed.old
         listed.new) }
+    ensures one { IfOk result (λ tally. tally.passed ≤ 1) }
     ensures store_count { Counted is_store_fault (F.faults store.old) (F.faults store.new) result }
     ensures sink_count { Counted is_sink_fault (K.faults sink.old) (K.faults sink.new) result }
 {
@@ -232,7 +235,7 @@ fn run_document<K: Sink, F: Store>(
 }
 
 /// Runs the documents of an input in turn, up to the first that stops the run, with the status that tells of it. Each folder is listed
-/// once. Whether some answer fails.
+/// once. What is counted of the answers.
 pub fn run_documents<K: Sink, F: Store>(
     alloc: Global,
     runner: &Runner,
@@ -240,9 +243,9 @@ pub fn run_documents<K: Sink, F: Store>(
     input: &[u8],
     sink: &mut K,
     store: &mut F,
-) -> Result<bool, Status>
+) -> Result<Tally, Status>
     requires { length input.now < 2 ^ 63 }
-    ensures finished { IfOk result (λ fails. Ended fails (words_of runner.now) (documents input.now)
+    ensures finished { IfOk result (λ tally. Ended tally (words_of runner.now) (documents input.now)
         (session_of session.old) (outside (F.files store.old) (K.written sink.old))
         (outside (F.files store.new) (K.written sink.new))) }
     ensures stopped { IfErr result (λ status. Stopped status (words_of runner.now)
@@ -251,19 +254,20 @@ pub fn run_documents<K: Sink, F: Store>(
         (outside (F.files store.new) (K.written sink.new))) }
     ensures store_count { Counted says_file_fault (F.faults store.old) (F.faults store.new) result }
     ensures sink_count { Counted says_write_fault (K.faults sink.old) (K.faults sink.new) result }
+    ensures untouched { input.now ≡ [] → store.new ≡ store.old }
 {
     let mut listed = Listed::new(alloc);
     let mut rest = input;
     let mut document = 0u64;
-    let mut fails = false;
+    let mut tally = Tally::none();
     while !rest.is_empty() {
         let (first, later) = rest.split_at(first_document_end(rest));
         document += 1;
         match run_document(alloc, runner, session, &mut listed, first, sink, store) {
-            Ok(failed) => fails |= failed,
+            Ok(answered) => tally = tally.with(answered),
             Err(error) => return Err(error.status_at(document)),
         }
         rest = later;
     }
-    Ok(fails)
+    Ok(tally)
 }

@@ -18,6 +18,7 @@ pub const USAGE: &str = "\
 Snapshot tests: compares values with what you approved before.
 
 Usage: snap run MODE WORKSPACE [FLAG...] < REQUESTS
+       snap demo SEED COUNT
        snap --help | --version
 
 MODE says what becomes of a value that does not pass:
@@ -53,6 +54,10 @@ as texts, and have no aliases written (PyYAML: ignore_aliases; js-yaml: noRefs),
 or hand over JSON.
 
 Each answer is a line: passed, updated, pending or rejected, and the snapshot's path.
+
+demo runs COUNT requests of its own twice, in place in the workspace demo; SEED
+tells which they are. Three lines say how many they were, how many passed the second
+time, and how many bytes their files have. SEED is below 2^64, COUNT at most 10,000.
 
 Exit status:
   0  every request was answered, and none fails

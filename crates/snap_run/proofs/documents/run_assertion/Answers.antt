@@ -18,8 +18,8 @@ returns-in_err-line-clause-err g c =
 
 pub returns-clause-ok : goal.returns-clause-ok
 returns-clause-ok g c = λ document known reads held.
-    document_ran (words_of c.args.runner.now) (assertion_of c.args.assertion) c.in_ok-outcome.outcome c.in_ok-line.line c.as_bytes.result.now _ _ known _ _ _ (c.in_ok-outcome.ensures.ok known held) c.in_ok-line.ensures
-    (c.as_bytes.ensures.value ∙ sym (encodes-chars c.as_str.result.now c.as_str.utf8) ∙ ap encode_utf8_all c.as_str.ensures) c.in_ok-write_all.ensures.all document reads
+    document_ran (words_of c.args.runner.now) (assertion_of c.args.assertion) c.in_ok-outcome.outcome c.of_outcome.result c.in_ok-line.line c.as_bytes.result.now _ _ known _ _ _ (c.in_ok-outcome.ensures.ok known held) c.in_ok-line.ensures
+    (c.as_bytes.ensures.value ∙ sym (encodes-chars c.as_str.result.now c.as_str.utf8) ∙ ap encode_utf8_all c.as_str.ensures) c.in_ok-write_all.ensures.all c.of_outcome.ensures.fails c.of_outcome.ensures.passed document reads
 
 pub returns-in_err-write_all-clause-err : goal.returns-in_err-write_all-clause-err
 returns-in_err-write_all-clause-err g c =
