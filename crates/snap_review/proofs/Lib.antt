@@ -1,0 +1,9 @@
+mod Prelude
+mod Marks
+mod Puttings
+mod Choosing
+mod Readings
+mod Stopping
+mod Planning
+mod OnePatch
+mod RecordPaths

@@ -1,0 +1,10 @@
+pub mod Places
+pub mod Patched
+pub mod Chosen
+pub mod Describe
+pub mod Wanted
+pub mod Planned
+pub mod Read
+pub mod Carried
+pub mod Ends
+pub mod Program

@@ -1,0 +1,37 @@
+-- What the words of a command line ask for.
+use Rattle.std.specs.Prelude.{◌≡◌, ◌≢◌, ℕ, List, [], ◌∷◌, Option, None, Some, Result, Ok, Err, codes, unwrap_or, if◌then◌else◌}
+use Rattle.std.specs.Str.{bytes_eq}
+use Rattle.snap_assert_place.specs.SnapshotPath.{records_name}
+use Rattle.snap_path.specs.Paths.{joined, parent_of, name_of}
+use Rattle.snap_review.specs.declared.words.Command.{Command}
+use Rattle.snap_review.specs.declared.words.Command.TheVariants.{Accept, Reject}
+use Rattle.snap_review.specs.declared.words.Request.{Request}
+
+abbrev pub command_of : List ℕ → Option Command
+command_of verb = if bytes_eq verb (codes "accept") then Some Accept else if bytes_eq verb (codes "reject") then Some Reject else None
+
+-- the path of the file that keeps the records of a source file: beside it, `.f.pending-snap` where its last component is `f`
+abbrev pub records_path : List ℕ → List ℕ
+records_path path = joined (parent_of path) (records_name (unwrap_or (name_of path) []))
+
+-- the request for the path that a word is, with one slash between each two components
+abbrev pub request_at : Command → List ℕ → Request
+request_at command word = record { command = command; path = joined [] word; waiting = records_path (joined [] word) }
+
+abbrev pub request_named : Command → List ℕ → Option (List ℕ) → Option Request
+request_named command word None = None
+request_named command word (Some name) = Some (request_at command word)
+
+abbrev pub request_for : Option Command → List ℕ → Option Request
+request_for None word = None
+request_for (Some command) word = request_named command word (name_of word)
+
+-- the words are the name of a command and a path that has a last component
+abbrev pub wanted_by : List (List ℕ) → Option Request
+wanted_by (verb ∷ word ∷ []) = request_for (command_of verb) word
+wanted_by other = None
+
+-- what the words ask for was made, or memory was out for a request
+abbrev pub WordsEnd : {E : Type 0} → List (List ℕ) → Result (Option Request) E → Type 0
+WordsEnd words (Ok found) = found ≡ wanted_by words
+WordsEnd words (Err error) = wanted_by words ≢ None

@@ -1,0 +1,27 @@
+//! Review of what assertions of literals left waiting: the new texts are accepted into the source file, or rejected.
+//! Records of changed literals wait beside the source file; each asks for a new literal in place of the first one behind an `@` from
+//! its line on. No Rust is parsed: an `@` in a comment counts.
+//!
+//! In the order in which data flows: `places` (where the first literal stands from a line on), `patching` (a source with new literals),
+//! `chosen` (what the records ask for), `words` (what is asked of the program), `status` (how a run ended), `reading` (the records and
+//! the source), `plan` (what is to be changed and answered), `carrying` (the plan carried out), `reviewing` (one run), `usage` and
+//! `invocation` (the program), `laws`.
+#![tactic(auto)]
+
+pub mod carrying;
+pub mod chosen;
+pub mod invocation;
+pub mod laws;
+pub mod patching;
+pub mod places;
+pub mod plan;
+pub mod reading;
+pub mod reviewing;
+pub mod status;
+pub mod usage;
+pub mod words;
+
+pub use invocation::{program, review_program};
+pub use patching::{NewLiteral, Refusal, patched};
+pub use reviewing::review;
+pub use status::ReviewStatus;
