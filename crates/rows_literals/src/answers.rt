@@ -15,10 +15,12 @@ fn verdict_name(verdict: Verdict) -> &'static str {
 
 fn warning_name(warning: &Warning) -> &'static str {
     match warning {
+        Warning::LegacyFile => " LegacyFile",
+        Warning::NumberAsText => " NumberAsText",
+        Warning::Unreadable(_) => " Unreadable",
         Warning::LegacyContents => " LegacyContents",
         Warning::OpenLiteral => " OpenLiteral",
         Warning::InlineInDoctest => " InlineInDoctest",
-        _ => " ! no warning of a literal",
     }
 }
 

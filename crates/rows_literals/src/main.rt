@@ -1,4 +1,4 @@
-//! Prints what assertions of literals come to, over a store in memory.
+//! Prints what assertions of literals, and of texts and payloads beside them, come to, over a store in memory.
 //!
 //! Each line of standard input is a case, a tab between each two columns, in which `\n`, `\r`, `\t`, `\0` and `\\` stand for these
 //! characters. The first column is the mode, `new`, `inplace` or `no`, and after blanks the flags `force` and `full`. The others are done
@@ -8,6 +8,7 @@
 #![tactic(auto)]
 
 mod answers;
+mod files;
 mod steps;
 
 use crate::steps::steps_line;

@@ -2,8 +2,11 @@
 //!
 //! A column says what is done: `begin` and `end` open a block of duplicates and close one, after `info` the settings have an info whose key is a
 //! list, `fail CALL` lets that call of the store fail, and `FUNCTION LINE|REFERENCE|TEXT` asserts at this line of the function that the literal which
-//! reads as the reference stands for the text.
+//! reads as the reference stands for the text. Of files: `text NAME|TEXT` asserts the text for a file under this name, or under that of the function
+//! `m::test_foo` where there is none; `binary NAME.EXTENSION|NUMBERS` asserts the payload of these bytes, a blank between each two; `put PATH|TEXT`
+//! has a file stand at the path; `show PATH` adds the text of the file there, and `bytes PATH` its bytes.
 use crate::answers::add_answer;
+use crate::files::add_file_step;
 use rows::{add_file, add_text_column, text_of};
 use snap_assert::{
     AssertError, Config, DefaultComparator, InlineValue, Outcome, Place, Session, Settings,
@@ -14,7 +17,11 @@ use snap_io::MemoryStore;
 use std::alloc::Global;
 
 /// A place at this line of the function.
-fn place_in(alloc: Global, function: &str, digits: &str) -> Result<Place, anyhow::Error> {
+pub(crate) fn place_in(
+    alloc: Global,
+    function: &str,
+    digits: &str,
+) -> Result<Place, anyhow::Error> {
     let workspace = Text::from_ascii(alloc, "w")?;
     let function = Text::from_str(alloc, function)?;
     let module = Text::from_ascii(alloc, "m")?;
@@ -103,6 +110,10 @@ fn add_step(
 ) -> Result<(), anyhow::Error> {
     if let Some(call) = column.strip_prefix("fail ") {
         return Ok(fail_at(alloc, store, call)?);
+    }
+    let step = column.split_once(' ').unwrap_or((column, ""));
+    if add_file_step(alloc, line, session, store, config, settings, step)? {
+        return Ok(());
     }
     match column {
         "begin" => Ok(session.begin_duplicates()?),

@@ -1,5 +1,5 @@
 -- What is answered.
-use Rattle.snap_assert.proofs.Prelude.{◌≡◌, ◌&&◌, Bool, true, not, Option, Some, Files, IsDone, IsAnswered, IsPrepared, IsSettled, IsKnown, IsCovered, Asked, ℕ, List, Blocks, Plain, is_trimmed, assertion_of, asked_under, verdict_of, is_failure, refl, get, Judged, Prepared, Config, SessionView}
+use Rattle.snap_assert.proofs.Prelude.{◌≡◌, ◌&&◌, Bool, true, not, Option, Some, Files, IsDone, IsAnswered, IsPrepared, IsSettled, IsKnown, IsCovered, Asked, ℕ, List, Blocks, Plain, is_trimmed, assertion_of, asked_under, verdict_of, is_failure, refl, Judged, Prepared, Config, SessionView}
 use Rattle.snap_content.specs.List.{items_of}
 use Rattle.snap_content.specs.Plain.{plain}
 use Rattle.snap_content.specs.Tree.{Tree}
@@ -36,10 +36,10 @@ default_done config asked w tree outcome files files' trimmed text d = record {
   verdict = d.verdict;
   path = d.path;
   fails = d.fails;
-  allowed = λ m told. judged_allowed config.require_full_match asked w tree (get m asked.path) d.passed (items_of outcome.warnings) trimmed text (d.passes m told);
+  allowed = λ m told. judged_allowed config.require_full_match asked w tree m d.passed (items_of outcome.warnings) trimmed text (d.passes m told);
   stands = d.stands;
-  warned = λ m told. judged_warned config.require_full_match asked w tree (get m asked.path) d.passed (items_of outcome.warnings) (d.passes m told);
-  one = λ m told. judged_of_one (default_relation config.require_full_match) (with_tree asked w tree) (get m asked.path) d.passed (items_of outcome.warnings) (d.passes m told);
+  warned = λ m told. judged_warned config.require_full_match asked w tree m d.passed (items_of outcome.warnings) (d.passes m told);
+  one = λ m told. judged_of_one (default_relation config.require_full_match) (with_tree asked w tree) m d.passed (items_of outcome.warnings) (d.passes m told);
 }
 
 pub default_answered : (config : Config) (w : Blocks) (settings : SettingsView) (place : PlaceView) (given : Option (List ℕ)) (printed : Tree) (outcome : Outcome) (files files' : Option Files) (session session' : SessionView) → is_trimmed w ≡ true

@@ -1,13 +1,16 @@
 -- What is known of a store's folders goes on through listings, removals and writes.
-use Rattle.snap_assert.proofs.Prelude.{◌≡◌, ◌+◌, ◌<◌, ◌≤◌, ◌||◌, ◌&&◌, ℕ, Bool, true, false, cond, List, [], ◌∷◌, ◌++◌, length, take, get_or, Option, None, Some, refl, sym, ap, ◌∙◌, subst, take_more, take_all, is_some, bytes_eq, bytes_eq-Decides, list_any, filter, get, insert, remove, get-insert, Files, parent_of, joined, is_stray, pending_path, cleared, remove_each, is_among, Asked, written, passed_files, step, AllStray, AreStrays, Covers, CoversAt, MayWait, WaitsStill, Update, InPlace, NewFile, NoUpdate}
+use Rattle.snap_assert.proofs.Prelude.{◌≡◌, ◌+◌, ◌<◌, ◌≤◌, ◌||◌, ◌&&◌, ℕ, Bool, true, false, cond, List, [], ◌∷◌, ◌++◌, length, take, get_or, Option, None, Some, refl, sym, ap, ◌∙◌, subst, take_more, take_all, is_some, bytes_eq, bytes_eq-Decides, list_any, filter, get, insert, remove, get-insert, Files, parent_of, joined, is_stray, pending_path, cleared, remove_each, is_among, Asked, Meta, without_line, written, passed_files, step, AllStray, AreStrays, Covers, CoversAt, MayWait, WaitsStill, Update, InPlace, NewFile, NoUpdate}
 use Rattle.std.specs.BTreeMap.{is_at}
 use Rattle.std.specs.Cmp.Lexicographic.{slice_cmp}
 use Rattle.std.specs.Ordering.{nat_cmp}
 use Rattle.std.proofs.lemmas.Cmp.{nat_list_cmp_total}
 use Rattle.std.proofs.lemmas.List.Folds.{list_any-append}
 use Rattle.std.proofs.lemmas.Map.Text.{is_eq-slice_cmp}
+use Rattle.snap_io.specs.Changes.{all_changed}
 use Rattle.snap_io.specs.Listed.{AreNames}
 use Rattle.snap_assert_place.specs.SnapshotPath.{IsFilePath}
+use Rattle.snap_assert.specs.Steps.{saved_as}
+use Rattle.snap_assert.specs.Subjects.{Subject, tree_with, text_as, payload_with, extension_in}
 use Rattle.snap_assert.proofs.Removals.{get-removed, get-remove_each}
 use Rattle.snap_assert.proofs.StrayPaths.{stray_named, filtered}
 
@@ -183,18 +186,25 @@ pub all_covered : (m : Files) → Covers m [] []
 all_covered m = record { each = λ path q file listed stray there. absurd (cc listed) }
 
 -- what a snapshot's removal and its writing leave covered
-covers_writing : (mode : Update) (asked : Asked) (m : Files) (folders waiting : List (List ℕ)) → Covers m folders waiting → MayWait waiting asked.path → MayWait waiting (pending_path asked.path)
-    → Covers (written mode asked m) folders waiting
-covers_writing InPlace asked m folders w c approved pending = covers_written m asked.path _ folders w c approved
-covers_writing NewFile asked m folders w c approved pending = covers_written m (pending_path asked.path) _ folders w c pending
-covers_writing NoUpdate asked m folders w c approved pending = c
+covers_saved : (path : List ℕ) (meta : Meta) (subject : Subject) (m : Files) (folders waiting : List (List ℕ)) → extension_in subject ≡ None → Covers m folders waiting → MayWait waiting path
+    → Covers (all_changed (saved_as path meta subject) m) folders waiting
+covers_saved path meta (tree_with b tree) m folders w none c may = covers_written m path _ folders w c may
+covers_saved path meta (text_as raw) m folders w none c may = covers_written m path _ folders w c may
+covers_saved path meta (payload_with extension bytes) m folders w none c may = absurd (cc none)
 
-pub covers_step : (mode : Update) (force : Bool) (asked : Asked) (passed : Bool) (m : Files) (folders waiting : List (List ℕ)) → CoversAt asked.path (cleared asked.path m) folders waiting
+covers_writing : (mode : Update) (asked : Asked) (m : Files) (folders waiting : List (List ℕ)) → extension_in asked.subject ≡ None → Covers m folders waiting → MayWait waiting asked.path
+    → MayWait waiting (pending_path asked.path) → Covers (written mode asked m) folders waiting
+covers_writing InPlace asked m folders w none c approved pending = covers_saved asked.path (without_line asked.meta) asked.subject m folders w none c approved
+covers_writing NewFile asked m folders w none c approved pending = covers_saved (pending_path asked.path) asked.meta asked.subject m folders w none c pending
+covers_writing NoUpdate asked m folders w none c approved pending = c
+
+-- that holds where no payload is written: its own path may be taken for one that another left
+pub covers_step : (mode : Update) (force : Bool) (asked : Asked) (passed : Bool) (m : Files) (folders waiting : List (List ℕ)) → extension_in asked.subject ≡ None → CoversAt asked.path (cleared asked.path m) folders waiting
     → Covers (step mode force asked passed m) folders waiting
-covers_step mode true asked true m folders w k =
-    covers_writing mode asked (passed_files asked.path m) folders w (covers_gone (cleared asked.path m) (pending_path asked.path) folders w k.covered) k.approved k.pending
-covers_step mode false asked true m folders w k = covers_gone (cleared asked.path m) (pending_path asked.path) folders w k.covered
-covers_step mode force asked false m folders w k = covers_writing mode asked (cleared asked.path m) folders w k.covered k.approved k.pending
+covers_step mode true asked true m folders w none k =
+    covers_writing mode asked (passed_files asked.path m) folders w none (covers_gone (cleared asked.path m) (pending_path asked.path) folders w k.covered) k.approved k.pending
+covers_step mode false asked true m folders w none k = covers_gone (cleared asked.path m) (pending_path asked.path) folders w k.covered
+covers_step mode force asked false m folders w none k = covers_writing mode asked (cleared asked.path m) folders w none k.covered k.approved k.pending
 
 -- once the strays are gone and forgotten, and both paths that may be written wait
 pub covers_cleared : (path approved pending : List ℕ) (m : Files) (gone folders folders' folders'' folders''' waiting waiting' waiting'' waiting''' : List (List ℕ)) → approved ≡ path → pending ≡ pending_path path

@@ -1,7 +1,7 @@
 -- What an assertion would answer, in turn: the name, the block, and the file.
 use Rattle.snap_assert.proofs.Prelude.{◌≡◌, ℕ, Bool, List, Option, None, Result, Ok, Err, refl, IfOk, ap, ◌∙◌, subst, Files, Assertion, asked_under, key_under, new_contents, SessionView, IsPrepared, IsJudged, Prepared, Asked, contents_in, AssertError, Judged}
 use Rattle.snap_io.specs.Outside.{Given, Becomes}
-use Rattle.snap_store.specs.declared.contents.SnapshotContents.{SnapshotContents}
+use Rattle.snap_assert.specs.declared.prepare.Asserted.{Asserted}
 use Rattle.snap_assert_place.specs.Place.{PlaceView}
 use Rattle.snap_assert_settings.specs.Settings.{SettingsView}
 use Rattle.snap_assert.specs.Steps.{asked_for}
@@ -16,17 +16,17 @@ use Rattle.snap_assert.specs.Previews.{IsForeseen, IsPreviewed}
 use Rattle.snap_assert.specs.declared.preview.Preview.{Preview}
 
 -- what was prepared, and how the file was judged, as one answer
-pub foreseen : (fully : Bool) (result : Result Preview AssertError) (judged : Result Judged AssertError) (settings : SettingsView) (place : PlaceView) (name : List ℕ) (contents : SnapshotContents) (prepared : Prepared) (files : Option Files)
-    → ((subject : Subject) → IsHeld subject contents → IsPrepared (asked_for settings place name subject) prepared)
+pub foreseen : (fully : Bool) (result : Result Preview AssertError) (judged : Result Judged AssertError) (settings : SettingsView) (place : PlaceView) (name : List ℕ) (asserted : Asserted) (prepared : Prepared) (files : Option Files)
+    → ((subject : Subject) → IsHeld subject asserted → IsPrepared (asked_for settings place name subject) prepared)
     → IfOk judged (λ j. (other : Asked) → IsPrepared other prepared → Given files (λ m. IsJudged (default_relation fully) other m j))
     → IfOk result (λ preview. preview.path ≡ prepared.path) → IfOk result (λ preview. contents_in preview.snapshot ≡ contents_in prepared.snapshot) → IfOk result (λ preview. judged ≡ Ok preview.judged)
-    → IfOk result (λ preview. (subject : Subject) → IsHeld subject contents → IsForeseen fully (asked_for settings place name subject) preview files)
+    → IfOk result (λ preview. (subject : Subject) → IsHeld subject asserted → IsForeseen fully (asked_for settings place name subject) preview files)
 foreseen fully (Ok preview) judged settings place name held prepared files p compared path contents is = λ subject by.
     let asked = asked_for settings place name subject in
     let ready = p subject by in
     record {
       path = path ∙ ready.path;
-      contents = contents ∙ ready.held.contents_is;
+      contents = contents ∙ ready.contents;
       judged = (subst (λ r. IfOk r (λ j. (other : Asked) → IsPrepared other prepared → Given files (λ m. IsJudged (default_relation fully) other m j))) is compared) asked ready;
     }
 foreseen fully (Err error) judged settings place name held prepared files p compared path contents is = tt

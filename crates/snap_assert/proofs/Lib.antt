@@ -6,6 +6,8 @@ mod Judgements
 mod StrayPaths
 mod Removals
 mod Covering
+mod Writing
+mod Extensions
 pub mod Keeping
 mod ApprovedPaths
 mod Looking

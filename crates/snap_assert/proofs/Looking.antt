@@ -1,10 +1,11 @@
 -- What was seen of a file, and of what is asked.
-use Rattle.snap_assert.proofs.Prelude.{◌≡◌, ℕ, Bool, true, false, List, [], ◌∷◌, Option, Some, Plain, Blocks, Result, Ok, Err, refl, sym, ap, ◌∙◌, subst, inl, inr, IfOk, get, is_trimmed, text_of, Error, FailedParsingYaml, UnexpectedDataType, MissingField, FileIo, FloatText, JsonKey, NotText, NoFile, OutOfMemory, Files, Agree, normal, body_of, Meta, IsTextFile, IsReadAs, IsReadFrom, IsRefused, Tells, meta_in, contents_in, legacy_in, number_text_in, Snapshot, Allowed, Asked, AreWarnings, PassWarns, IsHeadedFile, IsNotUnderstood, IsPrepared, IsJudged, OlderAs, NoPass, RefusedEnd, IsCompared, SpeakOfOne, said_if, said, NamesOnly, AssertError, Judged, Prepared}
+use Rattle.snap_assert.proofs.Prelude.{◌≡◌, ℕ, Bool, true, false, List, [], ◌∷◌, Option, Some, Plain, Blocks, Result, Ok, Err, refl, sym, ap, ◌∙◌, subst, inl, inr, IfOk, get, is_trimmed, text_of, Error, FailedParsingYaml, UnexpectedDataType, MissingField, FileIo, FloatText, JsonKey, NotText, NoFile, OutOfMemory, Files, Agree, normal, body_of, Meta, IsTextFile, IsReadAs, IsReadFrom, IsRefused, Tells, meta_in, contents_in, legacy_in, number_text_in, Snapshot, Allowed, Asked, AreWarnings, PassWarns, IsHeadedFile, IsNotUnderstood, IsPrepared, IsJudged, OlderAs, NoPass, RefusedEnd, IsCompared, SpeakOfOne, said_if, said, AssertError, Judged, Prepared}
 use Rattle.snap_content.specs.List.{items_of}
-use Rattle.snap_store.specs.Reading.{FileEnd}
+use Rattle.snap_store.specs.Reading.{FileEnd, HoldsBeside}
 use Rattle.snap_store.specs.Views.{snapshot_of}
 use Rattle.snap_store.specs.declared.metadata.SnapshotKind.TheVariants as kind
 use Rattle.snap_assert.specs.Default.{default_relation}
+use Rattle.snap_assert.specs.Kept.{NamesRead}
 use Rattle.snap_assert.specs.Prepared.{JudgedBy, IsPassedBy, new_view}
 use Rattle.snap_assert.specs.Relations.{Relation}
 use Rattle.snap_assert.specs.declared.error.AssertError.TheVariants as stop
@@ -56,10 +57,13 @@ default_agrees false asked w tree snapshot h = h.0
 default_agrees true asked w tree snapshot h = full_agrees (contents_in snapshot) (text_of w tree) (meta_in snapshot) asked.meta h
 
 -- by what was read, and how it was compared, it may pass
-pub judged_allowed : (fully : Bool) (asked : Asked) (w : Blocks) (tree : Plain) (file : Option (List ℕ)) (passed : Bool) (warnings : List Warning) → is_trimmed w ≡ true → asked.meta.kind ≡ kind.Text
-    → IsPassedBy (default_relation fully) (with_tree asked w tree) file passed warnings → Allowed fully (with_tree asked w tree) passed file
-judged_allowed fully asked w tree file passed warnings trimmed text j = by_read j.read j.end j.comes_to
+pub judged_allowed : (fully : Bool) (asked : Asked) (w : Blocks) (tree : Plain) (m : Files) (passed : Bool) (warnings : List Warning) → is_trimmed w ≡ true → asked.meta.kind ≡ kind.Text
+    → IsPassedBy (default_relation fully) (with_tree asked w tree) m passed warnings → Allowed fully (with_tree asked w tree) passed (get m asked.path)
+judged_allowed fully asked w tree m passed warnings trimmed text j = by_read j.read j.end j.comes_to
   where
+    file : Option (List ℕ)
+    file = get m asked.path
+
     none : (error : Error) → IsRefused asked.path file error → ((named : List ℕ) → error ≡ FileIo named → ⊥) → (error ≡ OutOfMemory → ⊥) → passed ≡ false
         → Allowed fully (with_tree asked w tree) passed file
     none error h io memory e =
@@ -79,10 +83,13 @@ judged_allowed fully asked w tree file passed warnings trimmed text j = by_read 
     by_read (Err JsonKey) h c = absurd c
 
 -- and this is said
-pub judged_warned : (fully : Bool) (asked : Asked) (w : Blocks) (tree : Plain) (file : Option (List ℕ)) (passed : Bool) (warnings : List Warning) → IsPassedBy (default_relation fully) (with_tree asked w tree) file passed warnings
-    → AreWarnings asked.path file passed (text_of w tree) warnings
-judged_warned fully asked w tree file passed warnings j = by_read j.read j.end j.comes_to
+pub judged_warned : (fully : Bool) (asked : Asked) (w : Blocks) (tree : Plain) (m : Files) (passed : Bool) (warnings : List Warning) → IsPassedBy (default_relation fully) (with_tree asked w tree) m passed warnings
+    → AreWarnings asked.path (get m asked.path) passed (text_of w tree) warnings
+judged_warned fully asked w tree m passed warnings j = by_read j.read j.end j.comes_to
   where
+    file : Option (List ℕ)
+    file = get m asked.path
+
     printed : List ℕ
     printed = text_of w tree
 
@@ -107,9 +114,12 @@ judged_warned fully asked w tree file passed warnings j = by_read j.read j.end j
     by_read (Err JsonKey) h c = absurd c
 
 -- of one reading
-pub judged_of_one : (relation : Relation) (asked : Asked) (file : Option (List ℕ)) (passed : Bool) (warnings : List Warning) → IsPassedBy relation asked file passed warnings → SpeakOfOne asked.path file passed warnings
-judged_of_one relation asked file passed warnings j = by_read j.read j.end j.comes_to
+pub judged_of_one : (relation : Relation) (asked : Asked) (m : Files) (passed : Bool) (warnings : List Warning) → IsPassedBy relation asked m passed warnings → SpeakOfOne asked.path (get m asked.path) passed warnings
+judged_of_one relation asked m passed warnings j = by_read j.read j.end j.comes_to
   where
+    file : Option (List ℕ)
+    file = get m asked.path
+
     by_read : (read : Result Snapshot Error) → FileEnd asked.path file read → JudgedBy relation read (new_view asked) passed warnings
         → SpeakOfOne asked.path file passed warnings
     by_read (Ok snapshot) r c = record { read = Ok snapshot; end = r; says = (c.older, c.said_is) }
@@ -122,19 +132,20 @@ pub judge_read : (relation : Relation) (asked : Asked) (m : Files) (prepared : P
 judge_read relation asked m prepared files snapshot judged p told r c = record {
   read = Ok snapshot;
   end = subst (λ f. IsReadAs f snapshot) (r.told m told ∙ ap (get m) p.path) r.comes_to;
+  beside = subst (λ path. HoldsBeside path m (meta_in snapshot).kind (contents_in snapshot)) p.path (r.beside m told);
   comes_to = subst (λ v. IsCompared relation (snapshot_of snapshot) v judged.passed (items_of judged.warnings)) p.view c;
 }
 
 by_error : (relation : Relation) (asked : Asked) (m : Files) (error : Error) (result : Result Judged AssertError) → IsRefused asked.path (get m asked.path) error
     → RefusedEnd error result → IfOk result (λ judged. IsJudged relation asked m judged)
 by_error relation asked m error (Err e) h end = tt
-by_error relation asked m (NoFile named) (Ok judged) h end = record { read = Err (NoFile named); end = h; comes_to = end }
+by_error relation asked m (NoFile named) (Ok judged) h end = record { read = Err (NoFile named); end = h; beside = tt; comes_to = end }
 by_error relation asked m (FileIo named) (Ok judged) h end = absurd (cc end)
 by_error relation asked m OutOfMemory (Ok judged) h end = absurd (cc end)
-by_error relation asked m (NotText named) (Ok judged) h end = record { read = Err (NotText named); end = h; comes_to = end }
-by_error relation asked m (FailedParsingYaml named) (Ok judged) h end = record { read = Err (FailedParsingYaml named); end = h; comes_to = end }
-by_error relation asked m UnexpectedDataType (Ok judged) h end = record { read = Err UnexpectedDataType; end = h; comes_to = end }
-by_error relation asked m MissingField (Ok judged) h end = record { read = Err MissingField; end = h; comes_to = end }
+by_error relation asked m (NotText named) (Ok judged) h end = record { read = Err (NotText named); end = h; beside = tt; comes_to = end }
+by_error relation asked m (FailedParsingYaml named) (Ok judged) h end = record { read = Err (FailedParsingYaml named); end = h; beside = tt; comes_to = end }
+by_error relation asked m UnexpectedDataType (Ok judged) h end = record { read = Err UnexpectedDataType; end = h; beside = tt; comes_to = end }
+by_error relation asked m MissingField (Ok judged) h end = record { read = Err MissingField; end = h; beside = tt; comes_to = end }
 by_error relation asked m (FloatText named) (Ok judged) h end = absurd h
 by_error relation asked m JsonKey (Ok judged) h end = absurd h
 
@@ -151,8 +162,8 @@ pub all_judged : (relation : Relation) (prepared : Prepared) (files : Option Fil
 all_judged relation prepared files (Ok judged) h = h
 all_judged relation prepared files (Err e) h = tt
 
--- a fault in reading names the snapshot's path
-unrefused_at : (path : List ℕ) (warnings : List Warning) (result : Result Judged AssertError) → NoPass warnings result → NamesOnly path result
+-- a fault in reading names the snapshot's path, or that of a payload beside it
+unrefused_at : (path : List ℕ) (warnings : List Warning) (result : Result Judged AssertError) → NoPass warnings result → NamesRead path result
 unrefused_at path warnings (Ok judged) h = tt
 unrefused_at path warnings (Err stop.OutOfMemory) h = tt
 unrefused_at path warnings (Err (stop.FileIo named)) h = absurd h
@@ -164,10 +175,11 @@ unrefused_at path warnings (Err stop.InlineDuplicate) h = absurd h
 unrefused_at path warnings (Err stop.BadExtension) h = absurd h
 unrefused_at path warnings (Err stop.JsonKey) h = absurd h
 
-pub refused_at : (path : List ℕ) (file : Option (List ℕ)) (error : Error) (result : Result Judged AssertError) → IsRefused path file error → RefusedEnd error result → NamesOnly path result
+pub refused_at : (path : List ℕ) (file : Option (List ℕ)) (error : Error) (result : Result Judged AssertError) → IsRefused path file error → RefusedEnd error result → NamesRead path result
 refused_at path file (NoFile named) result h end = unrefused_at path [] result end
-refused_at path file (FileIo named) result h end = subst (NamesOnly {T = Judged} path) (sym end) h
-refused_at path file OutOfMemory result h end = subst (NamesOnly {T = Judged} path) (sym end) tt
+refused_at path file (FileIo named) result (inl at) end = subst (NamesRead {T = Judged} path) (sym end) (inl at)
+refused_at path file (FileIo named) result (inr beside) end = subst (NamesRead {T = Judged} path) (sym end) (inr (beside.extension, beside.named_is))
+refused_at path file OutOfMemory result h end = subst (NamesRead {T = Judged} path) (sym end) tt
 refused_at path file (NotText named) result h end = unrefused_at path (Unreadable (NotText named) ∷ []) result end
 refused_at path file (FailedParsingYaml named) result h end = unrefused_at path (Unreadable (FailedParsingYaml named) ∷ []) result end
 refused_at path file UnexpectedDataType result h end = unrefused_at path (Unreadable UnexpectedDataType ∷ []) result end

@@ -41,7 +41,7 @@ pub use Rattle.snap_text.specs.declared.contents.TextSnapshotKind.TheVariants.{F
 pub use Rattle.snap_assert.specs.Assertions.{Assertion, asked_under, key_under, new_contents, assertion_of}
 pub use Rattle.snap_assert_settings.specs.declared.config.Config.{Config}
 pub use Rattle.snap_assert.specs.Judging.{BodyAgrees, BodyMatches, HasTextHeader, HasBinaryHeader, IsLegacyFile, IsUnread, HeaderGives, LinesGive, MatchesAll, May, MayFully, Allowed, IsSavedFor}
-pub use Rattle.snap_assert.specs.Kept.{is_written, may_change, Keeps, IsKeptOrGone, is_none, is_waiting, NamesOnly, KeptBy, IsWrittenAlone, IsTakenAlone, IsOwn, FaultIsOwn, FaultIsAt, NamesOwn}
+pub use Rattle.snap_assert.specs.Kept.{is_written, may_change, Keeps, IsKeptOrGone, is_none, is_waiting, NamesOnly, KeptBy, IsTakenAlone, IsOwn, FaultIsOwn, FaultIsAt, NamesOwn}
 pub use Rattle.snap_assert.specs.Listed.{Covers, CoversAt, IsCovered, IsCoveredAt, IsKnown, MayWait, WaitsStill}
 pub use Rattle.snap_assert.specs.Outcomes.{IsAnswered, IsDone, AreWarnings, PassWarns, IsHeadedFile, IsNotUnderstood, SpeakOfOne, said_if, said}
 pub use Rattle.snap_assert.specs.Prepared.{IsPrepared, IsSettled, IsJudged, OlderTexts, OlderPair, OlderAs, NoPass, RefusedEnd, IsCompared}

@@ -1,32 +1,34 @@
 -- The contents of the new snapshot.
-use Rattle.snap_assert.proofs.Prelude.{◌≡◌, ◌∙◌, ℕ, List, Some, refl, sym, ap, subst, IsSome, Plain, IsWithin, blocks_if, text_of, raw_of, kind_of, Text, File, contents_in, text_in, Asked, Option, Bool, false, Meta, Snapshot, meta_in, legacy_in, number_text_in, new_contents}
+use Rattle.snap_assert.proofs.Prelude.{◌≡◌, ◌∙◌, ℕ, List, Some, refl, ap, Plain, IsWithin, blocks_if, text_of, raw_of, kind_of, Text, File, contents_in, Asked, Option, Bool, false, Meta, Snapshot, meta_in, legacy_in, number_text_in, new_contents}
 use Rattle.snap_text.proofs.NormalForms.{normal-printed}
 use Rattle.snap_assert.proofs.Below.{trimmed-if}
-use Rattle.snap_assert.specs.Subjects.{Subject, tree_with, text_as, file_text, IsHeld}
+use Rattle.snap_store.specs.declared.contents.SnapshotContents.TheVariants.{Binary}
+use Rattle.snap_store.specs.declared.metadata.SnapshotKind.TheVariants as kind
+use Rattle.snap_assert.specs.Subjects.{tree_with, text_as, payload_with, file_text, IsHeld}
+use Rattle.snap_assert.specs.declared.prepare.Asserted.{Asserted}
 use Rattle.snap_store.specs.Views.{module_in, name_in, SnapshotView, snapshot_of}
 use Rattle.snap_store.specs.declared.contents.SnapshotContents.{SnapshotContents}
 use Rattle.snap_assert.specs.Prepared.{new_view}
 use Rattle.snap_text.specs.declared.contents.TextSnapshotContents.{TextSnapshotContents}
 
-pub held_text : (subject : Subject) (contents : SnapshotContents) → (h : IsHeld subject contents) → text_in contents ≡ Some h.raw
-held_text subject contents h = ap (λ c. text_in c) h.contents_is ∙ h.text
+-- contents of the kind of a text
+abbrev pub text_with : SnapshotContents → Asserted
+text_with contents = record { kind = kind.Text; contents = contents }
 
--- contents that are held are those of a text
-pub has_text : (subject : Subject) (contents : SnapshotContents) → IsHeld subject contents → IsSome (text_in contents)
-has_text subject contents h = subst IsSome (sym (held_text subject contents h)) refl
-
--- the text of a tree is held as it is, and so is any text
-pub tree_held : (literal : Bool) (p : Plain) (contents : SnapshotContents) (text : List ℕ) → contents ≡ file_text text → text ≡ text_of (blocks_if literal) p → IsWithin p
-    → IsHeld (tree_with (blocks_if literal) p) contents
-tree_held literal p contents text is printed within = record {
-  contents_is = is ∙ ap file_text printed;
-  raw = text_of (blocks_if literal) p;
-  text = refl;
-  saved = normal-printed (blocks_if literal) p (trimmed-if literal) within;
+-- the text of a tree is held as it is, any text in its normal form, and a payload beside its file
+pub tree_held : (literal : Bool) (p : Plain) (asserted : Asserted) (text : List ℕ) → asserted ≡ record { kind = kind.Text; contents = file_text text } → text ≡ text_of (blocks_if literal) p → IsWithin p
+    → IsHeld (tree_with (blocks_if literal) p) asserted
+tree_held literal p asserted text is printed within = record {
+  contents = ap (λ a. a.contents) is ∙ ap file_text printed;
+  kind = ap (λ a. a.kind) is;
+  body = normal-printed (blocks_if literal) p (trimmed-if literal) within;
 }
 
-pub text_held : (raw : List ℕ) (contents : SnapshotContents) → contents ≡ file_text raw → IsHeld (text_as raw) contents
-text_held raw contents is = record { contents_is = is; raw = raw; text = refl; saved = refl }
+pub text_held : (raw : List ℕ) (asserted : Asserted) → asserted ≡ record { kind = kind.Text; contents = file_text raw } → IsHeld (text_as raw) asserted
+text_held raw asserted is = record { contents = ap (λ a. a.contents) is; kind = ap (λ a. a.kind) is; body = refl }
+
+pub payload_held : (extension bytes : List ℕ) (asserted : Asserted) → asserted ≡ record { kind = kind.Binary extension; contents = Binary (Some bytes) } → IsHeld (payload_with extension bytes) asserted
+payload_held extension bytes asserted is = record { contents = ap (λ a. a.contents) is; kind = ap (λ a. a.kind) is; body = refl }
 
 -- the text of a file, with what is in it
 pub contents_is : (t : TextSnapshotContents) (text : List ℕ) → raw_of t ≡ text → kind_of t ≡ File → Text t ≡ Text (record { raw = text; kind = File })

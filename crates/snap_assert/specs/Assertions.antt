@@ -7,11 +7,11 @@ use Rattle.snap_store.specs.declared.contents.SnapshotContents.{SnapshotContents
 use Rattle.snap_assert_place.specs.Place.{PlaceView}
 use Rattle.snap_assert_settings.specs.Settings.{SettingsView}
 use Rattle.snap_assert.specs.Steps.{Asked, asked_for}
-use Rattle.snap_assert.specs.Subjects.{Subject, tree_with, text_as, contents_of}
+use Rattle.snap_assert.specs.Subjects.{Subject, tree_with, text_as, payload_with, contents_of}
 use Rattle.snap_assert.specs.declared.error.DuplicateKey.{DuplicateKey}
 use Rattle.snap_assert.specs.declared.error.DuplicateKey.TheVariants.{Named}
 
--- what is asserted of a file: a tree or a text, under a given name or none at a place, by settings
+-- what is asserted of a file: a tree, a text or a payload, under a given name or none at a place, by settings
 pub record Assertion : Type 0 where
   pub settings : SettingsView
   pub place : PlaceView
@@ -29,6 +29,10 @@ assertion_of blocks settings place given printed = assertion_about settings plac
 -- that of a text
 abbrev pub text_assertion_of : SettingsView → PlaceView → Option (List ℕ) → List ℕ → Assertion
 text_assertion_of settings place given text = assertion_about settings place given (text_as text)
+
+-- that of a payload with this extension
+abbrev pub payload_assertion_of : SettingsView → PlaceView → Option (List ℕ) → List ℕ → List ℕ → Assertion
+payload_assertion_of settings place given extension bytes = assertion_about settings place given (payload_with extension bytes)
 
 -- what is asked of the files under the name that is taken
 abbrev pub asked_under : Assertion → List ℕ → Asked

@@ -1,6 +1,5 @@
 -- What an assertion by any comparator answers.
 use Rattle.std.specs.Prelude.{◌≡◌, ◌&&◌, Bool, not, Option, Ok}
-use Rattle.std.specs.FinMap.{get}
 use Rattle.snap_content.specs.List.{items_of}
 use Rattle.snap_io.specs.Files.{Files}
 use Rattle.snap_io.specs.Outside.{Given, Becomes}
@@ -20,7 +19,7 @@ pub record IsDoneBy (relation : Relation) (config : Config) (asked : Asked) (out
   pub verdict : outcome.verdict ≡ verdict_of config.update passed
   pub path : outcome.path ≡ asked.path
   pub fails : outcome.fails ≡ (is_failure outcome.verdict && not config.force_pass)
-  pub passes : Given files (λ m. IsPassedBy relation asked (get m asked.path) passed (items_of outcome.warnings))
+  pub passes : Given files (λ m. IsPassedBy relation asked m passed (items_of outcome.warnings))
   pub stands : Becomes files files' (λ m. step config.update config.force_update asked passed m)
 
 -- an assertion is answered by the relation: whatever the files are, it goes on under the name of its course, and what is remembered is

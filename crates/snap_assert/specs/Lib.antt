@@ -5,6 +5,7 @@ pub mod Blocks
 pub mod Relations
 pub mod Default
 pub mod Subjects
+pub mod Payloads
 pub mod Steps
 pub mod Judging
 pub mod Kept

@@ -1,5 +1,5 @@
 -- What is ready before anything is looked at, and what was seen.
-use Rattle.std.specs.Prelude.{◌≡◌, ◌⊎◌, ℕ, Bool, true, List, [], ◌∷◌, false, Option, Some, Result, Ok, Err}
+use Rattle.std.specs.Prelude.{◌≡◌, ◌⊎◌, Bool, true, List, [], ◌∷◌, false, Option, Some, Result, Ok, Err, IfOk}
 use Rattle.std.specs.FinMap.{get}
 use Rattle.snap_content.specs.List.{items_of}
 use Rattle.snap_io.specs.Files.{Files}
@@ -8,15 +8,15 @@ use Rattle.snap_text.specs.Contents.{legacy_of, MatchLatest}
 use Rattle.snap_text.specs.declared.contents.TextSnapshotContents.{TextSnapshotContents}
 use Rattle.snap_store.specs.declared.contents.SnapshotContents.{SnapshotContents}
 use Rattle.snap_store.specs.declared.contents.SnapshotContents.TheVariants.{Text}
-use Rattle.snap_store.specs.declared.metadata.SnapshotKind.TheVariants as kind
 use Rattle.snap_store.specs.declared.snapshot.Snapshot.{Snapshot}
-use Rattle.snap_store.specs.Reading.{FileEnd}
+use Rattle.snap_store.specs.Reading.{FileEnd, HoldsBeside}
 use Rattle.snap_store.specs.Views.{meta_in, module_in, name_in, contents_in, SnapshotView, snapshot_of}
 use Rattle.snap_assert.specs.Assertions.{new_contents}
 use Rattle.snap_assert.specs.Relations.{Relation, PassesBy}
 use Rattle.snap_assert.specs.Session.{SessionView}
 use Rattle.snap_assert.specs.Steps.{Asked, pending_path, step}
-use Rattle.snap_assert.specs.Subjects.{IsHeld}
+use Rattle.snap_assert.specs.Subjects.{body_in, kind_for}
+use Rattle.snap_store.specs.Image as image
 use Rattle.snap_assert_settings.specs.declared.config.Config.{Config}
 use Rattle.snap_assert_place.specs.SnapshotPath.{IsFilePath}
 use Rattle.snap_assert.specs.Strays.{AreStrays}
@@ -48,12 +48,13 @@ pub record IsPrepared (asked : Asked) (prepared : Prepared) : Type 0 where
   pub file_path : IsFilePath asked.path
   pub folder : prepared.folder ≡ parent_of asked.path
   pub pending : prepared.pending ≡ pending_path asked.path
-  pub held : IsHeld asked.subject (contents_in prepared.snapshot)
+  pub contents : contents_in prepared.snapshot ≡ new_contents asked
+  pub body : image.body_in (new_contents asked) ≡ body_in asked.subject
   pub metadata : meta_in prepared.snapshot ≡ asked.meta
   pub module_name : module_in prepared.snapshot ≡ asked.module_name
   pub name : name_in prepared.snapshot ≡ Some asked.name
   pub view : snapshot_of prepared.snapshot ≡ new_view asked
-  pub kind : asked.meta.kind ≡ kind.Text
+  pub kind : asked.meta.kind ≡ kind_for asked.subject
 
 -- both texts differ by their normal forms, and have one older form
 abbrev pub OlderTexts : Bool → TextSnapshotContents → TextSnapshotContents → Type 0
@@ -82,15 +83,17 @@ abbrev pub JudgedBy : Relation → Result Snapshot Error → SnapshotView → Bo
 JudgedBy relation (Ok old) new passed warnings = IsCompared relation (snapshot_of old) new passed warnings
 JudgedBy relation (Err error) new passed warnings = SaysOf (Err error) passed warnings
 
--- what is asked passes against the file by the relation, or not, and this is said: as one reading of the file comes to
-pub record IsPassedBy (relation : Relation) (asked : Asked) (file : Option (List ℕ)) (passed : Bool) (warnings : List Warning) : Type 0 where
+-- what is asked passes against the files by the relation, or not, and this is said: as one reading of the file at its path comes to,
+-- with the payload that stands beside it where the file says binary
+pub record IsPassedBy (relation : Relation) (asked : Asked) (m : Files) (passed : Bool) (warnings : List Warning) : Type 0 where
   pub read : Result Snapshot Error
-  pub end : FileEnd asked.path file read
+  pub end : FileEnd asked.path (get m asked.path) read
+  pub beside : IfOk read (λ snapshot. HoldsBeside asked.path m (meta_in snapshot).kind (contents_in snapshot))
   pub comes_to : JudgedBy relation read (new_view asked) passed warnings
 
 -- whether it passes by the relation, and what is to be said of the file
 abbrev pub IsJudged : Relation → Asked → Files → Judged → Type 0
-IsJudged relation asked m judged = IsPassedBy relation asked (get m asked.path) judged.passed (items_of judged.warnings)
+IsJudged relation asked m judged = IsPassedBy relation asked m judged.passed (items_of judged.warnings)
 
 -- what was found in the files: whether the tree passes, and the strays that are to go
 pub record IsSeen (relation : Relation) (asked : Asked) (m : Files) (seen : Seen) : Type 0 where

@@ -1,25 +1,27 @@
 -- What one assertion leaves.
-use Rattle.std.specs.Prelude.{ℕ, Bool, true, false, not, List, ◌++◌, Option, None, Some, codes, if◌then◌else◌, encode_utf8_all}
-use Rattle.std.specs.FinMap.{insert, remove, retain_keys}
+use Rattle.std.specs.Prelude.{ℕ, Bool, true, false, not, List, ◌∷◌, ◌++◌, Option, None, Some, codes, if◌then◌else◌, encode_utf8_all}
+use Rattle.std.specs.FinMap.{remove, retain_keys}
 use Rattle.snap_content.specs.Plain.{plain}
 use Rattle.snap_content.specs.Tree.{Tree}
+use Rattle.snap_io.specs.Changes.{Change, writes, all_changed}
 use Rattle.snap_io.specs.Files.{Files}
 use Rattle.snap_print.specs.Blocks.{Blocks}
 use Rattle.snap_store.specs.Meta.{Meta, header_tree, without_line}
 pub use Rattle.snap_store.specs.Image.{pending_path}
 use Rattle.snap_store.specs.Image.{image_of}
+use Rattle.snap_store.specs.Saving.{beside, payload_of}
 use Rattle.snap_assert_settings.specs.Settings.{SettingsView}
 use Rattle.snap_path.specs.Names.{past_mark}
 use Rattle.snap_assert_place.specs.Place.{PlaceView, holds_slash}
 use Rattle.snap_assert_place.specs.SnapshotPath.{path_of, flat_module, new_meta}
 use Rattle.snap_assert_place.specs.Names.{suffixed}
-use Rattle.snap_assert.specs.Subjects.{Subject, tree_with, body_in}
+use Rattle.snap_assert.specs.Subjects.{Subject, tree_with, body_in, contents_of, kind_for}
 use Rattle.snap_assert_settings.specs.declared.config.Update.{Update}
 use Rattle.snap_assert_settings.specs.declared.config.Update.TheVariants.{InPlace, NewFile, NoUpdate}
 use Rattle.snap_assert.specs.declared.outcome.Verdict.{Verdict}
 use Rattle.snap_assert.specs.declared.outcome.Verdict.TheVariants.{Passed, Updated, Pending, Rejected}
 
--- what is asked of the files: a tree or a text, under metadata at a path, with the module and the name that are kept with it
+-- what is asked of the files: a tree, a text or a payload, under metadata at a path, with the module and the name that are kept with it
 pub record Asked : Type 0 where
   pub path : List ℕ
   pub module_name : List ℕ
@@ -33,7 +35,7 @@ asked_for settings place name subject = record {
   path = path_of settings place name;
   module_name = flat_module place.module_name;
   name = name;
-  meta = new_meta settings place;
+  meta = record (new_meta settings place) { kind = kind_for subject };
   subject = subject;
 }
 
@@ -69,10 +71,14 @@ cleared path files = retain_keys files (λ q. not (is_stray path q))
 abbrev pub image_bytes : Meta → Subject → List ℕ
 image_bytes meta subject = encode_utf8_all (image_of (header_tree meta) (body_in subject))
 
+-- what is written at a path: the file, and then a payload beside it
+abbrev pub saved_as : List ℕ → Meta → Subject → List Change
+saved_as path meta subject = writes path (image_bytes meta subject) ∷ beside path (payload_of meta (contents_of subject))
+
 -- what is written where it did not pass
 abbrev pub written : Update → Asked → Files → Files
-written InPlace asked files = insert files asked.path (image_bytes (without_line asked.meta) asked.subject)
-written NewFile asked files = insert files (pending_path asked.path) (image_bytes asked.meta asked.subject)
+written InPlace asked files = all_changed (saved_as asked.path (without_line asked.meta) asked.subject) files
+written NewFile asked files = all_changed (saved_as (pending_path asked.path) asked.meta asked.subject) files
 written NoUpdate asked files = files
 
 -- on a pass the pending snapshot goes

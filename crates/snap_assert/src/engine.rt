@@ -1,11 +1,11 @@
 //! One assertion over a store.
-ghost use Rattle.std.specs.Prelude.{◌≡◌, ◌⊎◌, ◌&&◌, not, Ok, Err, Some, Option, IsSome, IfOk, IfErr, OnOk, option_copied};
+ghost use Rattle.std.specs.Prelude.{◌≡◌, ◌⊎◌, ◌&&◌, not, Ok, Err, None, Some, Option, IfOk, IfErr, OnOk, option_copied};
 ghost use Rattle.snap_content.specs.Tree.{Tree};
 ghost use Rattle.snap_content.specs.View.{tree};
 ghost use Rattle.snap_assert.specs.Outcomes.{IsAnswered, IsStopped, IsUnprinted, AssertCause};
 ghost use Rattle.snap_assert.specs.Assertions.{assertion_of, assertion_about, key_under, new_contents};
 ghost use Rattle.snap_assert.specs.Blocks.{keep_step};
-ghost use Rattle.snap_assert.specs.Kept.{KeptBy, NamesOwn};
+ghost use Rattle.snap_assert.specs.Kept.{KeptBy, KeptWith, NamesOwn};
 ghost use Rattle.snap_assert.specs.Listed.{IsCovered, IsKnown, StaysCovered};
 ghost use Rattle.snap_assert.specs.Names.{Named, name_step};
 ghost use Rattle.snap_assert.specs.Session.{session_of};
@@ -15,12 +15,12 @@ ghost use Rattle.snap_assert_place.specs.SnapshotPath.{path_of};
 ghost use Rattle.snap_io.specs.Files.{Files};
 ghost use Rattle.snap_io.specs.Outside.{Given, Becomes};
 ghost use Rattle.snap_print.specs.Blocks.{blocks_if};
-ghost use Rattle.snap_store.specs.Views.{contents_in, text_in};
+ghost use Rattle.snap_store.specs.Views.{contents_in};
 ghost use Rattle.snap_assert.specs.Compared.{IsDoneBy, IsAnsweredBy};
 ghost use Rattle.snap_assert.specs.Relations.{asked_relation};
 ghost use Rattle.snap_assert.specs.Prepared.{IsPrepared, IsSettled, KeepStops};
 ghost use Rattle.snap_assert.specs.Steps.{Asked, asked_for, cleared, step, verdict_of, is_failure};
-ghost use Rattle.snap_assert.specs.Subjects.{Subject, contents_of, IsHeld};
+ghost use Rattle.snap_assert.specs.Subjects.{Subject, contents_of, extension_in, IsHeld};
 ghost use Rattle.snap_assert.specs.declared.error.AssertError.{AssertError};
 
 use crate::comparator::Comparator;
@@ -32,7 +32,7 @@ use crate::listed::Listed;
 use crate::look::look_and_clear;
 use crate::names::take_name;
 use crate::outcome::{Outcome, Verdict};
-use crate::prepare::{Prepared, prepare, printed_contents};
+use crate::prepare::{Asserted, Prepared, asserted_tree, prepare};
 use crate::session::Session;
 use crate::settle::settle;
 use snap_assert_place::place::Place;
@@ -41,7 +41,6 @@ use snap_assert_settings::settings::Settings;
 use snap_content::{Content, Text};
 use snap_io::Store;
 use snap_select::Redactor;
-use snap_store::SnapshotContents;
 use std::alloc::Global;
 
 /// The verdict of an assertion.
@@ -79,7 +78,6 @@ fn keep_and_settle<S: Store>(
     prepared: &Prepared,
     passed: bool,
 ) -> Result<(), AssertError>
-    requires { IsSome (text_in (contents_in prepared.now.snapshot)) }
     ensures ok { OnOk result ((asked : Asked) (m : Files) → IsPrepared asked prepared.now
         → S.files store.old ≡ Some (cleared asked.path m)
         → S.files store.new
@@ -91,7 +89,7 @@ fn keep_and_settle<S: Store>(
         (keep_step (key_under (place_of place.now) name.now) (contents_in prepared.now.snapshot)
         (session_of session.old)) (session_of session.old) (session_of session.new) e) }
     ensures kept { (asked : Asked) → IsPrepared asked prepared.now
-        → KeptBy config.now.update asked.path (S.files store.old) (S.files store.new) }
+        → KeptWith (extension_in asked.subject) config.now.update asked.path (S.files store.old) (S.files store.new) }
     ensures named { (asked : Asked) → IsPrepared asked prepared.now
         → NamesOwn config.now.update asked.path result }
     ensures cause { AssertCause (S.faults store.old) (S.faults store.new) result }
@@ -112,13 +110,12 @@ fn assert_prepared<S: Store, C: Comparator>(
     name: &Text,
     prepared: &Prepared,
 ) -> Result<Judged, AssertError>
-    requires { IsSome (text_in (contents_in prepared.now.snapshot)) }
     ensures settled { IfOk result (λ judged. (asked : Asked) → IsPrepared asked prepared.now
         → Given (S.files store.old) (λ m. IsCovered m listed.old
         → IsSettled (asked_relation (C.agrees comparator.now) (C.agrees_fully comparator.now)
         config.now.require_full_match) config.now asked m judged (S.files store.new))) }
     ensures covered { OnOk result ((asked : Asked) → IsPrepared asked prepared.now
-        → StaysCovered (S.files store.old) (S.files store.new) listed.old listed.new) }
+        → extension_in asked.subject ≡ None → StaysCovered (S.files store.old) (S.files store.new) listed.old listed.new) }
     ensures remembered { OnOk result ((asked : Asked) → IsPrepared asked prepared.now
         → keep_step (key_under (place_of place.now) name.now) (new_contents asked)
         (session_of session.old)
@@ -129,7 +126,7 @@ fn assert_prepared<S: Store, C: Comparator>(
         (keep_step (key_under (place_of place.now) name.now) (new_contents asked)
         (session_of session.old)) (session_of session.old) (session_of session.new) e) }
     ensures kept { (asked : Asked) → IsPrepared asked prepared.now
-        → KeptBy config.now.update asked.path (S.files store.old) (S.files store.new) }
+        → KeptWith (extension_in asked.subject) config.now.update asked.path (S.files store.old) (S.files store.new) }
     ensures named { (asked : Asked) → IsPrepared asked prepared.now
         → NamesOwn config.now.update asked.path result }
     ensures cause { AssertCause (S.faults store.old) (S.faults store.new) result }
@@ -155,7 +152,7 @@ fn assert_prepared<S: Store, C: Comparator>(
     Ok(judged)
 }
 
-/// Asserts the contents under the name that is taken, with all that is written ready before the store is touched.
+/// Asserts it under the name that is taken, with all that is written ready before the store is touched.
 fn assert_named<S: Store, C: Comparator>(
     alloc: Global,
     session: &mut Session,
@@ -166,35 +163,34 @@ fn assert_named<S: Store, C: Comparator>(
     settings: &Settings,
     place: &Place,
     name: &Text,
-    contents: SnapshotContents,
+    asserted: Asserted,
 ) -> Result<Outcome, AssertError>
-    requires { IsSome (text_in contents) }
-    ensures done { IfOk result (λ outcome. (subject : Subject) → IsHeld subject contents
+    ensures done { IfOk result (λ outcome. (subject : Subject) → IsHeld subject asserted
         → (known : Option Files) → IsKnown known (S.files store.old) listed.old → IsDoneBy
         (asked_relation (C.agrees comparator.now) (C.agrees_fully comparator.now)
         config.now.require_full_match) config.now
         (asked_for (settings_of settings.now) (place_of place.now) name.now subject) outcome
         known (S.files store.new)) }
-    ensures covered { OnOk result ((subject : Subject) → IsHeld subject contents
-        → StaysCovered (S.files store.old) (S.files store.new) listed.old listed.new) }
-    ensures remembered { OnOk result ((subject : Subject) → IsHeld subject contents
+    ensures covered { OnOk result ((subject : Subject) → IsHeld subject asserted
+        → extension_in subject ≡ None → StaysCovered (S.files store.old) (S.files store.new) listed.old listed.new) }
+    ensures remembered { OnOk result ((subject : Subject) → IsHeld subject asserted
         → keep_step (key_under (place_of place.now) name.now) (contents_of subject)
         (session_of session.old)
         ≡ Ok (session_of session.new)) }
-    ensures stopped { IfErr result (λ e. (subject : Subject) → IsHeld subject contents
+    ensures stopped { IfErr result (λ e. (subject : Subject) → IsHeld subject asserted
         → (known : Option Files) → IsKnown known (S.files store.old) listed.old → KeepStops
         (Becomes known (S.files store.new)
         (cleared (path_of (settings_of settings.now) (place_of place.now) name.now)))
         (keep_step (key_under (place_of place.now) name.now) (contents_of subject)
         (session_of session.old)) (session_of session.old) (session_of session.new) e) }
-    ensures kept { (subject : Subject) → IsHeld subject contents → KeptBy config.now.update
+    ensures kept { (subject : Subject) → IsHeld subject asserted → KeptWith (extension_in subject) config.now.update
         (path_of (settings_of settings.now) (place_of place.now) name.now)
         (S.files store.old) (S.files store.new) }
-    ensures named { (subject : Subject) → IsHeld subject contents → NamesOwn config.now.update
+    ensures named { (subject : Subject) → IsHeld subject asserted → NamesOwn config.now.update
         (path_of (settings_of settings.now) (place_of place.now) name.now) result }
     ensures cause { AssertCause (S.faults store.old) (S.faults store.new) result }
 {
-    let prepared = prepare(alloc, settings, place, name, contents)?;
+    let prepared = prepare(alloc, settings, place, name, asserted)?;
     let judged = assert_prepared(
         alloc, session, listed, store, config, comparator, place, name, &prepared,
     );
@@ -209,8 +205,8 @@ fn assert_named<S: Store, C: Comparator>(
     })
 }
 
-/// Takes the name, and asserts the contents under it.
-pub(crate) fn assert_contents<S: Store, C: Comparator>(
+/// Takes the name, and asserts it under that.
+pub(crate) fn assert_any<S: Store, C: Comparator>(
     alloc: Global,
     session: &mut Session,
     listed: &mut Listed,
@@ -220,30 +216,29 @@ pub(crate) fn assert_contents<S: Store, C: Comparator>(
     settings: &Settings,
     place: &Place,
     given: Option<&Text>,
-    contents: SnapshotContents,
+    asserted: Asserted,
 ) -> Result<Outcome, AssertError>
-    requires { IsSome (text_in contents) }
-    ensures answered { IfOk result (λ outcome. (subject : Subject) → IsHeld subject contents
+    ensures answered { IfOk result (λ outcome. (subject : Subject) → IsHeld subject asserted
         → (known : Option Files) → IsKnown known (S.files store.old) listed.old → IsAnsweredBy
         (asked_relation (C.agrees comparator.now) (C.agrees_fully comparator.now)
         config.now.require_full_match) config.now
         (assertion_about (settings_of settings.now) (place_of place.now)
         (option_copied given.entry) subject) outcome
         known (S.files store.new) (session_of session.old) (session_of session.new)) }
-    ensures stopped { IfErr result (λ e. (subject : Subject) → IsHeld subject contents
+    ensures stopped { IfErr result (λ e. (subject : Subject) → IsHeld subject asserted
         → (known : Option Files) → IsKnown known (S.files store.old) listed.old → IsStopped
         (assertion_about (settings_of settings.now) (place_of place.now)
         (option_copied given.entry) subject) e
         known (S.files store.new) (session_of session.old) (session_of session.new)) }
-    ensures covered { OnOk result ((subject : Subject) → IsHeld subject contents
-        → StaysCovered (S.files store.old) (S.files store.new) listed.old listed.new) }
-    ensures kept { (subject : Subject) → IsHeld subject contents → (named : Named)
+    ensures covered { OnOk result ((subject : Subject) → IsHeld subject asserted
+        → extension_in subject ≡ None → StaysCovered (S.files store.old) (S.files store.new) listed.old listed.new) }
+    ensures kept { (subject : Subject) → IsHeld subject asserted → (named : Named)
         → name_step (settings_of settings.now) (place_of place.now)
         (option_copied given.entry) (session_of session.old) ≡ Ok named
-        → KeptBy config.now.update
+        → KeptWith (extension_in subject) config.now.update
         (path_of (settings_of settings.now) (place_of place.now) named.name)
         (S.files store.old) (S.files store.new) }
-    ensures named { (subject : Subject) → IsHeld subject contents → (named : Named)
+    ensures named { (subject : Subject) → IsHeld subject asserted → (named : Named)
         → name_step (settings_of settings.now) (place_of place.now)
         (option_copied given.entry) (session_of session.old) ≡ Ok named
         → NamesOwn config.now.update
@@ -256,13 +251,13 @@ pub(crate) fn assert_contents<S: Store, C: Comparator>(
     match take_name(alloc, session, settings, place, given) {
         Ok(name) => {
             let outcome = assert_named(
-                alloc, session, listed, store, config, comparator, settings, place, &name, contents,
+                alloc, session, listed, store, config, comparator, settings, place, &name, asserted,
             );
             drop(name);
             outcome
         }
         Err(error) => {
-            drop(contents);
+            drop(asserted);
             Err(error)
         }
     }
@@ -314,9 +309,9 @@ pub(crate) fn assert_sorted<S: Store, C: Comparator>(
         → store.new ≡ store.old }
     ensures cause { AssertCause (S.faults store.old) (S.faults store.new) result }
 {
-    match printed_contents(alloc, settings, content, config.literal) {
-        Ok(contents) => assert_contents(
-            alloc, session, listed, store, config, comparator, settings, place, name, contents,
+    match asserted_tree(alloc, settings, content, config.literal) {
+        Ok(asserted) => assert_any(
+            alloc, session, listed, store, config, comparator, settings, place, name, asserted,
         ),
         Err(_) => Err(AssertError::OutOfMemory),
     }

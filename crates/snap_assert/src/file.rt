@@ -13,11 +13,11 @@ ghost use Rattle.snap_assert_place.specs.SnapshotPath.{path_of};
 ghost use Rattle.snap_assert.specs.declared.error.AssertError.{AssertError};
 
 use crate::comparator::Comparator;
-use crate::engine::assert_contents;
+use crate::engine::assert_any;
 use crate::error::AssertError;
 use crate::listed::Listed;
 use crate::outcome::Outcome;
-use crate::prepare::file_contents;
+use crate::prepare::asserted_text;
 use crate::session::Session;
 use snap_assert_place::place::Place;
 use snap_assert_settings::config::Config;
@@ -71,7 +71,7 @@ pub fn assert_file<S: Store, C: Comparator>(
     ensures cause { AssertCause (S.faults store.old) (S.faults store.new) result }
 {
     let mut listed = Listed::new(alloc);
-    let outcome = assert_contents(
+    let outcome = assert_any(
         alloc,
         session,
         &mut listed,
@@ -81,7 +81,7 @@ pub fn assert_file<S: Store, C: Comparator>(
         settings,
         place,
         name,
-        file_contents(content),
+        asserted_text(content),
     );
     drop(listed);
     outcome

@@ -5,7 +5,7 @@ ghost use Rattle.snap_assert.specs.Outcomes.{WorkCause, said};
 ghost use Rattle.snap_assert.specs.Relations.{asked_relation, PassesBy};
 ghost use Rattle.snap_assert.specs.Steps.{Asked};
 ghost use Rattle.snap_assert.specs.Prepared.{IsPrepared, IsJudged, NoPass, RefusedEnd, OlderTexts, OlderPair, OlderAs, IsCompared};
-ghost use Rattle.snap_assert.specs.Kept.{NamesOnly};
+ghost use Rattle.snap_assert.specs.Kept.{NamesRead};
 ghost use Rattle.snap_store.specs.Views.{snapshot_of};
 ghost use Rattle.snap_content.specs.List.{items_of};
 
@@ -189,7 +189,7 @@ fn compare<C: Comparator>(
     Ok(Judged { passed, warnings })
 }
 
-/// Reads the file of the snapshot and compares. Nothing is changed.
+/// Reads the snapshot, with its payload where its file says binary, and compares. Nothing is changed.
 pub fn judge_file<S: Store, C: Comparator>(
     alloc: Global,
     store: &mut S,
@@ -202,7 +202,7 @@ pub fn judge_file<S: Store, C: Comparator>(
         (asked_relation (C.agrees comparator.now) (C.agrees_fully comparator.now) fully)
         asked m judged)) }
     ensures same { S.files store.new ≡ S.files store.old }
-    ensures named { NamesOnly prepared.now.path result }
+    ensures named { NamesRead prepared.now.path result }
     ensures cause { WorkCause (S.faults store.old) (S.faults store.new) result }
 {
     match Snapshot::from_file(alloc, store, &prepared.path) {

@@ -3,7 +3,7 @@
 //! In the order in which data flows: `session` (what is remembered), `names` and `literal_names` (the name that is taken), `kept` (what
 //! an open block keeps), `duplicates` (a block round a closure), `comparator` and `default` with `same_metadata` (whether a new snapshot
 //! matches an old one), `prepare`, `judge`, `strays`, `listed` and `look` (what is there), `settle` and `removal` (what is left), `engine`
-//! and `by_comparator` (one assertion of a tree), `file` (one of a text), `preview` (what one would answer); of literals `literals` (their snapshots), `record` (their records) and `literal` (one assertion); `value` and `snapshot` (an
+//! and `by_comparator` (one assertion of a tree), `file` (one of a text), `payload` (one of a payload), `preview` (what one would answer); of literals `literals` (their snapshots), `record` (their records) and `literal` (one assertion); `value` and `snapshot` (an
 //! assertion of any value); `outcome` and `error` (its answer), `laws`.
 #![tactic(auto)]
 
@@ -24,6 +24,7 @@ mod literals;
 mod look;
 mod names;
 pub mod outcome;
+mod payload;
 mod prepare;
 pub mod preview;
 mod record;
@@ -51,4 +52,4 @@ pub use session::Session;
 pub use snap_assert_place::{BadPlace, Place};
 pub use snap_assert_settings::{Config, Flags, Redactions, Settings, Update};
 pub use snapshot::assert_snapshot;
-pub use value::{AutoName, InlineValue, SnapshotValue};
+pub use value::{AutoName, BinarySnapshotValue, InlineValue, SnapshotValue};

@@ -6,9 +6,10 @@ ghost use Rattle.snap_assert.specs.Outcomes.{WorkCause};
 ghost use Rattle.snap_assert.specs.Steps.{Asked, cleared};
 ghost use Rattle.snap_assert.specs.Relations.{asked_relation};
 ghost use Rattle.snap_assert.specs.Prepared.{IsPrepared, IsJudged, IsSeen};
-ghost use Rattle.snap_assert.specs.Kept.{KeptBy, NamesOwn};
+ghost use Rattle.snap_assert.specs.Kept.{KeptWith, NamesOwn};
 ghost use Rattle.snap_assert.specs.Listed.{IsCovered, IsCoveredAt};
 ghost use Rattle.snap_assert.specs.Strays.{AllStray};
+ghost use Rattle.snap_assert.specs.Subjects.{extension_in};
 ghost use Rattle.snap_assert_settings.specs.declared.config.Update.{Update};
 
 use crate::comparator::Comparator;
@@ -75,7 +76,8 @@ pub fn look_and_clear<S: Store, C: Comparator>(
         → Given (S.files store.old) (λ m. IsCovered m listed.old
         → IsCoveredAt asked.path (cleared asked.path m) listed.new)) }
     ensures kept { (asked : Asked) (mode : Update) → IsPrepared asked prepared.now
-        → KeptBy mode asked.path (S.files store.old) (S.files store.new) }
+        → KeptWith (extension_in asked.subject) mode asked.path (S.files store.old)
+        (S.files store.new) }
     ensures named { (asked : Asked) (mode : Update) → IsPrepared asked prepared.now
         → NamesOwn mode asked.path result }
     ensures cause { WorkCause (S.faults store.old) (S.faults store.new) result }

@@ -1,5 +1,7 @@
 //! What is ready before anything is looked at.
 ghost use Rattle.std.specs.Prelude.{◌≡◌, false, Some, IfOk};
+ghost use Rattle.snap_store.specs.declared.contents.SnapshotContents.TheVariants as held;
+ghost use Rattle.snap_store.specs.declared.metadata.SnapshotKind.TheVariants as kind;
 ghost use Rattle.snap_content.specs.Plain.{plain};
 ghost use Rattle.snap_content.specs.Tree.{Tree};
 ghost use Rattle.snap_content.specs.View.{tree};
@@ -16,11 +18,11 @@ use snap_assert_place::metadata::new_metadata;
 use snap_assert_place::paths::{module_text, snapshot_path};
 use snap_assert_place::place::Place;
 use snap_assert_settings::settings::Settings;
-use snap_content::{Content, OutOfMemory, Text};
+use snap_content::{Blob, Content, OutOfMemory, Text};
 use snap_emit::body_to_string;
 use snap_path::path_parent;
 use snap_select::Redactor;
-use snap_store::{Snapshot, SnapshotContents};
+use snap_store::{Snapshot, SnapshotContents, SnapshotKind};
 use snap_text::{TextSnapshotContents, TextSnapshotKind};
 use std::alloc::Global;
 
@@ -53,28 +55,52 @@ impl Prepared {
     }
 }
 
-/// The contents of a file for a text.
-pub fn file_contents(text: Text) -> SnapshotContents
-    ensures { result ≡ file_text text }
-{
-    SnapshotContents::from_text(TextSnapshotContents::new(text, TextSnapshotKind::File))
+/// What is asserted of a file: the kind that its metadata tell, and its contents.
+#[derive(Drop)]
+pub struct Asserted {
+    pub kind: SnapshotKind,
+    pub contents: SnapshotContents,
 }
 
-/// The contents of a file for the tree, as the settings print it, where `literal` is on with texts of several lines as literal blocks.
-pub fn printed_contents(
+/// A text for a file.
+pub fn asserted_text(text: Text) -> Asserted
+    ensures { result ≡ record { kind = kind.Text; contents = file_text text } }
+{
+    let contents = SnapshotContents::from_text(TextSnapshotContents::new(
+        text,
+        TextSnapshotKind::File,
+    ));
+    Asserted {
+        kind: SnapshotKind::Text,
+        contents,
+    }
+}
+
+/// A payload, which stands beside its file with this extension.
+pub fn asserted_payload(content: Blob, extension: Text) -> Asserted
+    ensures { result ≡ record { kind = kind.Binary extension; contents = held.Binary (Some content) } }
+{
+    Asserted {
+        kind: SnapshotKind::Binary { extension },
+        contents: SnapshotContents::Binary(Some(content)),
+    }
+}
+
+/// The text of the tree, as the settings print it, where `literal` is on with texts of several lines as literal blocks.
+pub fn asserted_tree(
     alloc: Global,
     settings: &Settings,
     content: Content,
     literal: bool,
-) -> Result<SnapshotContents, OutOfMemory>
-    ensures { IfOk result (λ contents. (printed : Tree)
+) -> Result<Asserted, OutOfMemory>
+    ensures { IfOk result (λ asserted. (printed : Tree)
         × PrintsAs (λ v. (⟦<dyn Redactor as Redactor>⟧ v).allows) settings.now (tree content) printed
-        × IsHeld (tree_with (blocks_if literal) (plain printed)) contents) }
+        × IsHeld (tree_with (blocks_if literal) (plain printed)) asserted) }
 {
     let printed = settings.printed_tree(alloc, content)?;
     let text = body_to_string(alloc, &printed, literal);
     drop(printed);
-    Ok(file_contents(text?))
+    Ok(asserted_text(text?))
 }
 
 fn new_snapshot(
@@ -82,11 +108,11 @@ fn new_snapshot(
     settings: &Settings,
     place: &Place,
     name: &Text,
-    contents: SnapshotContents,
+    asserted: Asserted,
 ) -> Result<Snapshot, OutOfMemory>
-    ensures contents { IfOk result (λ snapshot. contents_in snapshot ≡ contents) }
+    ensures contents { IfOk result (λ snapshot. contents_in snapshot ≡ asserted.contents) }
     ensures metadata { IfOk result (λ snapshot. meta_in snapshot
-        ≡ new_meta (settings_of settings.now) (place_of place.now)) }
+        ≡ record (new_meta (settings_of settings.now) (place_of place.now)) { kind = asserted.kind }) }
     ensures module_name { IfOk result (λ snapshot. module_in snapshot
         ≡ flat_module (place_of place.now).module_name) }
     ensures name { IfOk result (λ snapshot. name_in snapshot ≡ Some name.now) }
@@ -95,28 +121,28 @@ fn new_snapshot(
 {
     let module_name = module_text(alloc, place)?;
     let name = name.try_clone(alloc)?;
-    let metadata = new_metadata(alloc, settings, place)?;
+    let mut metadata = new_metadata(alloc, settings, place)?;
+    let Asserted { kind, contents } = asserted;
+    metadata.set_kind(kind);
     Ok(Snapshot::from_components(module_name, Some(name), metadata, contents))
 }
 
-/// All that an assertion of the contents needs under the name that it takes: it is ready before anything is looked at.
+/// All that an assertion needs under the name that it takes: it is ready before anything is looked at.
 pub fn prepare(
     alloc: Global,
     settings: &Settings,
     place: &Place,
     name: &Text,
-    contents: SnapshotContents,
+    asserted: Asserted,
 ) -> Result<Prepared, OutOfMemory>
-    ensures prepared { IfOk result (λ prepared. (subject : Subject) → IsHeld subject contents
-        → IsPrepared
+    ensures { IfOk result (λ prepared. (subject : Subject) → IsHeld subject asserted → IsPrepared
         (asked_for (settings_of settings.now) (place_of place.now) name.now subject) prepared) }
-    ensures contents { IfOk result (λ prepared. contents_in prepared.snapshot ≡ contents) }
 {
     let path = snapshot_path(alloc, settings, place, name)?;
     let folder = path_parent(alloc, &path)?;
     let mut pending = path.try_clone(alloc)?;
     pending.push_ascii(alloc, ".new")?;
-    let snapshot = new_snapshot(alloc, settings, place, name, contents)?;
+    let snapshot = new_snapshot(alloc, settings, place, name, asserted)?;
     Ok(Prepared {
         path,
         folder,

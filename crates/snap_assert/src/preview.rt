@@ -22,7 +22,7 @@ use crate::error::AssertError;
 use crate::judge::{Judged, judge_file};
 use crate::kept::keep;
 use crate::names::take_name;
-use crate::prepare::{Prepared, prepare, printed_contents};
+use crate::prepare::{Asserted, Prepared, asserted_tree, prepare};
 use crate::session::Session;
 use snap_assert_place::place::Place;
 use snap_assert_settings::config::Config;
@@ -30,7 +30,7 @@ use snap_assert_settings::settings::Settings;
 use snap_content::{Content, Text};
 use snap_io::Store;
 use snap_select::Redactor;
-use snap_store::{Snapshot, SnapshotContents};
+use snap_store::Snapshot;
 use std::alloc::Global;
 
 /// What an assertion would answer.
@@ -102,7 +102,7 @@ fn keep_and_judge<S: Store>(
     judge_file(alloc, store, &DefaultComparator, fully, prepared)
 }
 
-/// What an assertion of the contents would answer under the name that is taken.
+/// What an assertion would answer under the name that is taken.
 fn preview_named<S: Store>(
     alloc: Global,
     session: &mut Session,
@@ -111,24 +111,24 @@ fn preview_named<S: Store>(
     settings: &Settings,
     place: &Place,
     name: &Text,
-    contents: SnapshotContents,
+    asserted: Asserted,
 ) -> Result<Preview, AssertError>
-    ensures foreseen { IfOk result (λ preview. (subject : Subject) → IsHeld subject contents
+    ensures foreseen { IfOk result (λ preview. (subject : Subject) → IsHeld subject asserted
         → IsForeseen config.now.require_full_match
         (asked_for (settings_of settings.now) (place_of place.now) name.now subject) preview
         (S.files store.old)) }
-    ensures remembered { OnOk result ((subject : Subject) → IsHeld subject contents
+    ensures remembered { OnOk result ((subject : Subject) → IsHeld subject asserted
         → keep_step (key_under (place_of place.now) name.now) (contents_of subject)
         (session_of session.old)
         ≡ Ok (session_of session.new)) }
-    ensures stopped { IfErr result (λ e. (subject : Subject) → IsHeld subject contents
+    ensures stopped { IfErr result (λ e. (subject : Subject) → IsHeld subject asserted
         → KeepStops (Unit {0})
         (keep_step (key_under (place_of place.now) name.now) (contents_of subject)
         (session_of session.old)) (session_of session.old) (session_of session.new) e) }
     ensures same { S.files store.new ≡ S.files store.old }
     ensures cause { AssertCause (S.faults store.old) (S.faults store.new) result }
 {
-    let prepared = prepare(alloc, settings, place, name, contents)?;
+    let prepared = prepare(alloc, settings, place, name, asserted)?;
     let judged = keep_and_judge(
         alloc,
         session,
@@ -141,8 +141,8 @@ fn preview_named<S: Store>(
     preview_of(prepared, judged)
 }
 
-/// Takes the name, and tells what an assertion of the contents would answer under it.
-fn preview_contents<S: Store>(
+/// Takes the name, and tells what an assertion would answer under it.
+fn preview_any<S: Store>(
     alloc: Global,
     session: &mut Session,
     store: &mut S,
@@ -150,14 +150,14 @@ fn preview_contents<S: Store>(
     settings: &Settings,
     place: &Place,
     given: Option<&Text>,
-    contents: SnapshotContents,
+    asserted: Asserted,
 ) -> Result<Preview, AssertError>
-    ensures previewed { IfOk result (λ preview. (subject : Subject) → IsHeld subject contents
+    ensures previewed { IfOk result (λ preview. (subject : Subject) → IsHeld subject asserted
         → IsPreviewed config.now.require_full_match
         (assertion_about (settings_of settings.now) (place_of place.now)
         (option_copied given.entry) subject) preview
         (S.files store.old) (session_of session.old) (session_of session.new)) }
-    ensures stopped { IfErr result (λ e. (subject : Subject) → IsHeld subject contents
+    ensures stopped { IfErr result (λ e. (subject : Subject) → IsHeld subject asserted
         → IsStoppedBefore
         (assertion_about (settings_of settings.now) (place_of place.now)
         (option_copied given.entry) subject) e
@@ -168,13 +168,13 @@ fn preview_contents<S: Store>(
     match take_name(alloc, session, settings, place, given) {
         Ok(name) => {
             let preview = preview_named(
-                alloc, session, store, config, settings, place, &name, contents,
+                alloc, session, store, config, settings, place, &name, asserted,
             );
             drop(name);
             preview
         }
         Err(error) => {
-            drop(contents);
+            drop(asserted);
             Err(error)
         }
     }
@@ -207,9 +207,9 @@ pub fn preview_content<S: Store>(
     ensures same { S.files store.new ≡ S.files store.old }
     ensures cause { AssertCause (S.faults store.old) (S.faults store.new) result }
 {
-    match printed_contents(alloc, settings, content, config.literal) {
-        Ok(contents) => preview_contents(
-            alloc, session, store, config, settings, place, name, contents,
+    match asserted_tree(alloc, settings, content, config.literal) {
+        Ok(asserted) => preview_any(
+            alloc, session, store, config, settings, place, name, asserted,
         ),
         Err(_) => Err(AssertError::OutOfMemory),
     }

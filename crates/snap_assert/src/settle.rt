@@ -1,12 +1,12 @@
 //! What an assertion leaves in the store.
-ghost use Rattle.std.specs.Prelude.{◌≡◌, Some, IsSome, OnOk};
+ghost use Rattle.std.specs.Prelude.{◌≡◌, Some, OnOk};
 ghost use Rattle.std.specs.FinMap.{remove};
 ghost use Rattle.snap_io.specs.Files.{Files};
 ghost use Rattle.snap_io.specs.Outside.{Becomes};
-ghost use Rattle.snap_store.specs.Views.{contents_in, text_in};
 ghost use Rattle.snap_assert.specs.Outcomes.{WorkCause};
-ghost use Rattle.snap_assert.specs.Kept.{KeptBy, IsWrittenAlone, IsTakenAlone, NamesOwn, NamesOnly};
-ghost use Rattle.snap_assert.specs.Steps.{Asked, cleared, step, written, pending_path};
+ghost use Rattle.snap_assert.specs.Kept.{KeptWith, IsTakenAlone, NamesOwn, NamesOnly};
+ghost use Rattle.snap_assert.specs.Steps.{Asked, cleared, step, written};
+ghost use Rattle.snap_assert.specs.Subjects.{extension_in};
 ghost use Rattle.snap_assert.specs.Prepared.{IsPrepared};
 ghost use Rattle.snap_assert_settings.specs.declared.config.Update.TheVariants.{InPlace, NewFile};
 
@@ -29,45 +29,50 @@ fn approve<S: Store>(alloc: Global, store: &mut S, prepared: &Prepared) -> Resul
     Ok(())
 }
 
-/// Writes the tree as the approved one.
+/// Writes the snapshot as the approved one.
 fn update<S: Store>(alloc: Global, store: &mut S, prepared: &Prepared) -> Result<(), AssertError>
-    requires { IsSome (text_in (contents_in prepared.now.snapshot)) }
     ensures ok { OnOk result ((asked : Asked) → IsPrepared asked prepared.now
         → Becomes (S.files store.old) (S.files store.new) (written InPlace asked)) }
-    ensures kept { IsWrittenAlone prepared.now.path (S.files store.old) (S.files store.new) }
-    ensures named { NamesOnly prepared.now.path result }
+    ensures kept { (asked : Asked) → IsPrepared asked prepared.now
+        → KeptWith (extension_in asked.subject) InPlace asked.path (S.files store.old)
+        (S.files store.new) }
+    ensures named { (asked : Asked) → IsPrepared asked prepared.now
+        → NamesOwn InPlace asked.path result }
     ensures cause { WorkCause (S.faults store.old) (S.faults store.new) result }
 {
     prepared.snapshot.save(alloc, store, &prepared.path)?;
     Ok(())
 }
 
-/// Writes the tree beside the approved one, as the pending snapshot.
+/// Writes the snapshot beside the approved one, as the pending one.
 fn postpone<S: Store>(alloc: Global, store: &mut S, prepared: &Prepared) -> Result<(), AssertError>
-    requires { IsSome (text_in (contents_in prepared.now.snapshot)) }
     ensures ok { OnOk result ((asked : Asked) → IsPrepared asked prepared.now
         → Becomes (S.files store.old) (S.files store.new) (written NewFile asked)) }
-    ensures kept { IsWrittenAlone (pending_path prepared.now.path) (S.files store.old)
+    ensures kept { (asked : Asked) → IsPrepared asked prepared.now
+        → KeptWith (extension_in asked.subject) NewFile asked.path (S.files store.old)
         (S.files store.new) }
-    ensures named { NamesOnly (pending_path prepared.now.path) result }
+    ensures named { (asked : Asked) → IsPrepared asked prepared.now
+        → NamesOwn NewFile asked.path result }
     ensures cause { WorkCause (S.faults store.old) (S.faults store.new) result }
 {
     prepared.snapshot.save_new(alloc, store, &prepared.path)?;
     Ok(())
 }
 
-/// Writes the tree where the mode says, and nowhere else.
+/// Writes the snapshot where the mode says, and nowhere else.
 fn write_by<S: Store>(
     alloc: Global,
     store: &mut S,
     mode: Update,
     prepared: &Prepared,
 ) -> Result<(), AssertError>
-    requires { IsSome (text_in (contents_in prepared.now.snapshot)) }
     ensures ok { OnOk result ((asked : Asked) → IsPrepared asked prepared.now
         → Becomes (S.files store.old) (S.files store.new) (written mode asked)) }
-    ensures kept { KeptBy mode prepared.now.path (S.files store.old) (S.files store.new) }
-    ensures named { NamesOwn mode prepared.now.path result }
+    ensures kept { (asked : Asked) → IsPrepared asked prepared.now
+        → KeptWith (extension_in asked.subject) mode asked.path (S.files store.old)
+        (S.files store.new) }
+    ensures named { (asked : Asked) → IsPrepared asked prepared.now
+        → NamesOwn mode asked.path result }
     ensures cause { WorkCause (S.faults store.old) (S.faults store.new) result }
 {
     match mode {
@@ -87,13 +92,13 @@ pub fn settle<S: Store>(
     prepared: &Prepared,
     passed: bool,
 ) -> Result<(), AssertError>
-    requires { IsSome (text_in (contents_in prepared.now.snapshot)) }
     ensures ok { OnOk result ((asked : Asked) (m : Files) → IsPrepared asked prepared.now
         → S.files store.old ≡ Some (cleared asked.path m)
         → S.files store.new
         ≡ Some (step config.now.update config.now.force_update asked passed m)) }
     ensures kept { (asked : Asked) → IsPrepared asked prepared.now
-        → KeptBy config.now.update asked.path (S.files store.old) (S.files store.new) }
+        → KeptWith (extension_in asked.subject) config.now.update asked.path (S.files store.old)
+        (S.files store.new) }
     ensures named { (asked : Asked) → IsPrepared asked prepared.now
         → NamesOwn config.now.update asked.path result }
     ensures cause { WorkCause (S.faults store.old) (S.faults store.new) result }

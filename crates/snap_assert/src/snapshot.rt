@@ -1,9 +1,14 @@
 //! One assertion of any value, by a comparator of the caller's.
-ghost use Rattle.std.specs.Prelude.{◌≡◌, IfOk, IfErr, option_copied};
+ghost use Rattle.std.specs.Prelude.{◌≡◌, ◌⊎◌, true, Ok, Err, IfOk, IfErr, option_copied};
+ghost use Rattle.snap_assert_place.specs.SnapshotPath.{path_of};
+ghost use Rattle.snap_assert.specs.Kept.{KeptWith, NamesOwn};
+ghost use Rattle.snap_assert.specs.Names.{Named, name_step};
+ghost use Rattle.snap_assert.specs.Payloads.{is_bad_extension};
+ghost use Rattle.snap_assert.specs.declared.error.AssertError.{AssertError};
 ghost use Rattle.snap_assert.specs.Outcomes.{AssertCause};
 ghost use Rattle.snap_assert.specs.Relations.{asked_relation};
 ghost use Rattle.snap_assert.specs.Session.{session_of};
-ghost use Rattle.snap_assert.specs.Values.{ValueAnswered, ValueIsRefused, ValueKeeps, ValueNames, ValueStopped};
+ghost use Rattle.snap_assert.specs.Values.{PayloadAnswered, PayloadStops, ValueAnswered, ValueIsRefused, ValueKeeps, ValueNames, ValueStopped};
 ghost use Rattle.snap_assert_settings.specs.Settings.{settings_of};
 ghost use Rattle.snap_assert_place.specs.Place.{place_of};
 
@@ -12,12 +17,13 @@ use crate::error::AssertError;
 use crate::file::assert_file;
 use crate::literal::assert_literal;
 use crate::outcome::Outcome;
+use crate::payload::assert_payload;
 use crate::session::Session;
-use crate::value::SnapshotValue;
+use crate::value::{SnapshotValue, good_extension};
 use snap_assert_place::place::Place;
 use snap_assert_settings::config::Config;
 use snap_assert_settings::settings::Settings;
-use snap_content::Text;
+use snap_content::{Blob, Text};
 use snap_io::Store;
 use std::alloc::Global;
 
@@ -31,8 +37,60 @@ fn given_name(name: &Option<Text>) -> Option<&Text>
     }
 }
 
-/// Asserts the value: a text for a file as `assert_file` does, and one that a literal stands for as `assert_literal` does, each with its
-/// errors.
+/// Asserts a payload: one whose extension is refused is so before anything else.
+fn assert_binary<S: Store, C: Comparator>(
+    alloc: Global,
+    session: &mut Session,
+    store: &mut S,
+    config: &Config,
+    settings: &Settings,
+    comparator: &C,
+    place: &Place,
+    name: &Option<Text>,
+    content: Blob,
+    extension: Option<Text>,
+) -> Result<Outcome, AssertError>
+    ensures answered { IfOk result (λ outcome. PayloadAnswered
+        (asked_relation (C.agrees comparator.now) (C.agrees_fully comparator.now)
+        config.now.require_full_match) config.now (settings_of settings.now) (place_of place.now)
+        name.now content extension outcome (S.files store.old) (S.files store.new)
+        (session_of session.old) (session_of session.new)) }
+    ensures stopped { IfErr result (λ e. PayloadStops (settings_of settings.now)
+        (place_of place.now) name.now content extension e (S.files store.old) (S.files store.new)
+        (session_of session.old) (session_of session.new)) }
+    ensures untouched { ((is_bad_extension extension ≡ true)
+        ⊎ ((error : AssertError) × (name_step (settings_of settings.now) (place_of place.now)
+        name.now (session_of session.old) ≡ Err error))) → store.new ≡ store.old }
+    ensures kept { (named : Named) → name_step (settings_of settings.now) (place_of place.now)
+        name.now (session_of session.old) ≡ Ok named
+        → KeptWith extension config.now.update
+        (path_of (settings_of settings.now) (place_of place.now) named.name)
+        (S.files store.old) (S.files store.new) }
+    ensures named { (named : Named) → name_step (settings_of settings.now) (place_of place.now)
+        name.now (session_of session.old) ≡ Ok named
+        → NamesOwn config.now.update
+        (path_of (settings_of settings.now) (place_of place.now) named.name) result }
+    ensures cause { AssertCause (S.faults store.old) (S.faults store.new) result }
+{
+    match good_extension(extension) {
+        None => {
+            drop(content);
+            Err(AssertError::BadExtension)
+        }
+        Some(extension) => {
+            let given = given_name(name);
+            assert_payload(
+                alloc, session, store, config, settings, comparator, place, given, content,
+                extension,
+            )
+        }
+    }
+}
+
+/// Asserts the value: a text for a file as `assert_file` does, one that a literal stands for as `assert_literal` does, and a payload as a
+/// text for a file is, each with its errors. What a payload is is kept in a file of its own beside that of its snapshot, at the same path, a
+/// dot and its extension; with an extension that is not there, is `new`, begins with `new.` or holds a slash it is refused first of all,
+/// with `BadExtension`.
 pub fn assert_snapshot<S: Store, C: Comparator>(
     alloc: Global,
     session: &mut Session,
@@ -80,6 +138,18 @@ pub fn assert_snapshot<S: Store, C: Comparator>(
                 alloc, session, store, config, settings, comparator, place, reference, content,
             );
             drop(reference_content);
+            outcome
+        }
+        SnapshotValue::Binary {
+            name,
+            content,
+            extension,
+        } => {
+            let outcome = assert_binary(
+                alloc, session, store, config, settings, comparator, place, &name, content,
+                extension,
+            );
+            drop(name);
             outcome
         }
     }

@@ -23,7 +23,7 @@ step_unwritten_by words a passed s (Ok named) m q is spared =
     kept_under words a passed named (Err e) m q spared = inl refl
     kept_under words a passed named (Ok session) m q spared =
         let asked = asked_by words a named.name in
-        let k = step_keeps words.update words.force_update asked passed m _ refl in
+        let k = step_keeps words.update words.force_update asked passed m _ refl refl in
         subst (λ f. IsKeptOrGone (get m q) (get f q)) (sym (some_same (step words.update words.force_update asked passed m) k.files k.told)) (k.unwritten q spared)
 
 step_unwritten : (words : RunWords) (r : RequestView) (passed : Bool) (s : SessionView) (m : Files) (q : List ℕ) → IsSpared words is_written q r s → IsKeptOrGone (get m q) (get (step_by words r passed s m) q)
@@ -43,7 +43,7 @@ step_other_by words a passed s (Ok named) m q is spared =
     other_under words a passed named (Err e) m q spared = refl
     other_under words a passed named (Ok session) m q spared =
         let asked = asked_by words a named.name in
-        let k = step_keeps words.update words.force_update asked passed m _ refl in
+        let k = step_keeps words.update words.force_update asked passed m _ refl refl in
         ap (λ f. get f q) (some_same (step words.update words.force_update asked passed m) k.files k.told) ∙ k.others q spared
 
 step_other : (words : RunWords) (r : RequestView) (passed : Bool) (s : SessionView) (m : Files) (q : List ℕ) → IsSpared words may_change q r s → get (step_by words r passed s m) q ≡ get m q

@@ -2,9 +2,10 @@ use Rattle.snap_assert.proofs.Prelude.{◌∙◌, refl, sym, ap, subst, place_of
 use Rattle.snap_assert.specs.Blocks.{keep_step}
 use Rattle.snap_assert.specs.Names.{RefusedAs}
 use Rattle.snap_assert.specs.Session.{session_of}
+use Rattle.snap_assert.specs.Subjects.{extension_in}
 use Rattle.std.proofs.lemmas.Result.{err_from_is_err_and}
 use Rattle.snap_assert.proofs.Refusals.{refused_stops, refused_own, refused_cause, settled_stops, work_cause}
-use Rattle.snap_assert.proofs.Settling.{kept_unwritten, own_refused}
+use Rattle.snap_assert.proofs.Settling.{unwritten_with, own_refused}
 use Rattle.snap_assert.proofs.engine.keep_and_settle.Goals as goal
 
 pub returns-in_err-keep-clause-stopped : goal.returns-in_err-keep-clause-stopped
@@ -15,7 +16,7 @@ returns-in_err-keep-clause-stopped g c =
     c.in_err-keep.ensures.same refl)
 
 pub returns-in_err-keep-clause-kept : goal.returns-in_err-keep-clause-kept
-returns-in_err-keep-clause-kept g c = λ asked prepared. kept_unwritten c.args.config.now.update asked.path _ _ refl
+returns-in_err-keep-clause-kept g c = λ asked prepared. unwritten_with (extension_in asked.subject) c.args.config.now.update asked.path _ _ refl
 
 pub returns-in_err-keep-clause-named : goal.returns-in_err-keep-clause-named
 returns-in_err-keep-clause-named g c = λ asked prepared. own_refused c.args.config.now.update asked.path c.from_residual.result c.in_err-keep.field-0.0 c.from_residual.ensures.1

@@ -2,12 +2,12 @@ use Rattle.snap_assert.proofs.Prelude.{◌∙◌, ap, sym, subst, parent_of, Are
 use Rattle.std.proofs.lemmas.Result.{err_from_is_err_and}
 use Rattle.snap_assert_place.specs.SnapshotPath.{IsFilePath}
 use Rattle.snap_assert.proofs.Calls.{own_folder, call_cause}
-use Rattle.snap_assert.proofs.Settling.{own_path, own_error_at, own_refused}
+use Rattle.snap_assert.proofs.Settling.{own_read, own_error_at, own_refused}
 use Rattle.snap_assert.proofs.look.look.Goals as goal
 
 pub returns-in_err-judged-clause-named : goal.returns-in_err-judged-clause-named
 returns-in_err-judged-clause-named g c = λ asked mode prepared. own_refused mode asked.path c.from_residual.result c.in_err-judged.field-0.0 c.from_residual.ensures.1
-    (own_error_at mode c.args.prepared.now.path asked.path c.in_err-judged.field-0.0 prepared.path (own_path mode c.args.prepared.now.path c.in_err-judged.field-0.0 c.in_err-judged.ensures.named))
+    (own_error_at mode c.args.prepared.now.path asked.path c.in_err-judged.field-0.0 prepared.path (own_read mode c.args.prepared.now.path c.in_err-judged.field-0.0 c.in_err-judged.ensures.named))
 
 pub returns-in_err-strays-clause-named : goal.returns-in_err-strays-clause-named
 returns-in_err-strays-clause-named g c = λ asked mode prepared.

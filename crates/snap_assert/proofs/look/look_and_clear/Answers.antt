@@ -1,10 +1,11 @@
 use Rattle.snap_assert.proofs.Prelude.{◌∙◌, sym, subst, AreStrays, AllStray, IsCoveredAt}
 use Rattle.snap_assert.proofs.Removals.{strays_gone}
-use Rattle.snap_assert.proofs.Settling.{cleared_is, kept_unwritten, kept_clearing, own_strays, own_refused}
+use Rattle.snap_assert.specs.Subjects.{extension_in}
+use Rattle.snap_assert.proofs.Settling.{cleared_is, unwritten_with, kept_clearing, own_strays, own_refused}
 use Rattle.snap_assert.proofs.look.look_and_clear.Goals as goal
 
 pub returns-in_err-seen-clause-kept : goal.returns-in_err-seen-clause-kept
-returns-in_err-seen-clause-kept g c = λ asked mode prepared. kept_unwritten mode asked.path _ _ c.in_err-seen.ensures.same
+returns-in_err-seen-clause-kept g c = λ asked mode prepared. unwritten_with (extension_in asked.subject) mode asked.path _ _ c.in_err-seen.ensures.same
 
 pub returns-in_err-seen-clause-named : goal.returns-in_err-seen-clause-named
 returns-in_err-seen-clause-named g c = λ asked mode prepared. own_refused mode asked.path c.from_residual.result c.in_err-seen.field-0.0 c.from_residual.ensures.1 (c.in_err-seen.ensures.named asked mode prepared)

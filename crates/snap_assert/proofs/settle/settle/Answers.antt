@@ -1,5 +1,6 @@
 use Rattle.snap_assert.proofs.Prelude.{◌∙◌, ap, sym, true, Some, on_ok_weaker, step}
-use Rattle.snap_assert.proofs.Settling.{passed_is, kept_approving, kept_at, kept_both, own_wait, own_at, own_refused}
+use Rattle.snap_assert.specs.Subjects.{extension_in}
+use Rattle.snap_assert.proofs.Settling.{passed_is, kept_approving, kept_both, own_wait, own_refused}
 use Rattle.snap_assert.proofs.settle.settle.Goals as goal
 
 pub returns-then-not-passed-clause-ok : goal.returns-then-not-passed-clause-ok
@@ -8,10 +9,10 @@ returns-then-not-passed-clause-ok g c = on_ok_weaker c.write_by.result (λ writt
     ∙ ap (λ b. Some (step c.args.config.now.update c.args.config.now.force_update asked b m)) (sym c.if-not-passed.true)) c.write_by.ensures.ok
 
 pub returns-then-not-passed-clause-kept : goal.returns-then-not-passed-clause-kept
-returns-then-not-passed-clause-kept g c = λ asked prepared. kept_at c.args.config.now.update asked c.args.prepared.now _ _ prepared c.write_by.ensures.kept
+returns-then-not-passed-clause-kept g c = λ asked prepared. c.write_by.ensures.kept asked prepared
 
 pub returns-then-not-passed-clause-named : goal.returns-then-not-passed-clause-named
-returns-then-not-passed-clause-named g c = λ asked prepared. own_at c.args.config.now.update _ asked.path c.write_by.result prepared.path c.write_by.ensures.named
+returns-then-not-passed-clause-named g c = λ asked prepared. c.write_by.ensures.named asked prepared
 
 pub returns-in_err-approve-clause-kept : goal.returns-in_err-approve-clause-kept
 returns-in_err-approve-clause-kept g c = λ asked prepared. kept_approving c.args.config.now.update asked c.args.prepared.now _ _ prepared c.in_err-approve.ensures.kept
@@ -29,11 +30,11 @@ returns-then-config-clause-ok g c = on_ok_weaker c.write_by-then-config.result (
 pub returns-then-config-clause-kept : goal.returns-then-config-clause-kept
 returns-then-config-clause-kept g c = λ asked prepared.
     let mode = c.args.config.now.update in
-    kept_both mode asked.path _ _ _ (kept_approving mode asked c.args.prepared.now _ _ prepared c.in_ok-approve.ensures.kept)
-    (kept_at mode asked c.args.prepared.now _ _ prepared c.write_by-then-config.ensures.kept)
+    kept_both (extension_in asked.subject) mode asked.path _ _ _ (kept_approving mode asked c.args.prepared.now _ _ prepared c.in_ok-approve.ensures.kept)
+    (c.write_by-then-config.ensures.kept asked prepared)
 
 pub returns-then-config-clause-named : goal.returns-then-config-clause-named
-returns-then-config-clause-named g c = λ asked prepared. own_at c.args.config.now.update _ asked.path c.write_by-then-config.result prepared.path c.write_by-then-config.ensures.named
+returns-then-config-clause-named g c = λ asked prepared. c.write_by-then-config.ensures.named asked prepared
 
 pub returns-else-config-clause-ok : goal.returns-else-config-clause-ok
 returns-else-config-clause-ok g c = λ asked m prepared told.

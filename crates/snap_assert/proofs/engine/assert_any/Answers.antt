@@ -1,11 +1,13 @@
-use Rattle.snap_assert.proofs.Prelude.{refl, subst, settings_of, place_of, KeptBy, NamesOwn}
+use Rattle.snap_assert.proofs.Prelude.{refl, subst, settings_of, place_of, NamesOwn}
 use Rattle.std.specs.Option.{option_copied}
 use Rattle.snap_assert.specs.Assertions.{assertion_about}
+use Rattle.snap_assert.specs.Kept.{KeptWith}
 use Rattle.snap_assert.specs.Session.{session_of}
+use Rattle.snap_assert.specs.Subjects.{extension_in}
 use Rattle.snap_assert_place.specs.SnapshotPath.{path_of}
 use Rattle.snap_assert.proofs.Refusals.{name_stops, named_stops, answered, one_named, refused_own, refused_cause, err_weaker, done_and_kept, not_both}
-use Rattle.snap_assert.proofs.Settling.{kept_unwritten}
-use Rattle.snap_assert.proofs.engine.assert_contents.Goals as goal
+use Rattle.snap_assert.proofs.Settling.{unwritten_with}
+use Rattle.snap_assert.proofs.engine.assert_any.Goals as goal
 
 pub returns-in-Err-clause-stopped : goal.returns-in-Err-clause-stopped
 returns-in-Err-clause-stopped g c = λ subject is known held.
@@ -13,7 +15,7 @@ returns-in-Err-clause-stopped g c = λ subject is known held.
     name_stops a known (g.S.Store.files c.args.store.now) (session_of c.args.session.now) _ c.in-Err.error c.in-Err.ensures.err c.in-Err.ensures.same (λ m told. (held m told).0)
 
 pub returns-in-Err-clause-kept : goal.returns-in-Err-clause-kept
-returns-in-Err-clause-kept g c = λ subject is named takes. kept_unwritten _ _ _ _ refl
+returns-in-Err-clause-kept g c = λ subject is named takes. unwritten_with (extension_in subject) _ _ _ _ refl
 
 pub returns-in-Err-clause-named : goal.returns-in-Err-clause-named
 returns-in-Err-clause-named g c = λ subject is named takes. refused_own c.args.config.now.update _ _ c.in-Err.error c.in-Err.ensures.err
@@ -35,7 +37,7 @@ returns-in-Ok-clause-stopped g c =
 
 pub returns-in-Ok-clause-kept : goal.returns-in-Ok-clause-kept
 returns-in-Ok-clause-kept g c = λ subject is named takes.
-    subst (λ n. KeptBy c.args.config.now.update (path_of (settings_of c.args.settings.now) (place_of c.args.place.now) n.name) (g.S.Store.files c.args.store.now) (g.S.Store.files c.assert_named-outcome.new.store))
+    subst (λ n. KeptWith (extension_in subject) c.args.config.now.update (path_of (settings_of c.args.settings.now) (place_of c.args.place.now) n.name) (g.S.Store.files c.args.store.now) (g.S.Store.files c.assert_named-outcome.new.store))
     (one_named _ _ _ c.in-Ok.ensures.ok takes) (c.assert_named-outcome.ensures.kept subject is)
 
 pub returns-in-Ok-clause-named : goal.returns-in-Ok-clause-named

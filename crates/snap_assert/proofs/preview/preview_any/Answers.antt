@@ -4,7 +4,7 @@ use Rattle.snap_assert.specs.Assertions.{assertion_about}
 use Rattle.snap_assert.specs.Session.{session_of}
 use Rattle.snap_assert.proofs.Foreseeing.{previewed, untold_stops}
 use Rattle.snap_assert.proofs.Refusals.{name_stops, named_stops, refused_cause, err_weaker, done_and_kept}
-use Rattle.snap_assert.proofs.preview.preview_contents.Goals as goal
+use Rattle.snap_assert.proofs.preview.preview_any.Goals as goal
 
 pub returns-in-Err-clause-stopped : goal.returns-in-Err-clause-stopped
 returns-in-Err-clause-stopped g c = λ subject is.

@@ -1,0 +1,86 @@
+//! One assertion of a payload, by a comparator of the caller's.
+ghost use Rattle.std.specs.Prelude.{◌≡◌, Ok, Err, Some, IfOk, IfErr, option_copied};
+ghost use Rattle.snap_assert.specs.Outcomes.{IsStopped, AssertCause};
+ghost use Rattle.snap_assert.specs.Assertions.{payload_assertion_of};
+ghost use Rattle.snap_assert.specs.Compared.{IsAnsweredBy};
+ghost use Rattle.snap_assert.specs.Kept.{KeptWith, NamesOwn};
+ghost use Rattle.snap_assert.specs.Names.{Named, name_step};
+ghost use Rattle.snap_assert.specs.Relations.{asked_relation};
+ghost use Rattle.snap_assert.specs.Session.{session_of};
+ghost use Rattle.snap_assert_settings.specs.Settings.{settings_of};
+ghost use Rattle.snap_assert_place.specs.Place.{place_of};
+ghost use Rattle.snap_assert_place.specs.SnapshotPath.{path_of};
+ghost use Rattle.snap_assert.specs.declared.error.AssertError.{AssertError};
+
+use crate::comparator::Comparator;
+use crate::engine::assert_any;
+use crate::error::AssertError;
+use crate::listed::Listed;
+use crate::outcome::Outcome;
+use crate::prepare::asserted_payload;
+use crate::session::Session;
+use snap_assert_place::place::Place;
+use snap_assert_settings::config::Config;
+use snap_assert_settings::settings::Settings;
+use snap_content::{Blob, Text};
+use snap_io::Store;
+use std::alloc::Global;
+
+/// Asserts that the payload is that of the snapshot of its name, by what its file and the payload beside that hold.
+///
+/// All is as `assert_file` says of a text, but that the payload stands beside the file, at its path, a dot and the extension: it is read
+/// where the file says binary, and written after the file, whose header says so and which holds nothing else. A payload that stands there with another extension stays.
+/// No folder is remembered as listed after it.
+pub(crate) fn assert_payload<S: Store, C: Comparator>(
+    alloc: Global,
+    session: &mut Session,
+    store: &mut S,
+    config: &Config,
+    settings: &Settings,
+    comparator: &C,
+    place: &Place,
+    name: Option<&Text>,
+    content: Blob,
+    extension: Text,
+) -> Result<Outcome, AssertError>
+    ensures answered { IfOk result (λ outcome. IsAnsweredBy
+        (asked_relation (C.agrees comparator.now) (C.agrees_fully comparator.now)
+        config.now.require_full_match) config.now
+        (payload_assertion_of (settings_of settings.now) (place_of place.now)
+        (option_copied name.entry) extension content) outcome
+        (S.files store.old) (S.files store.new) (session_of session.old) (session_of session.new)) }
+    ensures stopped { IfErr result (λ e. IsStopped
+        (payload_assertion_of (settings_of settings.now) (place_of place.now)
+        (option_copied name.entry) extension content) e
+        (S.files store.old) (S.files store.new) (session_of session.old) (session_of session.new)) }
+    // Whatever is returned: no file is written but the one of the mode, so the approved one only in place.
+    ensures kept { (named : Named) → name_step (settings_of settings.now) (place_of place.now)
+        (option_copied name.entry) (session_of session.old) ≡ Ok named
+        → KeptWith (Some extension) config.now.update
+        (path_of (settings_of settings.now) (place_of place.now) named.name)
+        (S.files store.old) (S.files store.new) }
+    ensures named { (named : Named) → name_step (settings_of settings.now) (place_of place.now)
+        (option_copied name.entry) (session_of session.old) ≡ Ok named
+        → NamesOwn config.now.update
+        (path_of (settings_of settings.now) (place_of place.now) named.name) result }
+    ensures untouched { (error : AssertError) → name_step (settings_of settings.now)
+        (place_of place.now) (option_copied name.entry) (session_of session.old) ≡ Err error
+        → store.new ≡ store.old }
+    ensures cause { AssertCause (S.faults store.old) (S.faults store.new) result }
+{
+    let mut listed = Listed::new(alloc);
+    let outcome = assert_any(
+        alloc,
+        session,
+        &mut listed,
+        store,
+        config,
+        comparator,
+        settings,
+        place,
+        name,
+        asserted_payload(content, extension),
+    );
+    drop(listed);
+    outcome
+}
