@@ -91,7 +91,7 @@ written request (Source made) = writes request.path (encode_utf8_all made) ∷ [
 abbrev pub changes_of : Request → Plan → List Change
 changes_of request plan = written request plan.put ++ map removes plan.removals.items
 
--- a file of records is not read: it is missing, or its bytes give this error its cause
+-- the bytes of a file of records give this error its cause
 abbrev pub IsUnread : List ℕ → Option (List ℕ) → Error → Type 0
 IsUnread path waiting (e.FileIo named) = ⊥
 IsUnread path waiting (e.NoFile named) = ⊥
