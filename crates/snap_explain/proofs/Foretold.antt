@@ -1,6 +1,11 @@
 -- What would become of a request.
-use Rattle.snap_explain.proofs.Prelude.{◌≡◌, ℕ, List, Bool, true, false, Option, Some, None, Result, Ok, Err, refl, sym, ap, ◌∙◌, subst}
-use Rattle.std.specs.Prelude.{IfOk, MatchOption}
+use Rattle.snap_explain.proofs.Prelude.{◌≡◌, ℕ, List, Bool, true, false, Option, Some, None, Result, Ok, Err, refl, sym, ap, ◌∙◌, subst, inr}
+use Rattle.std.specs.Prelude.{IfOk, MatchOption, is_some}
+use Rattle.snap_content.specs.List.{items_of}
+use Rattle.snap_print.specs.Spell.{spell_text}
+use Rattle.snap_store.specs.Image.{pending_path}
+use Rattle.snap_explain.specs.Notes.{has_word, notes_by}
+use Rattle.snap_explain.specs.declared.notes.Notes.{Notes}
 use Rattle.std.specs.FinMap.{get}
 use Rattle.snap_content.specs.declared.error.Error.{Error}
 use Rattle.snap_content.specs.declared.error.Error.TheVariants as file
@@ -20,11 +25,12 @@ use Rattle.snap_assert.specs.declared.error.AssertError.TheVariants as refusal
 use Rattle.snap_assert.specs.declared.preview.Preview.{Preview}
 use Rattle.snap_run.specs.Answers.{RunWords, assertion_by, asked_by}
 use Rattle.snap_run.specs.Refused.{kind_of}
+use Rattle.snap_run.specs.declared.status.RefusalKind.{RefusalKind}
 use Rattle.snap_run.specs.declared.status.RefusalKind.TheVariants.{NameClash, DoctestNeedsName, DuplicateDiffers, NamesExhausted}
 use Rattle.snap_run_requests.specs.Requests.{AssertionView, RequestView, asserts, begins, ends, ReadsAs}
-use Rattle.snap_explain.specs.Troubles.{IsOfFile, IsCauseOf, IsContentCause, ComesTo, Passes, IsUnpassed, IsUnpassedBy, GoesOn, IsClear, HasTrouble, unforeseen, unread, is_tell_file}
+use Rattle.snap_explain.specs.Troubles.{IsOfFile, IsCauseOf, IsContentCause, ComesTo, PassesWith, Passes, IsNoted, IsSaidFor, IsUnpassed, IsUnpassedBy, GoesOn, IsClear, HasTrouble, IsRefusedFor, RefusesFor, unforeseen, unread, is_tell_file}
 use Rattle.snap_explain.specs.Troubles.IsClear.{passes, begin, end}
-use Rattle.snap_explain.specs.Troubles.HasTrouble.{stray, refused, unpassed}
+use Rattle.snap_explain.specs.Troubles.HasTrouble.{stray, refused, said_of}
 use Rattle.snap_explain.specs.declared.telling.TellError.{TellError}
 use Rattle.snap_explain.specs.declared.trouble.Cause.{Cause}
 use Rattle.snap_explain.specs.declared.trouble.Cause.TheVariants as cause
@@ -41,39 +47,78 @@ is_unpassed fully asked preview files what is why seen = record {
   why = subst (λ path. IsUnpassedBy path files what) seen.path why;
 }
 
+-- what is foreseen is a pass, of which these are to be said
+pub passes_with : (fully : Bool) (asked : Asked) (preview : Preview) (files : Option Files) (notes : Notes) (pending : Bool) → preview.judged.passed ≡ true → notes ≡ notes_by pending (items_of preview.judged.warnings)
+    → Given files (λ m. pending ≡ is_some (get m (pending_path preview.path))) → IsForeseen fully asked preview files → Given files (λ m. PassesWith fully asked notes m)
+passes_with fully asked preview files notes pending is told waits seen = λ m here. record {
+  judged = preview.judged;
+  compared = seen.judged m here;
+  passed = is;
+  told = told ∙ ap (λ b. notes_by b (items_of preview.judged.warnings)) (waits m here ∙ ap (λ path. is_some (get m (pending_path path))) seen.path);
+}
+
+pub is_noted : (found : Option Trouble) (fully : Bool) (asked : Asked) (preview : Preview) (files : Option Files) (notes : Notes)
+    → MatchOption found (has_word notes ≡ false) (λ what. (has_word notes ≡ true) × (what ≡ trouble.Noted notes (spell_text preview.path)))
+    → Given files (λ m. PassesWith fully asked notes m) → IsForeseen fully asked preview files → MatchOption found (Passes fully asked files) (λ what. IsNoted fully asked files what)
+is_noted None fully asked preview files notes h holds seen = record { notes = notes; holds = holds; silent = h }
+is_noted (Some what) fully asked preview files notes h holds seen =
+    record { notes = notes; spelled = spell_text preview.path; is = h.1; path_is = ap spell_text seen.path; holds = holds; worded = h.0 }
+
+said_pass : (found : Option Trouble) (fully : Bool) (asked : Asked) (files : Option Files) → MatchOption found (Passes fully asked files) (λ what. IsNoted fully asked files what)
+    → MatchOption found (Passes fully asked files) (λ what. IsSaidFor fully asked files what)
+said_pass None fully asked files h = h
+said_pass (Some what) fully asked files h = inr h
+
+pub passes_said : (result : Result (Option Trouble) TellError) (preview : Preview) (files : Option Files) → preview.judged.passed ≡ true
+    → IfOk result (λ found. (fully : Bool) (asked : Asked) → preview.judged.passed ≡ true → IsForeseen fully asked preview files → MatchOption found (Passes fully asked files) (λ what. IsNoted fully asked files what))
+    → IfOk result (λ found. (fully : Bool) (asked : Asked) → IsForeseen fully asked preview files → MatchOption found (Passes fully asked files) (λ what. IsSaidFor fully asked files what))
+passes_said (Ok found) preview files is h = λ fully asked seen. said_pass found fully asked files (h fully asked is seen)
+passes_said (Err error) preview files is h = tt
+
 -- the assertion goes on, and what is foreseen of it
 goes_on : (words : RunWords) (a : AssertionView) (preview : Preview) (files : Option Files) (s s' : SessionView) (asks : Asked → Type 0) → (p : IsPreviewed words.full (assertion_by words a) preview files s s')
     → ((asked : Asked) → IsForeseen words.full asked preview files → asks asked) → GoesOn words a s s' asks
 goes_on words a preview files s s' asks p then = record { course = p.course; course_is = p.course_is; remembered = p.remembered; is = then (asked_by words a p.course.name) p.foreseen }
 
 pub of_preview : (found : Option Trouble) (words : RunWords) (a : AssertionView) (preview : Preview) (files : Option Files) (s s' : SessionView) → IsPreviewed words.full (assertion_by words a) preview files s s'
-    → ((asked : Asked) → IsForeseen words.full asked preview files → MatchOption found (Passes words.full asked files) (λ what. IsUnpassed words.full asked files what))
+    → ((asked : Asked) → IsForeseen words.full asked preview files → MatchOption found (Passes words.full asked files) (λ what. IsSaidFor words.full asked files what))
     → MatchOption found (IsClear words files s s' (asserts a)) (λ what. HasTrouble words files s s' (asserts a) what)
 of_preview None words a preview files s s' p found = passes (asserts a) a refl (goes_on words a preview files s s' (λ asked. Passes words.full asked files) p found)
-of_preview (Some what) words a preview files s s' p found = unpassed (asserts a) a what refl (goes_on words a preview files s s' (λ asked. IsUnpassed words.full asked files what) p found)
+of_preview (Some what) words a preview files s s' p found = said_of (asserts a) a what refl (goes_on words a preview files s s' (λ asked. IsSaidFor words.full asked files what) p found)
 
 pub found_in_preview : (result : Result (Option Trouble) TellError) (words : RunWords) (a : AssertionView) (preview : Preview) (files : Option Files) (s s' : SessionView) → IsPreviewed words.full (assertion_by words a) preview files s s'
-    → IfOk result (λ found. (fully : Bool) (asked : Asked) → IsForeseen fully asked preview files → MatchOption found (Passes fully asked files) (λ what. IsUnpassed fully asked files what))
+    → IfOk result (λ found. (fully : Bool) (asked : Asked) → IsForeseen fully asked preview files → MatchOption found (Passes fully asked files) (λ what. IsSaidFor fully asked files what))
     → IfOk result (λ found. MatchOption found (IsClear words files s s' (asserts a)) (λ what. HasTrouble words files s s' (asserts a) what))
 found_in_preview (Ok found) words a preview files s s' p h = of_preview found words a preview files s s' p (h words.full)
 found_in_preview (Err error) words a preview files s s' p h = tt
 
 -- an assertion that is refused is in trouble
-pub of_stop : (e : AssertError) (words : RunWords) (a : AssertionView) (files : Option Files) (s s' : SessionView) → IsStoppedBefore (assertion_by words a) e s s'
-    → IfOk (unforeseen e) (λ found. MatchOption found (IsClear words files s s' (asserts a)) (λ what. HasTrouble words files s s' (asserts a) what))
-of_stop refusal.OutOfMemory words a files s s' h = tt
-of_stop (refusal.FileIo path) words a files s s' h = tt
-of_stop refusal.NameClash words a files s s' h = refused (asserts a) a (trouble.Refused NameClash) NameClash refl refl
-    (record { refused = h.refused; course_is = h.course_is; kind_is = ap kind_of h.error_is; remembered = h.remembered })
-of_stop refusal.DoctestNeedsName words a files s s' h = refused (asserts a) a (trouble.Refused DoctestNeedsName) DoctestNeedsName refl refl
-    (record { refused = h.refused; course_is = h.course_is; kind_is = ap kind_of h.error_is; remembered = h.remembered })
-of_stop (refusal.DuplicateDiffers key kept new) words a files s s' h = refused (asserts a) a (trouble.Refused DuplicateDiffers) DuplicateDiffers refl refl
-    (record { refused = h.refused; course_is = h.course_is; kind_is = ap kind_of h.error_is; remembered = h.remembered })
-of_stop refusal.NamesExhausted words a files s s' h = refused (asserts a) a (trouble.Refused NamesExhausted) NamesExhausted refl refl
-    (record { refused = h.refused; course_is = h.course_is; kind_is = ap kind_of h.error_is; remembered = h.remembered })
-of_stop refusal.InlineDuplicate words a files s s' h = tt
-of_stop refusal.BadExtension words a files s s' h = tt
-of_stop refusal.JsonKey words a files s s' h = tt
+refusal_is : (kind : RefusalKind) (words : RunWords) (a : AssertionView) (files : Option Files) (s s' : SessionView) (found : Option Trouble) → IsRefusedFor words a s s' kind → RefusesFor (Ok kind) found
+    → MatchOption found (IsClear words files s s' (asserts a)) (λ what. HasTrouble words files s s' (asserts a) what)
+refusal_is kind words a files s s' found h k =
+    subst (λ f. MatchOption f (IsClear words files s s' (asserts a)) (λ what. HasTrouble words files s s' (asserts a) what)) (sym k.1)
+    (refused (asserts a) a (trouble.Refused kind k.0) kind k.0 refl refl h)
+
+of_stop : (e : AssertError) (words : RunWords) (a : AssertionView) (files : Option Files) (s s' : SessionView) (found : Option Trouble) → IsStoppedBefore (assertion_by words a) e s s' → RefusesFor (unforeseen e) found
+    → MatchOption found (IsClear words files s s' (asserts a)) (λ what. HasTrouble words files s s' (asserts a) what)
+of_stop refusal.OutOfMemory words a files s s' found h k = absurd k
+of_stop (refusal.FileIo path) words a files s s' found h k = absurd k
+of_stop refusal.NameClash words a files s s' found h k = refusal_is NameClash words a files s s' found
+    (record { refused = h.refused; course_is = h.course_is; kind_is = ap kind_of h.error_is; remembered = h.remembered }) k
+of_stop refusal.DoctestNeedsName words a files s s' found h k = refusal_is DoctestNeedsName words a files s s' found
+    (record { refused = h.refused; course_is = h.course_is; kind_is = ap kind_of h.error_is; remembered = h.remembered }) k
+of_stop (refusal.DuplicateDiffers key kept new) words a files s s' found h k = refusal_is DuplicateDiffers words a files s s' found
+    (record { refused = h.refused; course_is = h.course_is; kind_is = ap kind_of h.error_is; remembered = h.remembered }) k
+of_stop refusal.NamesExhausted words a files s s' found h k = refusal_is NamesExhausted words a files s s' found
+    (record { refused = h.refused; course_is = h.course_is; kind_is = ap kind_of h.error_is; remembered = h.remembered }) k
+of_stop refusal.InlineDuplicate words a files s s' found h k = absurd k
+of_stop refusal.BadExtension words a files s s' found h k = absurd k
+of_stop refusal.JsonKey words a files s s' found h k = absurd k
+
+pub stopped : (result : Result (Option Trouble) TellError) (e : AssertError) (words : RunWords) (a : AssertionView) (files : Option Files) (s s' : SessionView) → IsStoppedBefore (assertion_by words a) e s s'
+    → IfOk result (λ found. RefusesFor (unforeseen e) found) → IfOk result (λ found. MatchOption found (IsClear words files s s' (asserts a)) (λ what. HasTrouble words files s s' (asserts a) what))
+stopped (Ok found) e words a files s s' h k = of_stop e words a files s s' found h k
+stopped (Err error) e words a files s s' h k = tt
 
 -- and leaves the count of the store's faults, but for a fault
 pub stop_counts : (e : AssertError) (before now : ℕ) → ErrorCause before now e → Counted is_tell_file before now (unforeseen e)
@@ -137,3 +182,8 @@ cause_read snapshot path files cause.NoMap h k = absurd k
 cause_read snapshot path files cause.NoExtension h k = absurd k
 cause_read snapshot path files cause.Binary h k = λ m told. record { snapshot = snapshot; read = subst (λ f. IsReadAs f snapshot) (h.told m told) h.comes_to; payload = k }
 cause_read snapshot path files cause.Differs h k = λ m told. record { snapshot = snapshot; read = subst (λ f. IsReadAs f snapshot) (h.told m told) h.comes_to; text = k.0; text_is = k.1 }
+
+pub causes_read : (result : Result (Cause × List ℕ) TellError) (snapshot : Snapshot) (path : List ℕ) (files : Option Files) → IsReadFrom path files (Ok snapshot) → IfOk result (λ found. IsContentCause (contents_in snapshot) found.0)
+    → IfOk result (λ found. Given files (λ m. IsCauseOf (get m path) found.0))
+causes_read (Ok found) snapshot path files h k = cause_read snapshot path files found.0 h k
+causes_read (Err error) snapshot path files h k = tt

@@ -3,6 +3,8 @@ pub mod Starts
 pub mod Reasons
 pub mod Findings
 pub mod Runs
+pub mod LineEnds
+pub mod Notes
 pub mod Refusals
 pub mod Troubles
 pub mod Streams

@@ -1,9 +1,13 @@
 -- Why a request would not pass, or would end a run.
-use Rattle.std.specs.Prelude.{◌≡◌, ℕ, Bool, true, false, List, ◌++◌, codes, decimal, encode_utf8_all, Option, None, Some, Result, Ok, Err}
+use Rattle.std.specs.Prelude.{◌≡◌, ◌⊎◌, ℕ, Bool, true, false, is_some, List, ◌++◌, codes, decimal, encode_utf8_all, Option, None, Some, Result, Ok, Err}
 use Rattle.std.specs.FinMap.{get}
 use Rattle.snap_io.specs.Files.{Files}
 use Rattle.snap_io.specs.Outside.{Given}
 use Rattle.snap_print.specs.Spell.{spell_text}
+use Rattle.snap_content.specs.List.{items_of}
+use Rattle.snap_store.specs.Image.{pending_path}
+use Rattle.snap_explain.specs.Notes.{has_word, notes_by, notes_text}
+use Rattle.snap_explain.specs.declared.notes.Notes.{Notes}
 use Rattle.snap_store.specs.Reading.{IsNoText, HasUnspelledHeader, HasOtherHeader, LacksExtension, IsReadAs}
 use Rattle.snap_store.specs.Views.{contents_in, text_in}
 use Rattle.snap_store.specs.declared.snapshot.Snapshot.{Snapshot}
@@ -50,11 +54,12 @@ kind_text DoctestNeedsName = codes "a doctest without a name"
 kind_text DuplicateDiffers = codes "the open block of duplicates has another value under this name"
 kind_text NamesExhausted = codes "no number is left for this name"
 
--- why a request would not pass: of a file its path, as a scalar is spelled, and what helps
+-- why a request would not pass, or what is to be said of one that passes: of a refusal what stands against it, of a file its path, as a scalar is spelled, and what helps
 abbrev pub trouble_text : Trouble → List ℕ
 trouble_text trouble.StrayEnd = codes "no block of duplicates is open"
-trouble_text (trouble.Refused kind) = kind_text kind
+trouble_text (trouble.Refused kind detail) = kind_text kind ++ encode_utf8_all detail
 trouble_text (trouble.Unpassed what path detail) = cause_text what ++ codes ": " ++ encode_utf8_all path ++ encode_utf8_all detail
+trouble_text (trouble.Noted notes path) = notes_text notes ++ codes ": " ++ encode_utf8_all path
 
 -- what is said of the document with this number, as a line
 abbrev pub trouble_line : ℕ → Place → Trouble → List ℕ
@@ -93,9 +98,28 @@ pub record ComesTo (fully : Bool) (asked : Asked) (passed : Bool) (m : Files) : 
   pub compared : IsJudged (default_relation fully) asked m judged
   pub so : judged.passed ≡ passed
 
--- what is asked of the files would pass
-abbrev pub Passes : Bool → Asked → Option Files → Type 0
-Passes fully asked files = Given files (λ m. ComesTo fully asked true m)
+-- the engine's own comparison comes to a pass, and these are to be said: what it warns of, and whether a pending snapshot waits beside
+-- the file
+pub record PassesWith (fully : Bool) (asked : Asked) (notes : Notes) (m : Files) : Type 0 where
+  pub judged : Judged
+  pub compared : IsJudged (default_relation fully) asked m judged
+  pub passed : judged.passed ≡ true
+  pub told : notes ≡ notes_by (is_some (get m (pending_path asked.path))) (items_of judged.warnings)
+
+-- what is asked of the files would pass, and nothing is to be said of it
+pub record Passes (fully : Bool) (asked : Asked) (files : Option Files) : Type 0 where
+  pub notes : Notes
+  pub holds : Given files (λ m. PassesWith fully asked notes m)
+  pub silent : has_word notes ≡ false
+
+-- what is asked of the files would pass, and something is to be said of it, which is told with the path of the file
+pub record IsNoted (fully : Bool) (asked : Asked) (files : Option Files) (what : Trouble) : Type 0 where
+  pub notes : Notes
+  pub spelled : List ℕ
+  pub is : what ≡ trouble.Noted notes spelled
+  pub path_is : spelled ≡ spell_text asked.path
+  pub holds : Given files (λ m. PassesWith fully asked notes m)
+  pub worded : has_word notes ≡ true
 
 -- a cause of contents: a payload, or a text
 abbrev pub IsContentCause : SnapshotContents → Cause → Type 0
@@ -129,6 +153,10 @@ pub record IsUnpassed (fully : Bool) (asked : Asked) (files : Option Files) (wha
   pub fails : Given files (λ m. ComesTo fully asked false m)
   pub why : IsUnpassedBy asked.path files what
 
+-- what is said of what is asked: why it would not pass, or what is to be said of a pass
+abbrev pub IsSaidFor : Bool → Asked → Option Files → Trouble → Type 0
+IsSaidFor fully asked files what = IsUnpassed fully asked files what ⊎ IsNoted fully asked files what
+
 -- an assertion is made in a file
 abbrev pub IsOfFile : RequestView → Type 0
 IsOfFile (asserts a) = names_file a.file ≡ true
@@ -149,28 +177,33 @@ pub record IsRefusedFor (words : RunWords) (a : AssertionView) (session session'
   pub kind_is : kind_of refused.error ≡ Some kind
   pub remembered : session' ≡ refused.session
 
--- a request would pass, or begins or ends a block
+-- a request would pass and nothing is to be said of it, or it begins or ends a block
 pub data IsClear (words : RunWords) (files : Option Files) (session session' : SessionView) : RequestView → Type 0 where
   passes : (r : RequestView) (a : AssertionView) → r ≡ asserts a → GoesOn words a session session' (λ asked. Passes words.full asked files) → IsClear words files session session' r
   begin : (r : RequestView) → r ≡ begins → session' ≡ opened session → IsClear words files session session' r
   end : (r : RequestView) → r ≡ ends → is_open session ≡ true → session' ≡ closed session → IsClear words files session session' r
 
--- why a request would not pass, or would end a run
+-- why a request would not pass, or would end a run; or what is to be said of one that would pass
 pub data HasTrouble (words : RunWords) (files : Option Files) (session session' : SessionView) : RequestView → Trouble → Type 0 where
   stray : (r : RequestView) (what : Trouble) → r ≡ ends → what ≡ trouble.StrayEnd → is_open session ≡ false → session' ≡ session → HasTrouble words files session session' r what
-  refused : (r : RequestView) (a : AssertionView) (what : Trouble) (kind : RefusalKind) → r ≡ asserts a → what ≡ trouble.Refused kind → IsRefusedFor words a session session' kind
+  refused : (r : RequestView) (a : AssertionView) (what : Trouble) (kind : RefusalKind) (detail : List ℕ) → r ≡ asserts a → what ≡ trouble.Refused kind detail → IsRefusedFor words a session session' kind
       → HasTrouble words files session session' r what
-  unpassed : (r : RequestView) (a : AssertionView) (what : Trouble) → r ≡ asserts a → GoesOn words a session session' (λ asked. IsUnpassed words.full asked files what) → HasTrouble words files session session' r what
+  said_of : (r : RequestView) (a : AssertionView) (what : Trouble) → r ≡ asserts a → GoesOn words a session session' (λ asked. IsSaidFor words.full asked files what) → HasTrouble words files session session' r what
 
--- why an assertion that comes to no answer is in trouble: a fault and want of memory end the work, and the errors of literals and of payloads
--- don't come of a tree
-abbrev pub unforeseen : AssertError → Result (Option Trouble) TellError
+-- why what is remembered refuses an assertion that comes to no answer: a fault and want of memory end the work, and the errors of literals
+-- and of payloads don't come of a tree
+abbrev pub unforeseen : AssertError → Result RefusalKind TellError
 unforeseen (refusal.FileIo path) = Err tell.FileFault
-unforeseen refusal.NameClash = Ok (Some (trouble.Refused NameClash))
-unforeseen refusal.DoctestNeedsName = Ok (Some (trouble.Refused DoctestNeedsName))
-unforeseen (refusal.DuplicateDiffers key kept new) = Ok (Some (trouble.Refused DuplicateDiffers))
-unforeseen refusal.NamesExhausted = Ok (Some (trouble.Refused NamesExhausted))
+unforeseen refusal.NameClash = Ok NameClash
+unforeseen refusal.DoctestNeedsName = Ok DoctestNeedsName
+unforeseen (refusal.DuplicateDiffers key kept new) = Ok DuplicateDiffers
+unforeseen refusal.NamesExhausted = Ok NamesExhausted
 unforeseen _ = Err tell.OutOfMemory
+
+-- what is told of such a refusal: its kind, and what stands against the request
+abbrev pub RefusesFor : Result RefusalKind TellError → Option Trouble → Type 0
+RefusesFor (Ok kind) found = (detail : List ℕ) × (found ≡ Some (trouble.Refused kind detail))
+RefusesFor (Err error) found = ⊥
 
 -- an error that tells that the sink failed
 abbrev pub is_tell_write : TellError → Bool

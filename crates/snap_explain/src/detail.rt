@@ -1,13 +1,17 @@
 //! What helps to mend a snapshot that gives no pass.
+use crate::line_ends::are_alike_lines;
 use crate::position::place_behind;
 use crate::refusal::ReasonWords;
+use snap_content::characters::begins_with;
 use snap_content::{OutOfMemory, Text};
 use snap_emit::{Refusal, read_text};
 use snap_run_requests::Reason;
 use snap_scan_tokens::ScanError;
 use snap_store::SnapshotContents;
 use snap_store::split::split_file;
+use snap_str::lines::next_ended_line;
 use snap_text::TextSnapshotContents;
+use snap_text::normal::is_fence;
 use std::alloc::Global;
 use std::str;
 
@@ -25,30 +29,47 @@ fn first_unlike_line(old: &str, new: &str) -> u64 {
     line
 }
 
-fn differs_in(
+/// Where two texts differ, by their normal forms: the first line that does, and whether they are the same but for white space at the
+/// ends of their lines.
+#[derive(Clone, Copy, Debug)]
+pub(crate) struct Difference {
+    pub line: u64,
+    pub by_line_ends: bool,
+}
+
+/// Where two texts differ.
+pub(crate) fn difference_of(
     alloc: Global,
     old: &TextSnapshotContents,
     new: &TextSnapshotContents,
-) -> Result<u64, OutOfMemory> {
+) -> Result<Difference, OutOfMemory> {
     let old = old.normal(alloc)?;
     let new = new.normal(alloc)?;
-    Ok(first_unlike_line(old.as_str(), new.as_str()))
+    Ok(Difference {
+        line: first_unlike_line(old.as_str(), new.as_str()),
+        by_line_ends: are_alike_lines(old.as_str(), new.as_str()),
+    })
 }
 
-/// Where a body differs from the one that came.
+/// Where a body differs from the one that came, and whether a tool that drops the white space at the ends of lines may have done it.
 pub(crate) fn body_detail(
     alloc: Global,
     old: &TextSnapshotContents,
     new: &SnapshotContents,
 ) -> Result<Text, OutOfMemory> {
-    match new.as_text() {
-        None => Ok(Text::empty()),
-        Some(new) => {
-            let line = differs_in(alloc, old, new)?;
-            let detail = format!(in alloc; " in line {line} of its body")?;
-            Text::from_str(alloc, detail.as_str())
-        }
+    let Some(new) = new.as_text() else {
+        return Ok(Text::empty());
+    };
+    let difference = difference_of(alloc, old, new)?;
+    let detail = format!(in alloc; " in line {} of its body", difference.line)?;
+    let mut text = Text::from_str(alloc, detail.as_str())?;
+    if difference.by_line_ends {
+        text.push_ascii(
+            alloc,
+            "; but for white space at the ends of lines it agrees",
+        )?;
     }
+    Ok(text)
 }
 
 /// The first line, counted from 1, that begins as a mark of a merge does.
@@ -97,11 +118,45 @@ fn header_fault(alloc: Global, text: &str) -> Result<Text, OutOfMemory> {
     }
 }
 
-/// What is wrong with a file whose header is refused: the marks of a merge in it, or why the header is read as no tree.
-pub(crate) fn header_detail(alloc: Global, file: &[u8]) -> Result<Text, OutOfMemory> {
-    let Ok(text) = str::from_utf8(file) else {
-        return Ok(Text::empty());
+/// Whether a file begins with a header that no second `---` ends.
+fn is_unclosed(text: &str) -> bool {
+    let Some((first, others)) = next_ended_line(text) else {
+        return false;
     };
+    if !is_fence(first) {
+        return false;
+    }
+    let mut rest = others;
+    while let Some((line, more)) = next_ended_line(rest) {
+        if is_fence(line) {
+            return false;
+        }
+        rest = more;
+    }
+    true
+}
+
+/// What a file begins with that hides its body: a header without an end, or a byte order mark before it.
+fn begin_words(text: &str) -> &'static str {
+    if begins_with(text, '\u{feff}') {
+        "; a byte order mark stands before its first ---"
+    } else if is_unclosed(text) {
+        "; no second line --- ends its header"
+    } else {
+        ""
+    }
+}
+
+/// The same of bytes, as a text of its own.
+pub(crate) fn begin_detail(alloc: Global, file: &[u8]) -> Result<Text, OutOfMemory> {
+    match str::from_utf8(file) {
+        Ok(text) => Text::from_str(alloc, begin_words(text)),
+        Err(_) => Ok(Text::empty()),
+    }
+}
+
+/// What is wrong with a file whose header is no YAML: the marks of a merge in it, or why the header is read as no tree.
+fn merge_or_fault(alloc: Global, text: &str) -> Result<Text, OutOfMemory> {
     match merge_mark(text) {
         None => header_fault(alloc, text),
         Some(line) => {
@@ -109,4 +164,14 @@ pub(crate) fn header_detail(alloc: Global, file: &[u8]) -> Result<Text, OutOfMem
             Text::from_str(alloc, detail.as_str())
         }
     }
+}
+
+/// What is wrong with a file whose header is no YAML, and whether nothing ends it.
+pub(crate) fn header_detail(alloc: Global, file: &[u8]) -> Result<Text, OutOfMemory> {
+    let Ok(text) = str::from_utf8(file) else {
+        return Ok(Text::empty());
+    };
+    let mut detail = merge_or_fault(alloc, text)?;
+    detail.push_str(alloc, begin_words(text))?;
+    Ok(detail)
 }

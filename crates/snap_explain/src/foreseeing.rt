@@ -1,6 +1,7 @@
 //! What would become of a request: nothing is to be said where it would pass, and else why it would not.
-ghost use Rattle.std.specs.Prelude.{◌≡◌, Bool, IfOk, IfErr, MatchOption, None, true, false};
+ghost use Rattle.std.specs.Prelude.{◌≡◌, ℕ, Bool, IfOk, IfErr, MatchOption, None, true, false};
 ghost use Rattle.snap_io.specs.Causes.{Counted};
+ghost use Rattle.snap_assert.specs.Outcomes.{ErrorCause};
 ghost use Rattle.snap_assert.specs.Previews.{IsForeseen};
 ghost use Rattle.snap_assert.specs.Session.{session_of, opened, closed, is_open};
 ghost use Rattle.snap_assert.specs.Steps.{Asked};
@@ -8,9 +9,12 @@ ghost use Rattle.snap_assert_place.specs.Place.{names_file};
 ghost use Rattle.snap_run.specs.Runner.{words_of};
 ghost use Rattle.snap_run_requests.specs.RequestOf.{assertion_of, request_of};
 ghost use Rattle.snap_run_requests.specs.Requests.{asserts};
-ghost use Rattle.snap_explain.specs.Troubles.{IsOfFile, Passes, IsUnpassed, IsClear, HasTrouble, unforeseen, is_tell_file, is_tell_write};
+ghost use Rattle.snap_explain.specs.Troubles.{IsOfFile, Passes, IsSaidFor, IsClear, HasTrouble, RefusesFor, unforeseen, is_tell_file, is_tell_write};
 
+use crate::against::against;
+use crate::earlier::{Earlier, Taking};
 use crate::misfit::unpassed;
+use crate::noting::note;
 use crate::telling::TellError;
 use crate::trouble::Trouble;
 use snap_assert::error::AssertError;
@@ -21,50 +25,77 @@ use snap_run::{RefusalKind, Runner, preview_assertion};
 use snap_run_requests::request::{Assertion, Request};
 use std::alloc::Global;
 
-/// What is said of an assertion that comes to no answer.
-fn unforeseen(error: AssertError) -> Result<Option<Trouble>, TellError>
-    ensures is { result ≡ unforeseen error }
+/// Why what is remembered refuses an assertion that comes to no answer.
+fn unforeseen(error: &AssertError) -> Result<RefusalKind, TellError>
+    ensures is { result ≡ unforeseen error.now }
     ensures unsaid { IfErr result (λ error. is_tell_write error ≡ false) }
 {
     match error {
         AssertError::FileIo(_) => Err(TellError::FileFault),
-        AssertError::NameClash => Ok(Some(Trouble::Refused(RefusalKind::NameClash))),
-        AssertError::DoctestNeedsName => Ok(Some(Trouble::Refused(RefusalKind::DoctestNeedsName))),
-        AssertError::DuplicateDiffers { .. } => {
-            Ok(Some(Trouble::Refused(RefusalKind::DuplicateDiffers)))
-        }
-        AssertError::NamesExhausted => Ok(Some(Trouble::Refused(RefusalKind::NamesExhausted))),
+        AssertError::NameClash => Ok(RefusalKind::NameClash),
+        AssertError::DoctestNeedsName => Ok(RefusalKind::DoctestNeedsName),
+        AssertError::DuplicateDiffers { .. } => Ok(RefusalKind::DuplicateDiffers),
+        AssertError::NamesExhausted => Ok(RefusalKind::NamesExhausted),
         _ => Err(TellError::OutOfMemory),
     }
 }
 
-/// Why what is foreseen is no pass, where it is none.
+/// Why what is foreseen is no pass, where it is none, and else what is to be said of it. The document with this number asks for it.
 fn trouble_in<F: Store>(
     alloc: Global,
     store: &mut F,
+    earlier: &mut Earlier,
+    number: u64,
+    taking: Taking,
     preview: &Preview,
 ) -> Result<Option<Trouble>, TellError>
     ensures found { IfOk result (λ found. (fully : Bool) (asked : Asked)
         → IsForeseen fully asked preview.now (F.files store.old)
         → MatchOption found (Passes fully asked (F.files store.old))
-        (λ what. IsUnpassed fully asked (F.files store.old) what)) }
+        (λ what. IsSaidFor fully asked (F.files store.old) what)) }
     ensures unsaid { IfErr result (λ error. is_tell_write error ≡ false) }
     ensures same { F.files store.new ≡ F.files store.old }
     ensures cause { Counted is_tell_file (F.faults store.old) (F.faults store.new) result }
 {
+    let asker = earlier.go_on(number, taking, preview)?;
     if preview.judged.passed {
-        return Ok(None);
+        return note(alloc, store, preview);
     }
-    let what = unpassed(alloc, store, &preview.path, &preview.snapshot)?;
+    let what = unpassed(alloc, store, &preview.path, &preview.snapshot, asker)?;
     Ok(Some(what))
 }
 
+/// What is said of an assertion that comes to no answer.
+fn refused(
+    alloc: Global,
+    earlier: &mut Earlier,
+    number: u64,
+    taking: Taking,
+    error: AssertError,
+) -> Result<Option<Trouble>, TellError>
+    ensures is { IfOk result (λ found. RefusesFor (unforeseen error) found) }
+    ensures cause { (before now : ℕ) → ErrorCause before now error
+        → Counted is_tell_file before now result }
+    ensures unsaid { IfErr result (λ error. is_tell_write error ≡ false) }
+{
+    let kind = unforeseen(&error);
+    let detail = against(alloc, earlier, number, taking, error);
+    let kind = kind?;
+    Ok(Some(Trouble::Refused {
+        kind,
+        detail: detail?,
+    }))
+}
+
 /// Why an assertion would not pass, where it would not.
-fn trouble_of_assertion<F: Store>(
+fn trouble_by<F: Store>(
     alloc: Global,
     runner: &Runner,
     session: &mut Session,
     store: &mut F,
+    earlier: &mut Earlier,
+    number: u64,
+    taking: Taking,
     assertion: Assertion,
 ) -> Result<Option<Trouble>, TellError>
     requires { names_file assertion.file ≡ true }
@@ -79,32 +110,65 @@ fn trouble_of_assertion<F: Store>(
 {
     match preview_assertion(alloc, runner, session, assertion, store) {
         Ok(preview) => {
-            let found = trouble_in(alloc, store, &preview);
+            let found = trouble_in(alloc, store, earlier, number, taking, &preview);
             drop(preview);
             found
         }
-        Err(error) => unforeseen(error),
+        Err(error) => refused(alloc, earlier, number, taking, error),
+    }
+}
+
+/// The same, of an assertion of which it is to be seen what it takes.
+fn trouble_of_assertion<F: Store>(
+    alloc: Global,
+    runner: &Runner,
+    session: &mut Session,
+    store: &mut F,
+    earlier: &mut Earlier,
+    number: u64,
+    assertion: Assertion,
+) -> Result<Option<Trouble>, TellError>
+    requires { names_file assertion.file ≡ true }
+    ensures found { IfOk result (λ found. MatchOption found
+        (IsClear (words_of runner.now) (F.files store.old) (session_of session.old)
+        (session_of session.new) (asserts (assertion_of assertion)))
+        (λ what. HasTrouble (words_of runner.now) (F.files store.old) (session_of session.old)
+        (session_of session.new) (asserts (assertion_of assertion)) what)) }
+    ensures unsaid { IfErr result (λ error. is_tell_write error ≡ false) }
+    ensures same { F.files store.new ≡ F.files store.old }
+    ensures cause { Counted is_tell_file (F.faults store.old) (F.faults store.new) result }
+{
+    match Taking::of(alloc, &assertion) {
+        Ok(taking) => trouble_by(
+            alloc, runner, session, store, earlier, number, taking, assertion,
+        ),
+        Err(_) => {
+            drop(assertion);
+            Err(TellError::OutOfMemory)
+        }
     }
 }
 
 /// Opens a block, of which nothing is to be said.
-fn begin_block(session: &mut Session) -> Result<Option<Trouble>, TellError>
+fn begin_block(session: &mut Session, earlier: &mut Earlier) -> Result<Option<Trouble>, TellError>
     ensures ok { IfOk result (λ found. (found ≡ None)
         × (session_of session.new ≡ opened (session_of session.old))) }
     ensures err { IfErr result (λ error. error ≡ TellError.OutOfMemory) }
 {
     session.begin_duplicates()?;
+    earlier.begin()?;
     Ok(None)
 }
 
 /// Closes a block, where one is open.
-fn end_block(session: &mut Session) -> Option<Trouble>
+fn end_block(session: &mut Session, earlier: &mut Earlier) -> Option<Trouble>
     ensures { MatchOption result
         ((is_open (session_of session.old) ≡ true)
         × (session_of session.new ≡ closed (session_of session.old)))
         (λ what. (what ≡ Trouble.StrayEnd) × ((is_open (session_of session.old) ≡ false)
         × (session_of session.new ≡ session_of session.old))) }
 {
+    earlier.end();
     if session.end_duplicates() {
         None
     } else {
@@ -112,13 +176,15 @@ fn end_block(session: &mut Session) -> Option<Trouble>
     }
 }
 
-/// Why a request would not pass or would end a run, where one of both is so. What the run would remember then is remembered. No file is
-/// touched.
+/// Why a request, which is the document with this number, would not pass or would end a run, where one of both is so. What the run would
+/// remember then is remembered. No file is touched.
 pub(crate) fn trouble_of<F: Store>(
     alloc: Global,
     runner: &Runner,
     session: &mut Session,
     store: &mut F,
+    earlier: &mut Earlier,
+    number: u64,
     request: Request,
 ) -> Result<Option<Trouble>, TellError>
     requires { IsOfFile (request_of request) }
@@ -133,9 +199,9 @@ pub(crate) fn trouble_of<F: Store>(
 {
     match request {
         Request::Assertion(assertion) => {
-            trouble_of_assertion(alloc, runner, session, store, assertion)
+            trouble_of_assertion(alloc, runner, session, store, earlier, number, assertion)
         }
-        Request::Begin => begin_block(session),
-        Request::End => Ok(end_block(session)),
+        Request::Begin => begin_block(session, earlier),
+        Request::End => Ok(end_block(session, earlier)),
     }
 }

@@ -7,24 +7,30 @@
 //! lines refuses); `front` (a page that the program on pages gives no answer of), `failing` (that finding, written), `page`, `no_tree`,
 //! `page_words` and `page_path` (what is told of the page, its header, the words and the path); `position` (lines and columns), `outline` (the nodes of a text), `pointing` (the node that a reason speaks of),
 //! `nearest`, `number_path`, `hint` (what helps), `refusal` (the reason in words), `trouble` (why a request would not pass, in words),
-//! `detail`, `misfit` (why a file gives no pass), `foreseeing` (what would become of a request), `telling` (the finding of a document), `stream` (the
+//! `line_ends`, `folder`, `detail`, `misfit` (why a file gives no pass, and what helps), `earlier`, `against` (which document came first), `notes`, `noting` (what is to be said of a request that passes), `foreseeing` (what would become of a request), `telling` (the finding of a document), `stream` (the
 //! loop over the documents), `explaining` (the tool that the words name), `command` (the run that the arguments ask for).
 #![tactic(auto)]
 
+mod against;
 pub mod cause;
 pub mod command;
 mod detail;
+mod earlier;
 pub mod explaining;
 pub mod failing;
 pub mod fault;
+mod folder;
 mod foreseeing;
 pub mod front;
 mod hint;
+mod line_ends;
 pub mod lines;
 pub mod mask;
 mod misfit;
 mod nearest;
 mod no_tree;
+pub mod notes;
+mod noting;
 mod number_path;
 mod outline;
 mod page;

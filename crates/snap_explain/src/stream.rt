@@ -7,6 +7,7 @@ ghost use Rattle.snap_explain.specs.Findings.{says_read_fault, says_write_fault,
 ghost use Rattle.snap_explain.specs.Streams.{StreamTold, StreamLeaves, StreamLength, stream_at, stream_status};
 ghost use Rattle.snap_explain.specs.Troubles.{is_tell_file, is_tell_write};
 
+use crate::earlier::Earlier;
 use crate::position::line_ends;
 use crate::status::ExplainStatus;
 use crate::telling::{TellError, tell_document};
@@ -48,10 +49,21 @@ fn tell_documents<K: Sink, F: Store>(
     let mut number: u64 = 0;
     let mut line: u64 = 1;
     let mut found = false;
+    let mut earlier = Earlier::new(alloc);
     while !rest.is_empty() {
         let (document, later) = rest.split_at(first_document_end(rest));
         number += 1;
-        let said = tell_document(alloc, runner, session, store, number, line, document, sink)?;
+        let said = tell_document(
+            alloc,
+            runner,
+            session,
+            store,
+            &mut earlier,
+            number,
+            line,
+            document,
+            sink,
+        )?;
         found |= said;
         line = line.saturating_add(line_ends(document));
         rest = later;

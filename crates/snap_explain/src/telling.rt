@@ -10,6 +10,7 @@ ghost use Rattle.snap_explain.specs.Refusals.{refusal_text};
 ghost use Rattle.snap_explain.specs.Streams.{IsNoRequest, IsRefusal, Said, DocumentEnds, whether_said};
 ghost use Rattle.snap_explain.specs.Troubles.{IsOfFile, IsTroubleLine, trouble_line, is_tell_file, is_tell_write};
 
+use crate::earlier::Earlier;
 use crate::foreseeing::trouble_of;
 use crate::hint::hint;
 use crate::outline::{Node, Outline, outline_of};
@@ -296,6 +297,7 @@ fn tell_request<K: Sink, F: Store>(
     runner: &Runner,
     session: &mut Session,
     store: &mut F,
+    earlier: &mut Earlier,
     number: u64,
     first: u64,
     request: Request,
@@ -310,7 +312,7 @@ fn tell_request<K: Sink, F: Store>(
     ensures write { Counted is_tell_write (K.faults sink.old) (K.faults sink.new) result }
     ensures file { Counted is_tell_file (F.faults store.old) (F.faults store.new) result }
 {
-    match trouble_of(alloc, runner, session, store, request)? {
+    match trouble_of(alloc, runner, session, store, earlier, number, request)? {
         None => Ok(false),
         Some(what) => whether_said(say_trouble(alloc, number, first, &what, sink)),
     }
@@ -323,6 +325,7 @@ pub(crate) fn tell_document<K: Sink, F: Store>(
     runner: &Runner,
     session: &mut Session,
     store: &mut F,
+    earlier: &mut Earlier,
     number: u64,
     first: u64,
     document: &[u8],
@@ -336,7 +339,9 @@ pub(crate) fn tell_document<K: Sink, F: Store>(
     ensures file { Counted is_tell_file (F.faults store.old) (F.faults store.new) result }
 {
     match read(alloc, document)? {
-        Ok(request) => { tell_request(alloc, runner, session, store, number, first, request, sink) }
+        Ok(request) => tell_request(
+            alloc, runner, session, store, earlier, number, first, request, sink,
+        ),
         Err(why) => whether_said(say_refusal(alloc, number, first, document, &why, sink)),
     }
 }

@@ -2,6 +2,7 @@
 ghost use Rattle.std.specs.Prelude.{◌≡◌};
 ghost use Rattle.snap_explain.specs.Troubles.{cause_text, kind_text};
 
+use crate::notes::Notes;
 use snap_content::Text;
 use snap_run::RefusalKind;
 use std::fmt;
@@ -42,18 +43,26 @@ impl Cause {
     }
 }
 
-/// Why a request would not pass, or would end a run.
+/// Why a request would not pass, or would end a run; or what is to be said of one that passes.
 #[derive(Debug, Drop)]
 pub enum Trouble {
     /// A block ends where none is open.
     StrayEnd,
-    /// What is remembered refuses it.
-    Refused(RefusalKind),
+    /// What is remembered refuses it, and which document stands against it.
+    Refused {
+        kind: RefusalKind,
+        detail: Text,
+    },
     /// The file at the path, which is spelled as a scalar, gives no pass.
     Unpassed {
         cause: Cause,
         path: Text,
         detail: Text,
+    },
+    /// It passes, and this is to be said of it and of the file at the path, which is spelled as a scalar.
+    Noted {
+        notes: Notes,
+        path: Text,
     },
 }
 
@@ -81,12 +90,13 @@ impl fmt::Display for Trouble {
     fn fmt<W: fmt::Write>(&self, f: &mut fmt::Formatter<W>) -> fmt::Result {
         match self {
             Trouble::StrayEnd => f.write_str("no block of duplicates is open"),
-            Trouble::Refused(kind) => f.write_str(kind_text(*kind)),
+            Trouble::Refused { kind, detail } => write!(f, "{}{detail}", kind_text(*kind)),
             Trouble::Unpassed {
                 cause,
                 path,
                 detail,
             } => write!(f, "{}: {path}{detail}", cause.text()),
+            Trouble::Noted { notes, path } => write!(f, "{notes}: {path}"),
         }
     }
 }

@@ -1,8 +1,5 @@
-use Rattle.snap_explain.proofs.Prelude.{subst}
-use Rattle.snap_explain.specs.Troubles.{IsContentCause}
-use Rattle.snap_explain.proofs.Foretold.{cause_read}
+use Rattle.snap_explain.proofs.Foretold.{causes_read}
 use Rattle.snap_explain.proofs.misfit.cause_at.Goals as goal
 
-pub returns-in_ok-found-in-Ok-clause-holds : goal.returns-in_ok-found-in-Ok-clause-holds
-returns-in_ok-found-in-Ok-clause-holds g c = cause_read c.in-Ok.old c.args.path.now (g.F.Store.files c.args.store.now) c.in_ok-found-in-Ok.field-0.0 c.in-Ok.ensures.end
-    (subst (λ contents. IsContentCause contents c.in_ok-found-in-Ok.field-0.0) c.contents.ensures c.in_ok-found-in-Ok.ensures)
+pub returns-in-Ok-clause-holds : goal.returns-in-Ok-clause-holds
+returns-in-Ok-clause-holds g c = causes_read c.unlike_at-found.result c.in-Ok.old c.args.path.now (g.F.Store.files c.args.store.now) c.in-Ok.ensures.end c.unlike_at-found.ensures.cause_is
