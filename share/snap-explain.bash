@@ -9,8 +9,8 @@ _snap_explain() {
     COMPREPLY=($(compgen -d -- "$word"))
     return 0
   fi
-  if [ "${COMP_WORDS[1]}" = stream ] && [ "$COMP_CWORD" -eq 3 ]; then
-    COMPREPLY=($(compgen -W "--literal" -- "$word"))
+  if [ "${COMP_WORDS[1]}" = stream ] && [ "$COMP_CWORD" -le 4 ]; then
+    COMPREPLY=($(compgen -W "--json --literal" -- "$word"))
     return 0
   fi
   if [ "${COMP_WORDS[1]}" = front ] && [ "$COMP_CWORD" -eq 2 ]; then

@@ -24,10 +24,10 @@ function __snap_explain_at_workspace
     test (count $words) -eq 2; and test "$words[2]" = stream
 end
 
-# Whether it is the flag after the workspace.
+# Whether it is a flag after the workspace.
 function __snap_explain_at_flag
     set -l words (commandline -opc)
-    test (count $words) -eq 3; and test "$words[2]" = stream
+    test (count $words) -ge 3; and test (count $words) -le 4; and test "$words[2]" = stream
 end
 
 # Whether it is the command of snap-front.
@@ -44,6 +44,7 @@ end
 complete -c snap-explain -f
 complete -c snap-explain -n __snap_explain_at_first -a stream -d 'Say which requests are none or would not pass, and why'
 complete -c snap-explain -n __snap_explain_at_workspace -a '(__fish_complete_directories)'
+complete -c snap-explain -n __snap_explain_at_flag -l json -d 'Write each finding as a JSON object'
 complete -c snap-explain -n __snap_explain_at_flag -l literal -d 'Print texts of several lines as literal blocks'
 complete -c snap-explain -n __snap_explain_at_first -a mask -d 'Say which lines snap-mask refuses, and why'
 complete -c snap-explain -n __snap_explain_at_first -a front -d 'Say why snap-front has no answer of a page'

@@ -10,8 +10,8 @@ _snap-explain() {
     _files -/
     return
   fi
-  if [[ $words[2] == stream ]] && (( CURRENT == 4 )); then
-    compadd -- --literal
+  if [[ $words[2] == stream ]] && (( CURRENT <= 5 )); then
+    compadd -- --json --literal
     return
   fi
   if [[ $words[2] == front ]] && (( CURRENT == 3 )); then

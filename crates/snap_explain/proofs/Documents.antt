@@ -6,32 +6,33 @@ use Rattle.snap_io.specs.Causes.{Counted, CountedIf}
 use Rattle.snap_io.specs.Files.{Files}
 use Rattle.snap_io_streams.specs.Streams.{TakesAtMost, input_limit as stream_limit}
 use Rattle.snap_assert.specs.Session.{SessionView, empty_session}
-use Rattle.snap_run.specs.Answers.{RunWords}
 use Rattle.snap_run_requests.specs.Cut.{documents}
 use Rattle.snap_run_requests.specs.Requests.{RequestView, ReadsAs}
 use Rattle.snap_run_requests.specs.declared.fault.Reason.{Reason}
-use Rattle.snap_explain.specs.Refusals.{refusal_text}
+use Rattle.snap_explain.specs.Json.{IsTroubleLine, refusal_in, trouble_in}
+use Rattle.snap_explain.specs.declared.form.Form.{Form}
+use Rattle.snap_explain.specs.declared.form.Form.TheVariants.{Plain, Json}
 use Rattle.snap_explain.specs.declared.position.Place.{Place}
-use Rattle.snap_explain.specs.Streams.{IsNoRequest, IsRefusal, Said, TellsOf, Tells, DocumentEnds, ToldAll, ToldWithin, StreamTold, StreamLeaves, StreamLength, stream_status, whether_said}
+use Rattle.snap_explain.specs.Streams.{StreamWords, IsNoRequest, IsRefusal, Said, TellsOf, Tells, DocumentEnds, ToldAll, ToldWithin, StreamTold, StreamLeaves, StreamLength, stream_status, whether_said}
 use Rattle.snap_explain.specs.Streams.TellsOf.{of_request, of_refusal, of_trouble}
 use Rattle.snap_explain.specs.Streams.Tells.{at_start as tells_nothing, at_document}
-use Rattle.snap_explain.specs.Troubles.{IsClear, HasTrouble, IsTroubleLine, trouble_line, is_tell_file, is_tell_write}
+use Rattle.snap_explain.specs.Troubles.{IsClear, HasTrouble, is_tell_file, is_tell_write}
 use Rattle.snap_explain.specs.Findings.{is_write_fault, says_read_fault, says_write_fault, says_file_fault}
 use Rattle.snap_explain.specs.declared.telling.TellError.{TellError}
 use Rattle.snap_explain.specs.declared.telling.TellError.TheVariants as tell
 use Rattle.snap_explain.specs.declared.trouble.Trouble.{Trouble}
 use Rattle.snap_explain.proofs.Turns.{all_held, held_after, filled-append}
 
-tells_more : (words : RunWords) (files : Option Files) (ds : List (List ℕ)) (d : List ℕ) (s s' : SessionView) (out said : List ℕ) → Tells words files ds s out → TellsOf words files (suc (length ds)) d s s' said
+tells_more : (words : StreamWords) (files : Option Files) (ds : List (List ℕ)) (d : List ℕ) (s s' : SessionView) (out said : List ℕ) → Tells words files ds s out → TellsOf words files (suc (length ds)) d s s' said
     → Tells words files (ds ++ d ∷ []) s' (out ++ said)
 tells_more words files ds d s s' out said h k = at_document (ds ++ d ∷ []) ds d s s' (out ++ said) out said h k refl refl
 
-counted : (words : RunWords) (files : Option Files) (ds : List (List ℕ)) (number : ℕ) (d : List ℕ) (s s' : SessionView) (said : List ℕ) → number ≡ length ds → TellsOf words files (number + 1) d s s' said
+counted : (words : StreamWords) (files : Option Files) (ds : List (List ℕ)) (number : ℕ) (d : List ℕ) (s s' : SessionView) (said : List ℕ) → number ≡ length ds → TellsOf words files (number + 1) d s s' said
     → TellsOf words files (suc (length ds)) d s s' said
 counted words files ds number d s s' said is k = let next : number + 1 ≡ suc (length ds) = omega (arith, is) in subst (λ n. TellsOf words files n d s s' said) next k
 
 -- these documents at the front of the input were read, and what is said of them was written
-pub record ToldSoFar (words : RunWords) (files : Option Files) (input w rest : List ℕ) (now : Option (List ℕ)) (number : ℕ) (session : SessionView) (found : Bool) : Type 0 where
+pub record ToldSoFar (words : StreamWords) (files : Option Files) (input w rest : List ℕ) (now : Option (List ℕ)) (number : ℕ) (session : SessionView) (found : Bool) : Type 0 where
   pub done : List (List ℕ)
   pub out : List ℕ
   pub cut : documents input ≡ done ++ documents rest
@@ -40,7 +41,7 @@ pub record ToldSoFar (words : RunWords) (files : Option Files) (input w rest : L
   pub told : now ≡ Some (w ++ out)
   pub found_is : found ≡ is_filled out
 
-pub told_start : (words : RunWords) (files : Option Files) (input w : List ℕ) (now : Option (List ℕ)) (session : SessionView) → session ≡ empty_session → now ≡ Some w → ToldSoFar words files input w input now 0 session false
+pub told_start : (words : StreamWords) (files : Option Files) (input w : List ℕ) (now : Option (List ℕ)) (session : SessionView) → session ≡ empty_session → now ≡ Some w → ToldSoFar words files input w input now 0 session false
 told_start words files input w now session fresh written = record {
   done = [];
   out = [];
@@ -58,10 +59,10 @@ one_more : (input d rest later : List ℕ) (done : List (List ℕ)) → document
 one_more input d rest later done cut first = cut ∙ ap (λ t. done ++ t) first ∙ sym (append_assoc done (d ∷ []) (documents later))
 
 -- what the writing of what is said of one document comes to, whatever was written before
-abbrev pub DocumentOf : RunWords → Option Files → ℕ → List ℕ → SessionView → SessionView → Option (List ℕ) → Option (List ℕ) → Result Bool TellError → Type 0
+abbrev pub DocumentOf : StreamWords → Option Files → ℕ → List ℕ → SessionView → SessionView → Option (List ℕ) → Option (List ℕ) → Result Bool TellError → Type 0
 DocumentOf words files number document s s' now now' result = (v : List ℕ) → now ≡ Some v → DocumentEnds words files number document s s' v now' result
 
-pub told_more : (words : RunWords) (files : Option Files) (input w rest d later : List ℕ) (now now' : Option (List ℕ)) (number : ℕ) (session session' : SessionView) (found this : Bool) → documents rest ≡ d ∷ documents later
+pub told_more : (words : StreamWords) (files : Option Files) (input w rest d later : List ℕ) (now now' : Option (List ℕ)) (number : ℕ) (session session' : SessionView) (found this : Bool) → documents rest ≡ d ∷ documents later
     → ToldSoFar words files input w rest now number session found → DocumentOf words files (number + 1) d session session' now now' (Ok this) → ToldSoFar words files input w later now' (number + 1) session' (found || this)
 told_more words files input w rest d later now now' number session session' found this first s r =
     let k = r (w ++ s.out) s.told in
@@ -75,7 +76,7 @@ told_more words files input w rest d later now now' number session session' foun
       found_is = ap (λ b. b || this) s.found_is ∙ ap (λ b. is_filled s.out || b) k.3 ∙ sym (filled-append s.out k.0);
     }
 
-pub told_end : (words : RunWords) (files : Option Files) (input w rest : List ℕ) (now : Option (List ℕ)) (number : ℕ) (session : SessionView) (found : Bool) → length rest ≡ 0 → ToldSoFar words files input w rest now number session found
+pub told_end : (words : StreamWords) (files : Option Files) (input w rest : List ℕ) (now : Option (List ℕ)) (number : ℕ) (session : SessionView) (found : Bool) → length rest ≡ 0 → ToldSoFar words files input w rest now number session found
     → ToldAll words files input w now found
 told_end words files input w [] now number session found none s = record {
   out = s.out;
@@ -87,12 +88,12 @@ told_end words files input w [] now number session found none s = record {
 told_end words files input w (b ∷ rest) now number session found none s = absurd (omega arith)
 
 -- nothing more was said
-told_before : (words : RunWords) (files : Option Files) (input w rest : List ℕ) (now now' : Option (List ℕ)) (number : ℕ) (session : SessionView) (found : Bool) → (s : ToldSoFar words files input w rest now number session found)
+told_before : (words : StreamWords) (files : Option Files) (input w rest : List ℕ) (now now' : Option (List ℕ)) (number : ℕ) (session : SessionView) (found : Bool) → (s : ToldSoFar words files input w rest now number session found)
     → now' ≡ Some (w ++ s.out) → ToldWithin words files input w now'
 told_before words files input w rest now now' number session found s k =
     record { done = s.done; later = documents rest; session = session; out = s.out; is = s.cut; tells = s.tells; part = all_held s.out w now' k }
 
-pub told_stop : (error : TellError) (words : RunWords) (files : Option Files) (input w rest d later : List ℕ) (now now' : Option (List ℕ)) (number : ℕ) (session session' : SessionView) (found : Bool) → documents rest ≡ d ∷ documents later
+pub told_stop : (error : TellError) (words : StreamWords) (files : Option Files) (input w rest d later : List ℕ) (now now' : Option (List ℕ)) (number : ℕ) (session session' : SessionView) (found : Bool) → documents rest ≡ d ∷ documents later
     → ToldSoFar words files input w rest now number session found → DocumentOf words files (number + 1) d session session' now now' (Err error) → ToldWithin words files input w now'
 told_stop tell.WriteFault words files input w rest d later now now' number session session' found first s r =
     let k = r (w ++ s.out) s.told in
@@ -109,28 +110,39 @@ told_stop tell.FileFault words files input w rest d later now now' number sessio
 told_stop tell.OutOfMemory words files input w rest d later now now' number session session' found first s r = told_before words files input w rest now now' number session found s (r (w ++ s.out) s.told)
 
 -- what is written of a finding
-pub said_of : {T : Type 0} → (result : Result T SayError) (holds : List ℕ → Type 0) (words : RunWords) (files : Option Files) (number : ℕ) (document : List ℕ) (s s' : SessionView) (w : List ℕ) (now : Option (List ℕ))
+pub said_of : {T : Type 0} → (result : Result T SayError) (holds : List ℕ → Type 0) (words : StreamWords) (files : Option Files) (number : ℕ) (document : List ℕ) (s s' : SessionView) (w : List ℕ) (now : Option (List ℕ))
     → ((said : List ℕ) → holds said → TellsOf words files number document s s' said × (is_filled said ≡ true)) → Said holds w now result → DocumentEnds words files number document s s' w now (whether_said result)
 said_of (Ok done) holds words files number document s s' w now then h = (h.0, (then h.0 h.1).0, h.2, sym (then h.0 h.1).1)
 said_of (Err say.WriteFault) holds words files number document s s' w now then h = (h.0, (then h.0 h.1).0, h.2)
 said_of (Err say.OutOfMemory) holds words files number document s s' w now then h = h
 
-pub refusal_said : {T : Type 0} → (result : Result T SayError) (words : RunWords) (files : Option Files) (number : ℕ) (document : List ℕ) (s : SessionView) (w : List ℕ) (now : Option (List ℕ))
-    → Said (IsRefusal number document) w now result → DocumentEnds words files number document s s w now (whether_said result)
+-- each finding is filled, in words and in JSON
+refusal_filled : (form : Form) (number : ℕ) (place : Place) (why : Reason) (seen : Option (List ℕ)) (detail : List ℕ) → is_filled (refusal_in form number place why seen detail) ≡ true
+unfolding lib.Utf8.encode
+refusal_filled Plain number place why seen detail = refl
+refusal_filled Json number place why seen detail = refl
+
+trouble_filled : (form : Form) (number : ℕ) (place : Place) (what : Trouble) → is_filled (trouble_in form number place what) ≡ true
+unfolding lib.Utf8.encode
+trouble_filled Plain number place what = refl
+trouble_filled Json number place what = refl
+
+pub refusal_said : {T : Type 0} → (result : Result T SayError) (words : StreamWords) (files : Option Files) (number : ℕ) (document : List ℕ) (s : SessionView) (w : List ℕ) (now : Option (List ℕ))
+    → Said (IsRefusal words.form number document) w now result → DocumentEnds words files number document s s w now (whether_said result)
 refusal_said result words files number document s w now h =
-    said_of result (IsRefusal number document) words files number document s s w now (λ said r. (of_refusal r refl, ap is_filled r.is)) h
+    said_of result (IsRefusal words.form number document) words files number document s s w now (λ said r. (of_refusal r refl, ap is_filled r.is ∙ refusal_filled words.form number r.place r.why r.seen r.detail)) h
 
-pub trouble_said : {T : Type 0} → (result : Result T SayError) (words : RunWords) (files : Option Files) (number : ℕ) (document : List ℕ) (s s' : SessionView) (w : List ℕ) (now : Option (List ℕ)) (r : RequestView) (what : Trouble)
-    → ReadsAs document r → HasTrouble words files s s' r what → Said (IsTroubleLine number what) w now result → DocumentEnds words files number document s s' w now (whether_said result)
+pub trouble_said : {T : Type 0} → (result : Result T SayError) (words : StreamWords) (files : Option Files) (number : ℕ) (document : List ℕ) (s s' : SessionView) (w : List ℕ) (now : Option (List ℕ)) (r : RequestView) (what : Trouble)
+    → ReadsAs document r → HasTrouble words.run files s s' r what → Said (IsTroubleLine words.form number what) w now result → DocumentEnds words files number document s s' w now (whether_said result)
 trouble_said result words files number document s s' w now r what reads has h =
-    said_of result (IsTroubleLine number what) words files number document s s' w now (λ said line. (of_trouble r what reads has line, ap is_filled line.1)) h
+    said_of result (IsTroubleLine words.form number what) words files number document s s' w now (λ said line. (of_trouble r what reads has line, ap is_filled line.1 ∙ trouble_filled words.form number line.0 what)) h
 
-pub nothing_said_of : (words : RunWords) (files : Option Files) (number : ℕ) (document : List ℕ) (s s' : SessionView) (w : List ℕ) (now : Option (List ℕ)) (r : RequestView) → ReadsAs document r → IsClear words files s s' r → now ≡ Some w
+pub nothing_said_of : (words : StreamWords) (files : Option Files) (number : ℕ) (document : List ℕ) (s s' : SessionView) (w : List ℕ) (now : Option (List ℕ)) (r : RequestView) → ReadsAs document r → IsClear words.run files s s' r → now ≡ Some w
     → DocumentEnds words files number document s s' w now (Ok false)
 nothing_said_of words files number document s s' w now r reads clear e = ([], of_request r reads clear refl, e ∙ ap Some (sym (append-nil w)), refl)
 
 -- where nothing was said, the sink didn't fail
-pub unsaid : (error : TellError) (words : RunWords) (files : Option Files) (number : ℕ) (document : List ℕ) (s s' : SessionView) (w : List ℕ) (now : Option (List ℕ)) → now ≡ Some w → is_tell_write error ≡ false
+pub unsaid : (error : TellError) (words : StreamWords) (files : Option Files) (number : ℕ) (document : List ℕ) (s s' : SessionView) (w : List ℕ) (now : Option (List ℕ)) → now ≡ Some w → is_tell_write error ≡ false
     → DocumentEnds words files number document s s' w now (Err error)
 unsaid tell.WriteFault words files number document s s' w now e other = cc
 unsaid tell.FileFault words files number document s s' w now e other = e
@@ -159,7 +171,7 @@ never_bad_words (Err tell.FileFault) is = cc
 never_bad_words (Err tell.OutOfMemory) is = cc
 
 -- before anything was read
-pub told_nothing : (words : RunWords) (files : Option Files) (input w : List ℕ) (now : Option (List ℕ)) → now ≡ Some w → ToldWithin words files input w now
+pub told_nothing : (words : StreamWords) (files : Option Files) (input w : List ℕ) (now : Option (List ℕ)) → now ≡ Some w → ToldWithin words files input w now
 told_nothing words files input w now told = record {
   done = [];
   later = documents input;
@@ -170,7 +182,7 @@ told_nothing words files input w now told = record {
   part = all_held [] w now (told ∙ ap Some (sym (append-nil w)));
 }
 
-pub stream_leaves : (result : Result Bool TellError) (words : RunWords) (files : Option Files) (input w : List ℕ) (now : Option (List ℕ)) → StreamTold words files input w now result → StreamLeaves words files (stream_status result) input w now
+pub stream_leaves : (result : Result Bool TellError) (words : StreamWords) (files : Option Files) (input w : List ℕ) (now : Option (List ℕ)) → StreamTold words files input w now result → StreamLeaves words files (stream_status result) input w now
 stream_leaves (Ok false) words files input w now h = h
 stream_leaves (Ok true) words files input w now h = h
 stream_leaves (Err tell.WriteFault) words files input w now h = h
@@ -218,16 +230,16 @@ stream_reads (Err tell.WriteFault) before now h = h
 stream_reads (Err tell.FileFault) before now h = h
 stream_reads (Err tell.OutOfMemory) before now h = h
 
-pub said_refusal : {T : Type 0} → (result : Result T SayError) (number : ℕ) (document : List ℕ) (why : Reason) (place : Place) (detail w : List ℕ) (now : Option (List ℕ)) → IsNoRequest document why
-    → Writes (refusal_text number place why detail) w now result → Said (IsRefusal number document) w now result
-said_refusal (Ok done) number document why place detail w now refused h =
-    (refusal_text number place why detail, record { why = why; refused = refused; place = place; detail = detail; is = refl }, h)
-said_refusal (Err say.WriteFault) number document why place detail w now refused h =
-    (refusal_text number place why detail, record { why = why; refused = refused; place = place; detail = detail; is = refl }, h)
-said_refusal (Err say.OutOfMemory) number document why place detail w now refused h = h
+pub said_refusal : {T : Type 0} → (result : Result T SayError) (form : Form) (number : ℕ) (document : List ℕ) (why : Reason) (place : Place) (seen : Option (List ℕ)) (detail w : List ℕ) (now : Option (List ℕ)) → IsNoRequest document why
+    → Writes (refusal_in form number place why seen detail) w now result → Said (IsRefusal form number document) w now result
+said_refusal (Ok done) form number document why place seen detail w now refused h =
+    (refusal_in form number place why seen detail, record { why = why; refused = refused; place = place; seen = seen; detail = detail; is = refl }, h)
+said_refusal (Err say.WriteFault) form number document why place seen detail w now refused h =
+    (refusal_in form number place why seen detail, record { why = why; refused = refused; place = place; seen = seen; detail = detail; is = refl }, h)
+said_refusal (Err say.OutOfMemory) form number document why place seen detail w now refused h = h
 
-pub said_trouble : {T : Type 0} → (result : Result T SayError) (number : ℕ) (place : Place) (what : Trouble) (w : List ℕ) (now : Option (List ℕ)) → Writes (trouble_line number place what) w now result
-    → Said (IsTroubleLine number what) w now result
-said_trouble (Ok done) number place what w now h = (trouble_line number place what, (place, refl), h)
-said_trouble (Err say.WriteFault) number place what w now h = (trouble_line number place what, (place, refl), h)
-said_trouble (Err say.OutOfMemory) number place what w now h = h
+pub said_trouble : {T : Type 0} → (result : Result T SayError) (form : Form) (number : ℕ) (place : Place) (what : Trouble) (w : List ℕ) (now : Option (List ℕ)) → Writes (trouble_in form number place what) w now result
+    → Said (IsTroubleLine form number what) w now result
+said_trouble (Ok done) form number place what w now h = (trouble_in form number place what, (place, refl), h)
+said_trouble (Err say.WriteFault) form number place what w now h = (trouble_in form number place what, (place, refl), h)
+said_trouble (Err say.OutOfMemory) form number place what w now h = h

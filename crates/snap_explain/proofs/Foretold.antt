@@ -58,11 +58,11 @@ passes_with fully asked preview files notes pending is told waits seen = λ m he
 }
 
 pub is_noted : (found : Option Trouble) (fully : Bool) (asked : Asked) (preview : Preview) (files : Option Files) (notes : Notes)
-    → MatchOption found (has_word notes ≡ false) (λ what. (has_word notes ≡ true) × (what ≡ trouble.Noted notes (spell_text preview.path)))
+    → MatchOption found (has_word notes ≡ false) (λ what. (has_word notes ≡ true) × (what ≡ trouble.Noted notes preview.path (spell_text preview.path)))
     → Given files (λ m. PassesWith fully asked notes m) → IsForeseen fully asked preview files → MatchOption found (Passes fully asked files) (λ what. IsNoted fully asked files what)
 is_noted None fully asked preview files notes h holds seen = record { notes = notes; holds = holds; silent = h }
 is_noted (Some what) fully asked preview files notes h holds seen =
-    record { notes = notes; spelled = spell_text preview.path; is = h.1; path_is = ap spell_text seen.path; holds = holds; worded = h.0 }
+    record { notes = notes; spelled = spell_text preview.path; is = h.1 ∙ ap (λ path. trouble.Noted notes path (spell_text preview.path)) seen.path; path_is = ap spell_text seen.path; holds = holds; worded = h.0 }
 
 said_pass : (found : Option Trouble) (fully : Bool) (asked : Asked) (files : Option Files) → MatchOption found (Passes fully asked files) (λ what. IsNoted fully asked files what)
     → MatchOption found (Passes fully asked files) (λ what. IsSaidFor fully asked files what)

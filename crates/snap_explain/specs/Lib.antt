@@ -7,6 +7,7 @@ pub mod LineEnds
 pub mod Notes
 pub mod Refusals
 pub mod Troubles
+pub mod Json
 pub mod Streams
 pub mod Pages
 pub mod Program

@@ -1,5 +1,6 @@
 -- What the words of a command line ask for, and what the program does.
-use Rattle.std.specs.Prelude.{◌≡◌, ◌⊎◌, ℕ, Bool, true, false, List, [], ◌∷◌, ◌++◌, codes, Option, None, Some, if◌then◌else◌}
+use Rattle.std.specs.Prelude.{◌≡◌, ◌⊎◌, ◌+◌, ◌==◌, ◌||◌, not, ℕ, Bool, true, false, List, [], ◌∷◌, ◌++◌, length, codes, Option, None, Some, option_and_then, if◌then◌else◌}
+use Rattle.std.specs.List.{find, list_any}
 use Rattle.std.specs.Str.{bytes_eq}
 use Rattle.snap_io.specs.Streams.{HoldsFront}
 use Rattle.snap_io_words.specs.Asked.{text_asked}
@@ -8,9 +9,11 @@ use Rattle.snap_mask.specs.Program.{IsNotBegun}
 use Rattle.snap_mask.specs.Rules.{rules_in}
 use Rattle.snap_explain.specs.Findings.{LeavesOf}
 use Rattle.snap_explain.specs.Pages.{FrontRun}
-use Rattle.snap_explain.specs.Streams.{StreamRun, stream_at}
-use Rattle.snap_run.specs.Answers.{RunWords, is_literal}
+use Rattle.snap_explain.specs.Streams.{StreamRun, StreamWords, stream_at}
+use Rattle.snap_run.specs.Answers.{is_literal}
 use Rattle.snap_io.specs.Files.{Files}
+use Rattle.snap_explain.specs.declared.form.Form.{Form}
+use Rattle.snap_explain.specs.declared.form.Form.TheVariants.{Plain, Json}
 use Rattle.snap_explain.specs.declared.usage.TheConstants.{USAGE, VERSION}
 use Rattle.snap_explain.specs.declared.status.ExplainStatus.{ExplainStatus}
 use Rattle.snap_explain.specs.declared.status.ExplainStatus.TheVariants.{Nothing, Found, BadWords, FileFault, ReadFault, WriteFault, OutOfMemory, InputTooLong, StreamTooLong}
@@ -36,19 +39,40 @@ abbrev pub mask_rules : List (List ℕ) → Option (List ReplacementView)
 mask_rules [] = None
 mask_rules (tool ∷ words) = if bytes_eq tool (codes "mask") then rules_in words else None
 
-abbrev pub stream_by : List ℕ → List ℕ → Bool → Option RunWords
-stream_by tool workspace literal = if bytes_eq tool (codes "stream") then Some (stream_at workspace literal) else None
-
--- what the words ask of a stream: they are `stream`, a workspace, and `--literal` or no more
-abbrev pub stream_of : List (List ℕ) → Option RunWords
-stream_of (tool ∷ workspace ∷ []) = stream_by tool workspace false
-stream_of (tool ∷ workspace ∷ flag ∷ []) = if is_literal flag then stream_by tool workspace true else None
-stream_of _ = None
+-- the words after this one, where they begin with it
+abbrev pub words_after : List ℕ → List (List ℕ) → Option (List (List ℕ))
+words_after name [] = None
+words_after name (tool ∷ words) = if bytes_eq tool name then Some words else None
 
 -- the words after `front`
 abbrev pub front_words : List (List ℕ) → Option (List (List ℕ))
-front_words [] = None
-front_words (tool ∷ words) = if bytes_eq tool (codes "front") then Some words else None
+front_words words = words_after (codes "front") words
+
+abbrev pub is_json : List ℕ → Bool
+is_json word = bytes_eq word (codes "--json")
+
+-- a flag of `stream`
+abbrev pub is_flag : List ℕ → Bool
+is_flag word = is_json word || is_literal word
+
+abbrev pub form_if : Bool → Form
+form_if json = if json then Json else Plain
+
+abbrev pub one_if : Bool → ℕ
+one_if counts = if counts then 1 else 0
+
+-- of the first word that is no flag: it is the workspace, where all the others are flags, none twice
+abbrev pub stream_by : Bool → Bool → ℕ → Option (List ℕ) → Option StreamWords
+stream_by json literal count None = None
+stream_by json literal count (Some workspace) = if count == 1 + one_if json + one_if literal then Some (stream_at (form_if json) workspace literal) else None
+
+-- what words ask of a stream: they are a workspace, and the flags `--json` and `--literal`, each at most once, in any order
+abbrev pub stream_in : List (List ℕ) → Option StreamWords
+stream_in words = stream_by (list_any is_json words) (list_any is_literal words) (length words) (find (λ word. not (is_flag word)) words)
+
+-- what the words ask of a stream after `stream`
+abbrev pub stream_of : List (List ℕ) → Option StreamWords
+stream_of words = option_and_then stream_in (words_after (codes "stream") words)
 
 -- a text that was asked for was written, or a part of its front where the sink failed
 abbrev pub IsTold : List ℕ → ExplainStatus → Option (List ℕ) → Option (List ℕ) → Type 0
@@ -65,7 +89,7 @@ RulesCause words _ = (rules : List ReplacementView) × (mask_rules words ≡ Som
 -- the words ask for something: they spell such rules, or ask for a stream, a page or a text
 pub data AreWords (words : List (List ℕ)) : Type 0 where
   of_rules : (rules : List ReplacementView) → mask_rules words ≡ Some rules → AreWords words
-  of_stream : (said : RunWords) → stream_of words ≡ Some said → AreWords words
+  of_stream : (said : StreamWords) → stream_of words ≡ Some said → AreWords words
   of_front : (rest : List (List ℕ)) → front_words words ≡ Some rest → AreWords words
   of_text : (text : List ℕ) → asked_of words ≡ Some text → AreWords words
 
@@ -79,7 +103,7 @@ WordsCause words _ = AreWords words
 pub record IsRunOf (words : List (List ℕ)) (files : Option Files) (status : ExplainStatus) (left left' written written' : Option (List ℕ)) : Type 0 where
   pub words_cause : WordsCause words status
   pub told : (text : List ℕ) → asked_of words ≡ Some text → IsTold text status written written'
-  pub stream : (said : RunWords) → stream_of words ≡ Some said → StreamRun said files status left left' written written'
+  pub stream : (said : StreamWords) → stream_of words ≡ Some said → StreamRun said files status left left' written written'
   pub front : (rest : List (List ℕ)) → front_words words ≡ Some rest → FrontRun rest status left left' written written'
   pub leaves : (rules : List ReplacementView) → asked_of words ≡ None → mask_rules words ≡ Some rules → LeavesOf rules status left written written'
 

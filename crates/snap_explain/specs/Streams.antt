@@ -11,8 +11,9 @@ use Rattle.snap_assert_settings.specs.declared.config.Update.TheVariants.{NoUpda
 use Rattle.snap_run.specs.Answers.{RunWords, words_at}
 use Rattle.snap_run_requests.specs.declared.fault.Reason.{Reason}
 use Rattle.snap_explain.specs.Findings.{is_filled}
-use Rattle.snap_explain.specs.Refusals.{refusal_text}
-use Rattle.snap_explain.specs.Troubles.{IsClear, HasTrouble, IsTroubleLine}
+use Rattle.snap_explain.specs.Json.{refusal_in, IsTroubleLine}
+use Rattle.snap_explain.specs.Troubles.{IsClear, HasTrouble}
+use Rattle.snap_explain.specs.declared.form.Form.{Form}
 use Rattle.snap_explain.specs.declared.telling.TellError.{TellError}
 use Rattle.snap_explain.specs.declared.telling.TellError.TheVariants as tell
 use Rattle.snap_explain.specs.declared.trouble.Trouble.{Trouble}
@@ -22,29 +23,39 @@ use Rattle.snap_explain.specs.declared.saying.SayError.TheVariants as say
 use Rattle.snap_explain.specs.declared.status.ExplainStatus.{ExplainStatus}
 use Rattle.snap_explain.specs.declared.status.ExplainStatus.TheVariants as status
 
+-- what is asked of a stream: how its findings are written, and the run that is foreseen
+pub record StreamWords : Type 0 where
+  pub form : Form
+  pub run : RunWords
+
+abbrev pub in_form : Form → RunWords → StreamWords
+in_form form run = record { form = form; run = run }
+
 -- the document is no request for this reason, which holds of it: it spells none
 pub record IsNoRequest (document : List ℕ) (why : Reason) : Type 0 where
   pub holds : IsReason document why
   pub unspelled : (r : RequestView) → Spells document r → ⊥
 
--- a finding that tells why the document with this number is no request, a place in the stream, and what helps to mend it
-pub record IsRefusal (number : ℕ) (document said : List ℕ) : Type 0 where
+-- a finding that tells why the document with this number is no request, a place in the stream, what was seen there, and what helps to mend
+-- it
+pub record IsRefusal (form : Form) (number : ℕ) (document said : List ℕ) : Type 0 where
   pub why : Reason
   pub refused : IsNoRequest document why
   pub place : Place
+  pub seen : Option (List ℕ)
   pub detail : List ℕ
-  pub is : said ≡ refusal_text number place why detail
+  pub is : said ≡ refusal_in form number place why seen detail
 
 -- what is said of the document with this number: nothing where it is read as a request that would pass, or begins or ends a block; and
 -- else why it is no request, which changes nothing that is remembered, or why that request would not pass
-pub data TellsOf (words : RunWords) (files : Option Files) (number : ℕ) (document : List ℕ) (session session' : SessionView) (said : List ℕ) : Type 0 where
-  of_request : (r : RequestView) → ReadsAs document r → IsClear words files session session' r → said ≡ [] → TellsOf words files number document session session' said
-  of_refusal : IsRefusal number document said → session' ≡ session → TellsOf words files number document session session' said
-  of_trouble : (r : RequestView) (what : Trouble) → ReadsAs document r → HasTrouble words files session session' r what → IsTroubleLine number what said
+pub data TellsOf (words : StreamWords) (files : Option Files) (number : ℕ) (document : List ℕ) (session session' : SessionView) (said : List ℕ) : Type 0 where
+  of_request : (r : RequestView) → ReadsAs document r → IsClear words.run files session session' r → said ≡ [] → TellsOf words files number document session session' said
+  of_refusal : IsRefusal words.form number document said → session' ≡ session → TellsOf words files number document session session' said
+  of_trouble : (r : RequestView) (what : Trouble) → ReadsAs document r → HasTrouble words.run files session session' r what → IsTroubleLine words.form number what said
       → TellsOf words files number document session session' said
 
 -- what is said of documents, of each in turn, the first of which has the number 1, and what is remembered then: before the first nothing
-pub data Tells (words : RunWords) (files : Option Files) : List (List ℕ) → SessionView → List ℕ → Type 0 where
+pub data Tells (words : StreamWords) (files : Option Files) : List (List ℕ) → SessionView → List ℕ → Type 0 where
   at_start : (all : List (List ℕ)) (session : SessionView) (out : List ℕ) → all ≡ [] → session ≡ empty_session → out ≡ [] → Tells words files all session out
   at_document : (all before : List (List ℕ)) (document : List ℕ) (session session' : SessionView) (out told said : List ℕ) → Tells words files before session told
       → TellsOf words files (suc (length before)) document session session' said → all ≡ before ++ document ∷ [] → out ≡ told ++ said → Tells words files all session' out
@@ -65,7 +76,7 @@ whether_said (Ok done) = Ok true
 whether_said (Err error) = Err (told_error error)
 
 -- what is said of a document was written after w, and it is told whether that is something; or a part of it, or nothing
-abbrev pub DocumentEnds : RunWords → Option Files → ℕ → List ℕ → SessionView → SessionView → List ℕ → Option (List ℕ) → Result Bool TellError → Type 0
+abbrev pub DocumentEnds : StreamWords → Option Files → ℕ → List ℕ → SessionView → SessionView → List ℕ → Option (List ℕ) → Result Bool TellError → Type 0
 DocumentEnds words files number document session session' w now (Ok found) =
     (said : List ℕ) × TellsOf words files number document session session' said × (now ≡ Some (w ++ said)) × (found ≡ is_filled said)
 DocumentEnds words files number document session session' w now (Err tell.WriteFault) =
@@ -74,7 +85,7 @@ DocumentEnds words files number document session session' w now (Err tell.FileFa
 DocumentEnds words files number document session session' w now (Err tell.OutOfMemory) = now ≡ Some w
 
 -- what is said of all documents of the input was written after w
-pub record ToldAll (words : RunWords) (files : Option Files) (input w : List ℕ) (now : Option (List ℕ)) (found : Bool) : Type 0 where
+pub record ToldAll (words : StreamWords) (files : Option Files) (input w : List ℕ) (now : Option (List ℕ)) (found : Bool) : Type 0 where
   pub out : List ℕ
   pub session : SessionView
   pub tells : Tells words files (documents input) session out
@@ -82,7 +93,7 @@ pub record ToldAll (words : RunWords) (files : Option Files) (input w : List ℕ
   pub found_is : found ≡ is_filled out
 
 -- a front of what is said of documents at the front of the input was written
-pub record ToldWithin (words : RunWords) (files : Option Files) (input w : List ℕ) (now : Option (List ℕ)) : Type 0 where
+pub record ToldWithin (words : StreamWords) (files : Option Files) (input w : List ℕ) (now : Option (List ℕ)) : Type 0 where
   pub done : List (List ℕ)
   pub later : List (List ℕ)
   pub session : SessionView
@@ -92,12 +103,12 @@ pub record ToldWithin (words : RunWords) (files : Option Files) (input w : List 
   pub part : HoldsFront out w now
 
 -- what the documents of the input leave after w
-abbrev pub StreamTold : RunWords → Option Files → List ℕ → List ℕ → Option (List ℕ) → Result Bool TellError → Type 0
+abbrev pub StreamTold : StreamWords → Option Files → List ℕ → List ℕ → Option (List ℕ) → Result Bool TellError → Type 0
 StreamTold words files input w now (Ok found) = ToldAll words files input w now found
 StreamTold words files input w now (Err error) = ToldWithin words files input w now
 
 -- what a run over the input leaves after w: nothing where it isn't read to its end
-abbrev pub StreamLeaves : RunWords → Option Files → ExplainStatus → List ℕ → List ℕ → Option (List ℕ) → Type 0
+abbrev pub StreamLeaves : StreamWords → Option Files → ExplainStatus → List ℕ → List ℕ → Option (List ℕ) → Type 0
 StreamLeaves words files status.Nothing input w now = ToldAll words files input w now false
 StreamLeaves words files status.Found input w now = ToldAll words files input w now true
 StreamLeaves words files status.BadWords input w now = ⊥
@@ -116,9 +127,13 @@ stream_status (Err tell.WriteFault) = status.WriteFault
 stream_status (Err tell.FileFault) = status.FileFault
 stream_status (Err tell.OutOfMemory) = status.OutOfMemory
 
--- the words of a run that writes nothing, in this workspace, with literal blocks or without
-abbrev pub stream_at : List ℕ → Bool → RunWords
-stream_at workspace literal = words_at workspace NoUpdate (record { force_update = false; force_pass = false; full = false; literal = literal })
+-- a run that writes nothing, in this workspace, with literal blocks or without
+abbrev pub run_below : List ℕ → Bool → RunWords
+run_below workspace literal = words_at workspace NoUpdate (record { force_update = false; force_pass = false; full = false; literal = literal })
+
+-- such a run, whose findings are written so
+abbrev pub stream_at : Form → List ℕ → Bool → StreamWords
+stream_at form workspace literal = in_form form (run_below workspace literal)
 
 -- the input is too long exactly where one byte more than the limit was taken
 abbrev pub StreamLength : ExplainStatus → Option (List ℕ) → Option (List ℕ) → Type 0
@@ -127,6 +142,6 @@ StreamLength status.OutOfMemory left left' = TakesAtMost (input_limit + 1) left 
 StreamLength _ left left' = TakesAtMost input_limit left left'
 
 -- what a run over a stream leaves, where the source and the sink tell what they hold
-pub record StreamRun (words : RunWords) (files : Option Files) (status : ExplainStatus) (left left' written written' : Option (List ℕ)) : Type 0 where
+pub record StreamRun (words : StreamWords) (files : Option Files) (status : ExplainStatus) (left left' written written' : Option (List ℕ)) : Type 0 where
   pub leaves : (input w : List ℕ) → left ≡ Some input → written ≡ Some w → StreamLeaves words files status input w written'
   pub taken : StreamLength status left left'

@@ -58,16 +58,12 @@ kind_text NamesExhausted = codes "no number is left for this name"
 abbrev pub trouble_text : Trouble → List ℕ
 trouble_text trouble.StrayEnd = codes "no block of duplicates is open"
 trouble_text (trouble.Refused kind detail) = kind_text kind ++ encode_utf8_all detail
-trouble_text (trouble.Unpassed what path detail) = cause_text what ++ codes ": " ++ encode_utf8_all path ++ encode_utf8_all detail
-trouble_text (trouble.Noted notes path) = notes_text notes ++ codes ": " ++ encode_utf8_all path
+trouble_text (trouble.Unpassed what file path detail) = cause_text what ++ codes ": " ++ encode_utf8_all path ++ encode_utf8_all detail
+trouble_text (trouble.Noted notes file path) = notes_text notes ++ codes ": " ++ encode_utf8_all path
 
 -- what is said of the document with this number, as a line
 abbrev pub trouble_line : ℕ → Place → Trouble → List ℕ
 trouble_line number place what = codes "document " ++ decimal number ++ codes ", " ++ place_text place ++ codes ": " ++ trouble_text what ++ codes "\n"
-
--- such a line, with some place
-abbrev pub IsTroubleLine : ℕ → Trouble → List ℕ → Type 0
-IsTroubleLine number what said = (place : Place) × (said ≡ trouble_line number place what)
 
 -- the file is read as a snapshot whose contents are no text
 pub record IsBinaryFile (file : Option (List ℕ)) : Type 0 where
@@ -112,11 +108,11 @@ pub record Passes (fully : Bool) (asked : Asked) (files : Option Files) : Type 0
   pub holds : Given files (λ m. PassesWith fully asked notes m)
   pub silent : has_word notes ≡ false
 
--- what is asked of the files would pass, and something is to be said of it, which is told with the path of the file
+-- what is asked of the files would pass, and something is to be said of it, which is told with the path of the file, as it is and as a scalar is spelled
 pub record IsNoted (fully : Bool) (asked : Asked) (files : Option Files) (what : Trouble) : Type 0 where
   pub notes : Notes
   pub spelled : List ℕ
-  pub is : what ≡ trouble.Noted notes spelled
+  pub is : what ≡ trouble.Noted notes asked.path spelled
   pub path_is : spelled ≡ spell_text asked.path
   pub holds : Given files (λ m. PassesWith fully asked notes m)
   pub worded : has_word notes ≡ true
@@ -139,12 +135,12 @@ unread file.OutOfMemory = Err tell.OutOfMemory
 unread (file.FloatText path) = Err tell.OutOfMemory
 unread file.JsonKey = Err tell.OutOfMemory
 
--- the cause holds of the file at the path, which is told as a scalar is spelled
+-- the cause holds of the file at the path, which is told as it is and as a scalar is spelled
 pub record IsUnpassedBy (path : List ℕ) (files : Option Files) (what : Trouble) : Type 0 where
   pub cause : Cause
   pub spelled : List ℕ
   pub detail : List ℕ
-  pub is : what ≡ trouble.Unpassed cause spelled detail
+  pub is : what ≡ trouble.Unpassed cause path spelled detail
   pub path_is : spelled ≡ spell_text path
   pub holds : Given files (λ m. IsCauseOf (get m path) cause)
 

@@ -1,13 +1,16 @@
 //! The tool that the words name.
-ghost use Rattle.std.specs.Prelude.{◌≡◌, List, ℕ, None, Some, MatchOption};
+ghost use Rattle.std.specs.Prelude.{◌≡◌, List, ℕ, None, Some, IsTrue, MatchOption, not, option_copied};
+ghost use Rattle.std.specs.Char.{is_ascii};
+ghost use Rattle.std.specs.List.{find, list_all, list_any};
 ghost use Rattle.snap_io.specs.Causes.{CountedIf};
 ghost use Rattle.snap_assert_settings.specs.Replaced.{ReplacementView};
-ghost use Rattle.snap_run.specs.Answers.{RunWords};
+ghost use Rattle.snap_run.specs.Answers.{is_literal};
 ghost use Rattle.snap_explain.specs.Findings.{LeavesOf, LengthCause, says_read_fault, says_write_fault, says_file_fault};
-ghost use Rattle.snap_explain.specs.Program.{IsTold, WordsCause, asked_of, front_words, mask_rules, stream_by, stream_of};
+ghost use Rattle.snap_explain.specs.Program.{IsTold, WordsCause, asked_of, form_if, front_words, is_flag, is_json, mask_rules, one_if, stream_by, stream_in, stream_of, words_after};
 ghost use Rattle.snap_explain.specs.Pages.{FrontRun};
-ghost use Rattle.snap_explain.specs.Streams.{StreamRun, stream_at};
+ghost use Rattle.snap_explain.specs.Streams.{StreamRun, StreamWords, stream_at};
 
+use crate::form::Form;
 use crate::front::explain_front;
 use crate::mask::explain_lines;
 use crate::status::ExplainStatus;
@@ -19,30 +22,107 @@ use snap_io::{Sink, Source, Store};
 use snap_io_words::text_in;
 use std::alloc::Global;
 
-/// What these words ask of a stream, where the tool is that.
-fn asked_by<'a>(tool: &Text, workspace: &'a Text, literal: bool) -> Option<Asked<'a>>
-    ensures { MatchOption result (stream_by tool.now workspace.now literal ≡ None)
-        (λ asked. stream_by tool.now workspace.now literal
-        ≡ Some (stream_at asked.workspace.now asked.literal)) }
+/// The words after this one, where they begin with it.
+fn words_after<'a>(words: &'a [Text], name: &str) -> Option<&'a [Text]>
+    requires { IsTrue (list_all is_ascii name.now) }
+    ensures { MatchOption result (words_after name.now words.now ≡ None)
+        (λ rest. words_after name.now words.now ≡ Some rest.now) }
 {
-    if is_same(tool.as_str(), "stream") {
-        Some(Asked { workspace, literal })
+    match words {
+        [tool, rest @ ..] if is_same(tool.as_str(), name) => Some(rest),
+        _ => None,
+    }
+}
+
+fn is_json(word: &Text) -> bool
+    ensures { result ≡ is_json word.now }
+{
+    is_same(word.as_str(), "--json")
+}
+
+fn is_literal(word: &Text) -> bool
+    ensures { result ≡ is_literal word.now }
+{
+    is_same(word.as_str(), "--literal")
+}
+
+/// Whether the word is a flag of `stream`.
+fn is_flag(word: &Text) -> bool
+    ensures { result ≡ is_flag word.now }
+{
+    is_json(word) || is_literal(word)
+}
+
+fn form_if(json: bool) -> Form
+    ensures { result ≡ form_if json }
+{
+    if json { Form::Json } else { Form::Plain }
+}
+
+fn one_if(counts: bool) -> usize
+    ensures { result ≡ one_if counts }
+{
+    if counts { 1 } else { 0 }
+}
+
+fn stands_json(words: &[Text]) -> bool
+    ensures { result ≡ list_any is_json words.now }
+{
+    words.iter().any(|word| is_json(word))
+}
+
+fn stands_literal(words: &[Text]) -> bool
+    ensures { result ≡ list_any is_literal words.now }
+{
+    words.iter().any(|word| is_literal(word))
+}
+
+/// The first word that is no flag.
+fn first_place(words: &[Text]) -> Option<&Text>
+    ensures { option_copied result ≡ find (λ word. not (is_flag word)) words.now }
+{
+    words.iter().find(|word| !is_flag(word))
+}
+
+/// What is asked of a stream by so many words, whose first word that is no flag is the workspace.
+fn stream_by(json: bool, literal: bool, count: usize, place: Option<&Text>) -> Option<Asked<'_>>
+    ensures { MatchOption result
+        (stream_by json literal count (option_copied place.entry) ≡ None)
+        (λ asked. stream_by json literal count (option_copied place.entry)
+        ≡ Some (stream_at asked.form asked.workspace.now asked.literal)) }
+{
+    let workspace = place?;
+    if count == 1 + one_if(json) + one_if(literal) {
+        Some(Asked {
+            workspace,
+            literal,
+            form: form_if(json),
+        })
     } else {
         None
     }
 }
 
-/// What is asked of a stream, where the words are `stream`, a workspace and no flag but `--literal`.
+/// What is asked of a stream by the words after `stream`.
+fn stream_in(words: &[Text]) -> Option<Asked<'_>>
+    ensures { MatchOption result (stream_in words.now ≡ None)
+        (λ asked. stream_in words.now
+        ≡ Some (stream_at asked.form asked.workspace.now asked.literal)) }
+{
+    let json = stands_json(words);
+    let literal = stands_literal(words);
+    stream_by(json, literal, words.len(), first_place(words))
+}
+
+/// What is asked of a stream, where the words begin with `stream`.
 fn stream_asked(words: &[Text]) -> Option<Asked<'_>>
     ensures { MatchOption result (stream_of words.now ≡ None)
-        (λ asked. stream_of words.now ≡ Some (stream_at asked.workspace.now asked.literal)) }
+        (λ asked. stream_of words.now
+        ≡ Some (stream_at asked.form asked.workspace.now asked.literal)) }
 {
-    match words {
-        [tool, workspace] => asked_by(tool, workspace, false),
-        [tool, workspace, flag] if is_same(flag.as_str(), "--literal") => {
-            asked_by(tool, workspace, true)
-        }
-        _ => None,
+    match words_after(words, "stream") {
+        Some(rest) => stream_in(rest),
+        None => None,
     }
 }
 
@@ -51,10 +131,7 @@ fn front_words(words: &[Text]) -> Option<&[Text]>
     ensures { MatchOption result (front_words words.now ≡ None)
         (λ rest. front_words words.now ≡ Some rest.now) }
 {
-    match words {
-        [tool, rest @ ..] if is_same(tool.as_str(), "front") => Some(rest),
-        _ => None,
-    }
+    words_after(words, "front")
 }
 
 /// What is done with words that do not begin with `front`.
@@ -72,7 +149,7 @@ fn explain_others<S: Source, K: Sink, F: Store>(
         → source.new ≡ source.old }
     ensures refused { result ≡ ExplainStatus.BadWords
         → (source.new ≡ source.old) × (sink.new ≡ sink.old) }
-    ensures stream { (said : RunWords) → stream_of words.now ≡ Some said
+    ensures stream { (said : StreamWords) → stream_of words.now ≡ Some said
         → StreamRun said (F.files store.old) result (S.left source.old) (S.left source.new)
         (K.written sink.old) (K.written sink.new) }
     ensures leaves { (rules : List ReplacementView) → asked_of words.now ≡ None
@@ -96,11 +173,13 @@ fn explain_others<S: Source, K: Sink, F: Store>(
 
 /// Says why input is refused.
 ///
-/// The words are those of the command line, without the program's name: `stream`, a workspace and the flag `--literal` or none, or `mask`
-/// and after it the rules of the filter of JSON lines. Then the source is read as a run over requests does, or as that filter does, and each
+/// The words are those of the command line, without the program's name: `stream`, a workspace and the flags `--json` and
+/// `--literal`, each at most once, or `mask` and after it the rules of the filter of JSON lines. Then the source is read as a run over requests does, or as that filter does, and each
 /// document or line that it refuses is told, with its number and why; what comes after one that is refused is read as well. Of a request
 /// that would not pass it is told why, by the file of its snapshot. After `front` come the words of the program on pages; then the source is
 /// read as a page, and it is told why that program gives no answer, where it gives none. No file is touched.
+///
+/// With `--json` each finding of a stream is a JSON object on a line.
 ///
 /// `--help` and `--version`, each alone, write a text; then nothing is read.
 pub fn explain<S: Source, K: Sink, F: Store>(
@@ -120,7 +199,7 @@ pub fn explain<S: Source, K: Sink, F: Store>(
     ensures front { (rest : List (List ℕ)) → front_words words.now ≡ Some rest
         → FrontRun rest result (S.left source.old) (S.left source.new) (K.written sink.old)
         (K.written sink.new) }
-    ensures stream { (said : RunWords) → stream_of words.now ≡ Some said
+    ensures stream { (said : StreamWords) → stream_of words.now ≡ Some said
         → StreamRun said (F.files store.old) result (S.left source.old) (S.left source.new)
         (K.written sink.old) (K.written sink.new) }
     ensures leaves { (rules : List ReplacementView) → asked_of words.now ≡ None

@@ -6,13 +6,14 @@
 //! `lines` (the loop over the lines), `status` and `usage` (what is said of a run, and of the program), `mask` (what the filter of JSON
 //! lines refuses); `front` (a page that the program on pages gives no answer of), `failing` (that finding, written), `page`, `no_tree`,
 //! `page_words` and `page_path` (what is told of the page, its header, the words and the path); `position` (lines and columns), `outline` (the nodes of a text), `pointing` (the node that a reason speaks of),
-//! `nearest`, `number_path`, `hint` (what helps), `refusal` (the reason in words), `trouble` (why a request would not pass, in words),
+//! `nearest`, `number_path`, `hint` (what helps), `seen` (the key or the selector there), `form`, `cause_word`, `json` and `json_findings` (how findings are written), `refusal` (the reason in words), `trouble` (why a request would not pass, in words),
 //! `line_ends`, `folder`, `detail`, `misfit` (why a file gives no pass, and what helps), `earlier`, `against` (which document came first), `notes`, `noting` (what is to be said of a request that passes), `foreseeing` (what would become of a request), `telling` (the finding of a document), `stream` (the
 //! loop over the documents), `explaining` (the tool that the words name), `command` (the run that the arguments ask for).
 #![tactic(auto)]
 
 mod against;
 pub mod cause;
+mod cause_word;
 pub mod command;
 mod detail;
 mod earlier;
@@ -21,8 +22,11 @@ pub mod failing;
 pub mod fault;
 mod folder;
 mod foreseeing;
+pub mod form;
 pub mod front;
 mod hint;
+mod json;
+mod json_findings;
 mod line_ends;
 pub mod lines;
 pub mod mask;
@@ -41,6 +45,7 @@ mod pointing;
 pub mod position;
 mod refusal;
 pub mod saying;
+mod seen;
 pub mod start;
 pub mod status;
 pub mod stream;

@@ -279,10 +279,12 @@ pub(crate) fn unpassed<F: Store>(
     ensures cause { Counted is_tell_file (F.faults store.old) (F.faults store.new) result }
 {
     let spelled = spelled(alloc, path)?;
+    let file = path.try_clone(alloc)?;
     let (cause, detail) = cause_at(alloc, store, path, new)?;
     let detail = beside_at(alloc, store, path, asker, detail)?;
     Ok(Trouble::Unpassed {
         cause,
+        file,
         path: spelled,
         detail,
     })

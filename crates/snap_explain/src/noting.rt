@@ -34,13 +34,18 @@ fn notes_on<F: Store>(alloc: Global, store: &mut F, preview: &Preview) -> Result
 /// The notes with the path of the file, where something is to be said.
 fn noted(alloc: Global, notes: Notes, path: &Text) -> Result<Option<Trouble>, OutOfMemory>
     ensures { IfOk result (λ found. MatchOption found (has_word notes ≡ false)
-        (λ what. (has_word notes ≡ true) × (what ≡ Trouble.Noted notes (spell_text path.now)))) }
+        (λ what. (has_word notes ≡ true) × (what ≡ Trouble.Noted notes path.now (spell_text path.now)))) }
 {
     if !notes.has_word() {
         return Ok(None);
     }
-    let path = spelled(alloc, path)?;
-    Ok(Some(Trouble::Noted { notes, path }))
+    let spelled = spelled(alloc, path)?;
+    let file = path.try_clone(alloc)?;
+    Ok(Some(Trouble::Noted {
+        notes,
+        file,
+        path: spelled,
+    }))
 }
 
 /// What is to be said of a request that passes, where something is.

@@ -4,10 +4,11 @@ ghost use Rattle.snap_io.specs.Causes.{Counted, CountedIf};
 ghost use Rattle.snap_assert.specs.Session.{session_of, empty_session};
 ghost use Rattle.snap_run.specs.Runner.{words_of};
 ghost use Rattle.snap_explain.specs.Findings.{says_read_fault, says_write_fault, says_file_fault};
-ghost use Rattle.snap_explain.specs.Streams.{StreamTold, StreamLeaves, StreamLength, stream_at, stream_status};
+ghost use Rattle.snap_explain.specs.Streams.{StreamTold, StreamLeaves, StreamLength, in_form, stream_at, stream_status};
 ghost use Rattle.snap_explain.specs.Troubles.{is_tell_file, is_tell_write};
 
 use crate::earlier::Earlier;
+use crate::form::Form;
 use crate::position::line_ends;
 use crate::status::ExplainStatus;
 use crate::telling::{TellError, tell_document};
@@ -20,16 +21,19 @@ use snap_run::Runner;
 use snap_run_requests::cut::first_document_end;
 use std::alloc::Global;
 
-/// What is asked of a stream: where its requests are made, and whether texts of several lines are printed as literal blocks.
+/// What is asked of a stream: where its requests are made, whether texts of several lines are printed as literal blocks, and how findings
+/// are written.
 #[derive(Clone, Copy, Debug)]
 pub struct Asked<'a> {
     pub workspace: &'a Text,
     pub literal: bool,
+    pub form: Form,
 }
 
 /// Says of each document, one by one, why it is no request or would not pass. Whether something was said.
 fn tell_documents<K: Sink, F: Store>(
     alloc: Global,
+    form: Form,
     runner: &Runner,
     session: &mut Session,
     input: &[u8],
@@ -39,7 +43,7 @@ fn tell_documents<K: Sink, F: Store>(
     requires short { length input.now < 2 ^ 63 }
     requires fresh { session_of session.now ≡ empty_session }
     ensures told { (w : List ℕ) → K.written sink.old ≡ Some w
-        → StreamTold (words_of runner.now) (F.files store.old) input.now w (K.written sink.new)
+        → StreamTold (in_form form (words_of runner.now)) (F.files store.old) input.now w (K.written sink.new)
         result }
     ensures same { F.files store.new ≡ F.files store.old }
     ensures write { Counted is_tell_write (K.faults sink.old) (K.faults sink.new) result }
@@ -55,6 +59,7 @@ fn tell_documents<K: Sink, F: Store>(
         number += 1;
         let said = tell_document(
             alloc,
+            form,
             runner,
             session,
             store,
@@ -81,7 +86,8 @@ fn tell_input<K: Sink, F: Store>(
 ) -> Result<bool, TellError>
     requires short { length input.now < 2 ^ 63 }
     ensures told { (w : List ℕ) → K.written sink.old ≡ Some w
-        → StreamTold (stream_at asked.entry.workspace.now asked.entry.literal) (F.files store.old) input.now w
+        → StreamTold (stream_at asked.entry.form asked.entry.workspace.now asked.entry.literal)
+        (F.files store.old) input.now w
         (K.written sink.new) result }
     ensures same { F.files store.new ≡ F.files store.old }
     ensures write { Counted is_tell_write (K.faults sink.old) (K.faults sink.new) result }
@@ -95,7 +101,7 @@ fn tell_input<K: Sink, F: Store>(
     };
     let runner = Runner::new(alloc, asked.workspace, Update::NoUpdate, flags)?;
     let mut session = Session::new(alloc);
-    tell_documents(alloc, &runner, &mut session, input, sink, store)
+    tell_documents(alloc, asked.form, &runner, &mut session, input, sink, store)
 }
 
 /// How a run ended whose documents were told so.
@@ -122,8 +128,8 @@ pub(crate) fn explain_stream<S: Source, K: Sink, F: Store>(
     ensures words { result ≡ ExplainStatus.BadWords → ⊥ }
     ensures leaves { (input w : List ℕ) → S.left source.old ≡ Some input
         → K.written sink.old ≡ Some w
-        → StreamLeaves (stream_at asked.entry.workspace.now asked.entry.literal) (F.files store.old) result
-        input w (K.written sink.new) }
+        → StreamLeaves (stream_at asked.entry.form asked.entry.workspace.now asked.entry.literal)
+        (F.files store.old) result input w (K.written sink.new) }
     ensures same { F.files store.new ≡ F.files store.old }
     ensures length { StreamLength result (S.left source.old) (S.left source.new) }
     ensures read { CountedIf (says_read_fault result) (S.faults source.old) (S.faults source.new) }

@@ -6,18 +6,22 @@ ghost use Rattle.snap_run.specs.Runner.{words_of};
 ghost use Rattle.snap_run_requests.specs.RequestOf.{request_of};
 ghost use Rattle.snap_run_requests.specs.Requests.{ReadsAs};
 ghost use Rattle.snap_explain.specs.Findings.{Writes, is_write_fault};
+ghost use Rattle.snap_explain.specs.Json.{IsTroubleLine, refusal_in, trouble_in};
 ghost use Rattle.snap_explain.specs.Refusals.{refusal_text};
-ghost use Rattle.snap_explain.specs.Streams.{IsNoRequest, IsRefusal, Said, DocumentEnds, whether_said};
-ghost use Rattle.snap_explain.specs.Troubles.{IsOfFile, IsTroubleLine, trouble_line, is_tell_file, is_tell_write};
+ghost use Rattle.snap_explain.specs.Streams.{IsNoRequest, IsRefusal, Said, DocumentEnds, in_form, whether_said};
+ghost use Rattle.snap_explain.specs.Troubles.{IsOfFile, trouble_line, is_tell_file, is_tell_write};
 
 use crate::earlier::Earlier;
 use crate::foreseeing::trouble_of;
+use crate::form::Form;
 use crate::hint::hint;
+use crate::json_findings::{json_refusal, json_trouble};
 use crate::outline::{Node, Outline, outline_of};
 use crate::pointing::node_of;
 use crate::position::{Place, place_behind};
 use crate::refusal::ReasonWords;
 use crate::saying::SayError;
+use crate::seen::seen_at;
 use crate::trouble::Trouble;
 use snap_assert::session::Session;
 use snap_content::{OutOfMemory, Text};
@@ -63,10 +67,11 @@ impl From<SayError> for TellError {
     }
 }
 
-/// Where a finding points, and what helps to mend the document.
+/// Where a finding points, the key or the selector that was seen there, where one is told, and what helps to mend the document.
 #[derive(Debug, Drop)]
 pub struct Told {
     pub place: Place,
+    pub seen: Option<Text>,
     pub detail: Text,
 }
 
@@ -119,10 +124,12 @@ fn told_by(
     why: &Reason,
 ) -> Result<Told, OutOfMemory> {
     let node = node_of(alloc, outline.nodes.as_slice(), why)?;
+    let seen = seen_at(alloc, outline.nodes.as_slice(), node, why)?;
     let detail = hint(alloc, number, text, outline, node, why)?;
     let before = before_of(outline, node, why);
     Ok(Told {
         place: place_of(first, text, before, why),
+        seen,
         detail,
     })
 }
@@ -152,6 +159,7 @@ fn told_of_bytes(first: u64, document: &[u8], place: usize) -> Told {
     };
     Told {
         place,
+        seen: None,
         detail: Text::empty(),
     }
 }
@@ -170,8 +178,13 @@ fn told_of(
     }
 }
 
-/// What is said of a document with this number, as a line.
-fn refusal(alloc: Global, number: u64, told: &Told, why: &Reason) -> Result<String, OutOfMemory>
+/// What is said of a document with this number in words, as a line.
+fn plain_refusal(
+    alloc: Global,
+    number: u64,
+    told: &Told,
+    why: &Reason,
+) -> Result<String, OutOfMemory>
     ensures { IfOk result (λ text. string_bytes text
         ≡ refusal_text number told.now.place why.now told.now.detail) }
 {
@@ -182,20 +195,38 @@ fn refusal(alloc: Global, number: u64, told: &Told, why: &Reason) -> Result<Stri
     )?)
 }
 
+/// What is said of a document with this number, as a line.
+fn refusal(
+    alloc: Global,
+    form: Form,
+    number: u64,
+    told: &Told,
+    why: &Reason,
+) -> Result<String, OutOfMemory>
+    ensures { IfOk result (λ text. string_bytes text
+        ≡ refusal_in form number told.now.place why.now told.now.seen told.now.detail) }
+{
+    match form {
+        Form::Plain => plain_refusal(alloc, number, told, why),
+        Form::Json => json_refusal(alloc, number, told, why),
+    }
+}
+
 /// Writes what is said of a document with this number.
 fn say_told<K: Sink>(
     alloc: Global,
+    form: Form,
     number: u64,
     told: &Told,
     why: &Reason,
     sink: &mut K,
 ) -> Result<(), SayError>
     ensures said { (w : List ℕ) → K.written sink.old ≡ Some w
-        → Writes (refusal_text number told.now.place why.now told.now.detail) w (K.written sink.new)
-        result }
+        → Writes (refusal_in form number told.now.place why.now told.now.seen told.now.detail) w
+        (K.written sink.new) result }
     ensures cause { Counted is_write_fault (K.faults sink.old) (K.faults sink.new) result }
 {
-    let text = refusal(alloc, number, told, why)?;
+    let text = refusal(alloc, form, number, told, why)?;
     write_all(sink, text.as_bytes())?;
     Ok(())
 }
@@ -203,6 +234,7 @@ fn say_told<K: Sink>(
 /// Says of a document why it is no request.
 fn say_refusal<K: Sink>(
     alloc: Global,
+    form: Form,
     number: u64,
     first: u64,
     document: &[u8],
@@ -210,17 +242,17 @@ fn say_refusal<K: Sink>(
     sink: &mut K,
 ) -> Result<(), SayError>
     ensures said { (w : List ℕ) → K.written sink.old ≡ Some w → IsNoRequest document.now why.now
-        → Said (IsRefusal number document.now) w (K.written sink.new) result }
+        → Said (IsRefusal form number document.now) w (K.written sink.new) result }
     ensures cause { Counted is_write_fault (K.faults sink.old) (K.faults sink.new) result }
 {
     let told = told_of(alloc, number, first, document, why)?;
-    let said = say_told(alloc, number, &told, why, sink);
+    let said = say_told(alloc, form, number, &told, why, sink);
     drop(told);
     said
 }
 
-/// What is said of a document with this number that is a request, as a line.
-fn trouble_line(
+/// What is said in words of a document with this number that is a request, as a line.
+fn plain_trouble(
     alloc: Global,
     number: u64,
     place: Place,
@@ -231,19 +263,36 @@ fn trouble_line(
     Ok(format!(in alloc; "document {number}, {place}: {what}\n")?)
 }
 
+/// What is said of a document with this number that is a request, as a line.
+fn trouble_in(
+    alloc: Global,
+    form: Form,
+    number: u64,
+    place: Place,
+    what: &Trouble,
+) -> Result<String, OutOfMemory>
+    ensures { IfOk result (λ text. string_bytes text ≡ trouble_in form number place what.now) }
+{
+    match form {
+        Form::Plain => plain_trouble(alloc, number, place, what),
+        Form::Json => json_trouble(alloc, number, place, what),
+    }
+}
+
 /// Writes why a request would not pass.
 fn write_trouble<K: Sink>(
     alloc: Global,
+    form: Form,
     number: u64,
     place: Place,
     what: &Trouble,
     sink: &mut K,
 ) -> Result<(), SayError>
     ensures said { (w : List ℕ) → K.written sink.old ≡ Some w
-        → Writes (trouble_line number place what.now) w (K.written sink.new) result }
+        → Writes (trouble_in form number place what.now) w (K.written sink.new) result }
     ensures cause { Counted is_write_fault (K.faults sink.old) (K.faults sink.new) result }
 {
-    let text = trouble_line(alloc, number, place, what)?;
+    let text = trouble_in(alloc, form, number, place, what)?;
     write_all(sink, text.as_bytes())?;
     Ok(())
 }
@@ -251,20 +300,21 @@ fn write_trouble<K: Sink>(
 /// Says of a document that is a request, and whose first line is this one, why it would not pass.
 fn say_trouble<K: Sink>(
     alloc: Global,
+    form: Form,
     number: u64,
     first: u64,
     what: &Trouble,
     sink: &mut K,
 ) -> Result<(), SayError>
     ensures said { (w : List ℕ) → K.written sink.old ≡ Some w
-        → Said (IsTroubleLine number what.now) w (K.written sink.new) result }
+        → Said (IsTroubleLine form number what.now) w (K.written sink.new) result }
     ensures cause { Counted is_write_fault (K.faults sink.old) (K.faults sink.new) result }
 {
     let place = Place {
         line: first,
         column: None,
     };
-    write_trouble(alloc, number, place, what, sink)
+    write_trouble(alloc, form, number, place, what, sink)
 }
 
 /// That something was said, or why not.
@@ -294,6 +344,7 @@ fn read(alloc: Global, document: &[u8]) -> Result<Result<Request, Reason>, OutOf
 /// Says of a request why it would not pass, where it would not. Whether it was said.
 fn tell_request<K: Sink, F: Store>(
     alloc: Global,
+    form: Form,
     runner: &Runner,
     session: &mut Session,
     store: &mut F,
@@ -306,7 +357,7 @@ fn tell_request<K: Sink, F: Store>(
     requires { IsOfFile (request_of request) }
     ensures said { (document w : List ℕ) → ReadsAs document (request_of request)
         → K.written sink.old ≡ Some w
-        → DocumentEnds (words_of runner.now) (F.files store.old) number document
+        → DocumentEnds (in_form form (words_of runner.now)) (F.files store.old) number document
         (session_of session.old) (session_of session.new) w (K.written sink.new) result }
     ensures same { F.files store.new ≡ F.files store.old }
     ensures write { Counted is_tell_write (K.faults sink.old) (K.faults sink.new) result }
@@ -314,7 +365,7 @@ fn tell_request<K: Sink, F: Store>(
 {
     match trouble_of(alloc, runner, session, store, earlier, number, request)? {
         None => Ok(false),
-        Some(what) => whether_said(say_trouble(alloc, number, first, &what, sink)),
+        Some(what) => whether_said(say_trouble(alloc, form, number, first, &what, sink)),
     }
 }
 
@@ -322,6 +373,7 @@ fn tell_request<K: Sink, F: Store>(
 /// reader refuses it, and else why it would not pass, where it would not. Whether it was said. No file is touched.
 pub(crate) fn tell_document<K: Sink, F: Store>(
     alloc: Global,
+    form: Form,
     runner: &Runner,
     session: &mut Session,
     store: &mut F,
@@ -332,7 +384,7 @@ pub(crate) fn tell_document<K: Sink, F: Store>(
     sink: &mut K,
 ) -> Result<bool, TellError>
     ensures said { (w : List ℕ) → K.written sink.old ≡ Some w
-        → DocumentEnds (words_of runner.now) (F.files store.old) number document.now
+        → DocumentEnds (in_form form (words_of runner.now)) (F.files store.old) number document.now
         (session_of session.old) (session_of session.new) w (K.written sink.new) result }
     ensures same { F.files store.new ≡ F.files store.old }
     ensures write { Counted is_tell_write (K.faults sink.old) (K.faults sink.new) result }
@@ -340,8 +392,8 @@ pub(crate) fn tell_document<K: Sink, F: Store>(
 {
     match read(alloc, document)? {
         Ok(request) => tell_request(
-            alloc, runner, session, store, earlier, number, first, request, sink,
+            alloc, form, runner, session, store, earlier, number, first, request, sink,
         ),
-        Err(why) => whether_said(say_refusal(alloc, number, first, document, &why, sink)),
+        Err(why) => whether_said(say_refusal(alloc, form, number, first, document, &why, sink)),
     }
 }

@@ -53,15 +53,17 @@ pub enum Trouble {
         kind: RefusalKind,
         detail: Text,
     },
-    /// The file at the path, which is spelled as a scalar, gives no pass.
+    /// A file gives no pass: its path, and the same as a scalar is spelled.
     Unpassed {
         cause: Cause,
+        file: Text,
         path: Text,
         detail: Text,
     },
-    /// It passes, and this is to be said of it and of the file at the path, which is spelled as a scalar.
+    /// It passes, and this is to be said of it and of a file: the path of that, and the same as a scalar is spelled.
     Noted {
         notes: Notes,
+        file: Text,
         path: Text,
     },
 }
@@ -95,8 +97,9 @@ impl fmt::Display for Trouble {
                 cause,
                 path,
                 detail,
+                ..
             } => write!(f, "{}: {path}{detail}", cause.text()),
-            Trouble::Noted { notes, path } => write!(f, "{notes}: {path}"),
+            Trouble::Noted { notes, path, .. } => write!(f, "{notes}: {path}"),
         }
     }
 }

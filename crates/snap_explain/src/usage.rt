@@ -15,7 +15,7 @@ pub const VERSION: &str = "snap-explain 0.1.0\n";
 pub const USAGE: &str = "\
 Says why input is refused, or would not pass. Nothing is changed.
 
-Usage: snap-explain stream WORKSPACE [--literal] < REQUESTS
+Usage: snap-explain stream WORKSPACE [--json] [--literal] < REQUESTS
        snap-explain mask [RULE...] < LINES
        snap-explain front COMMAND... < PAGE
        snap-explain --help | --version
@@ -24,6 +24,8 @@ stream says of each document of REQUESTS that is no request for snap run why
 that is so, and of each request that would not pass in a run below WORKSPACE
 why that is so: what is wrong with the file of its snapshot, or that it would
 end the run. Files are read, and none is changed. --literal is that of snap run.
+With --json each finding is a JSON object on a line, with a fixed word as its
+cause; the man page and docs/FORMAT.md list them.
 
 mask says of each line of LINES that snap-mask refuses by these rules why that
 is so. The rules are those of snap-mask --help.

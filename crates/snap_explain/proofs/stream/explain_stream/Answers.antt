@@ -4,7 +4,7 @@ use Rattle.snap_explain.proofs.Documents.{told_nothing, stream_leaves, stream_le
 use Rattle.snap_explain.proofs.stream.explain_stream.Goals as goal
 
 pub returns-in-Err-OutOfMemory-clause-leaves : goal.returns-in-Err-OutOfMemory-clause-leaves
-returns-in-Err-OutOfMemory-clause-leaves g c = λ input w e f. told_nothing (stream_at c.args.asked.workspace.now c.args.asked.literal) (g.F.Store.files c.args.store.now) input w _ f
+returns-in-Err-OutOfMemory-clause-leaves g c = λ input w e f. told_nothing (stream_at c.args.asked.form c.args.asked.workspace.now c.args.asked.literal) (g.F.Store.files c.args.store.now) input w _ f
 
 pub returns-in-Ok-clause-words : goal.returns-in-Ok-clause-words
 returns-in-Ok-clause-words g c = rw c.stream_status.ensures (never_bad_words c.tell_input.result)
@@ -12,7 +12,7 @@ returns-in-Ok-clause-words g c = rw c.stream_status.ensures (never_bad_words c.t
 pub returns-in-Ok-clause-leaves : goal.returns-in-Ok-clause-leaves
 returns-in-Ok-clause-leaves g c = λ input w e f.
     rw c.stream_status.ensures
-    (stream_leaves c.tell_input.result (stream_at c.args.asked.workspace.now c.args.asked.literal) (g.F.Store.files c.args.store.now) input w _ (subst (λ i. StreamTold (stream_at c.args.asked.workspace.now c.args.asked.literal) (g.F.Store.files c.args.store.now) i w (g.K.Sink.written c.tell_input.new.sink) c.tell_input.result)
+    (stream_leaves c.tell_input.result (stream_at c.args.asked.form c.args.asked.workspace.now c.args.asked.literal) (g.F.Store.files c.args.store.now) input w _ (subst (λ i. StreamTold (stream_at c.args.asked.form c.args.asked.workspace.now c.args.asked.literal) (g.F.Store.files c.args.store.now) i w (g.K.Sink.written c.tell_input.new.sink) c.tell_input.result)
     (c.deref.ensures.value ∙ c.in-Ok.ensures.all input e) (c.tell_input.ensures.told w f)))
 
 pub returns-in-Ok-clause-length : goal.returns-in-Ok-clause-length
