@@ -1,5 +1,6 @@
 //! Asserts the bytes of a file as a binary snapshot, over real files: `MODE WORKSPACE NAME.EXTENSION FILE`, where MODE is `inplace`,
-//! `new` or `no`. It prints the verdict, or why there is none.
+//! `new` or `no`. It prints the verdict, or why there is none. After a fifth word, `more`, the payload has one byte more than the file:
+//! so one is saved that is too long to be read again.
 //!
 //! The gate runs it once, over a small image. `bench/sidecars` runs it over larger files.
 #![tactic(auto)]
@@ -113,18 +114,34 @@ fn asserted_at<S: Store>(
     Ok(asserted(alloc, store, config, &settings, place, value)?)
 }
 
-/// What the assertion of the bytes of a file comes to.
+/// The bytes, and one more.
+fn with_one_more(alloc: Global, content: &Blob) -> Result<Blob, OutOfMemory> {
+    let mut bytes = Vec::from_slice(alloc, content.as_slice())?;
+    bytes.push(0)?;
+    Ok(Blob::from_vec(bytes))
+}
+
+/// The payload that is asserted of the bytes of a file.
+fn payload_of(alloc: Global, content: Blob, more: bool) -> Result<Blob, OutOfMemory> {
+    if more {
+        return with_one_more(alloc, &content);
+    }
+    Ok(content)
+}
+
+/// What the assertion of the bytes of a file comes to, or of one byte more.
 fn answer<S: Store>(
     alloc: Global,
     store: &mut S,
     mode: &Text,
     workspace: &Text,
     name: &Text,
-    file: &Text,
+    (file, more): (&Text, bool),
 ) -> Result<Text, anyhow::Error> {
-    let Ok(Some(content)) = store.read(alloc, file) else {
+    let Ok(Some(held)) = store.read(alloc, file) else {
         return Ok(Text::from_ascii(alloc, "! cannot be read\n")?);
     };
+    let content = payload_of(alloc, held, more)?;
     let config = config_of(alloc, mode)?;
     let place = place_in(alloc, workspace)?;
     asserted_at(alloc, store, &config, &place, name, content)
@@ -136,8 +153,13 @@ fn answer_words<S: Store>(
     words: &[Text],
 ) -> Result<Text, anyhow::Error> {
     match words {
-        [mode, workspace, name, file] => answer(alloc, store, mode, workspace, name, file),
-        _ => Err(anyhow!("four words are wanted")),
+        [mode, workspace, name, file] => {
+            answer(alloc, store, mode, workspace, name, (file, false))
+        }
+        [mode, workspace, name, file, word] if word.as_str() == "more" => {
+            answer(alloc, store, mode, workspace, name, (file, true))
+        }
+        _ => Err(anyhow!("four words are wanted, or a fifth, more")),
     }
 }
 
