@@ -1,0 +1,5 @@
+mod Prelude
+mod Steps
+mod Asked
+mod Turns
+mod Fresh
