@@ -3,3 +3,5 @@ mod Steps
 mod Asked
 mod Turns
 mod Fresh
+mod Limits
+mod Shown

@@ -1,5 +1,5 @@
 -- The words that the proofs of this crate speak in: those of the library and of the crates below, and its own definitions.
-pub use Rattle.std.proofs.Common.{◌≡◌, refl, sym, ap, ◌∙◌, subst, arith, ℕ, zero, suc, ◌+◌, ◌/◌, ◌%◌, ◌^◌, ◌<◌, ◌≤◌, List, [], ◌∷◌, ◌++◌, length, Bool, true, false, cond, ◌||◌, Option, None, Some, Ok, codes, append_assoc, append-nil, encode_utf8_all}
+pub use Rattle.std.proofs.Common.{◌≡◌, refl, sym, ap, ◌∙◌, subst, arith, ℕ, zero, suc, ◌+◌, ◌-◌, ◌/◌, ◌%◌, ◌^◌, ◌<◌, ◌≤◌, List, [], ◌∷◌, ◌++◌, length, Bool, true, false, cond, ◌||◌, Option, None, Some, Ok, codes, append_assoc, append-nil, encode_utf8_all}
 pub use Rattle.std.specs.FinMap.{get, insert, get-insert}
 pub use Rattle.std.specs.Fmt.{decimal}
 pub use Rattle.std.specs.List.{All}
@@ -21,4 +21,4 @@ pub use Rattle.snap_assert.specs.Session.{empty_session}
 pub use Rattle.snap_assert.specs.Steps.{Asked, step}
 pub use Rattle.snap_assert.specs.Subjects.{tree_with}
 pub use Rattle.snap_run.specs.Answers.{Answer, demo_run, assertion_by, asked_by, requests_of, remembered_by, step_by, files_after, MayPass, AreAllowed, passes, passed_count}
-pub use Rattle.snap_demo_laws.specs.Fresh.{demo_header, demo_snapshot, demo_image, AreAbsent, AreHeld, bytes_meant, PassesAll}
+pub use Rattle.snap_demo_laws.specs.Fresh.{demo_header, demo_snapshot, demo_image, AreAbsent, AreHeld, bytes_meant, PassesAll, ShowsAll}

@@ -1,5 +1,5 @@
 -- A demonstration over files of which none is at its paths.
-use Rattle.std.specs.Prelude.{◌≡◌, ◌+◌, ℕ, zero, suc, List, Option, None, Some, length, encode_utf8_all, codes}
+use Rattle.std.specs.Prelude.{◌≡◌, ◌+◌, ◌++◌, ℕ, zero, suc, List, Option, None, Some, length, encode_utf8_all, codes}
 use Rattle.std.specs.FinMap.{get}
 use Rattle.snap_content.specs.Plain.{Plain, text, dict, entry, no_entries}
 use Rattle.snap_demo.specs.Answers.{demo_lines}
@@ -8,6 +8,7 @@ use Rattle.snap_demo.specs.Paths.{demo_path}
 use Rattle.snap_demo.specs.Requests.{demo_file, demo_value}
 use Rattle.snap_demo.specs.declared.words.DemoWords.{DemoWords}
 use Rattle.snap_io.specs.Files.{Files}
+use Rattle.snap_io.specs.Outside.{Outside, Becomes}
 use Rattle.snap_print.specs.Blocks.{off}
 use Rattle.snap_store.specs.Image.{file_of}
 
@@ -43,3 +44,7 @@ pub record PassesAll (words : DemoWords) (lines : List ℕ) (files' : Option Fil
   pub told : files' ≡ Some files
   pub held : AreHeld 0 words.seed words.count files
   pub lines_are : lines ≡ demo_lines words.count words.count (bytes_meant 0 words.seed words.count)
+
+-- each request's snapshot stands in the files of the outside, and the lines that tell of that are written behind what was written before
+abbrev pub ShowsAll : DemoWords → Outside → Outside → Type 0
+ShowsAll words before after = (lines : List ℕ) × (PassesAll words lines after.files × Becomes before.written after.written (λ w. w ++ encode_utf8_all lines))
