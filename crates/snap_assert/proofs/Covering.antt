@@ -2,13 +2,16 @@
 use Rattle.snap_assert.proofs.Prelude.{◌≡◌, ◌+◌, ◌<◌, ◌≤◌, ◌||◌, ◌&&◌, ℕ, Bool, true, false, cond, List, [], ◌∷◌, ◌++◌, length, take, get_or, Option, None, Some, refl, sym, ap, ◌∙◌, subst, take_more, take_all, is_some, bytes_eq, bytes_eq-Decides, list_any, filter, get, insert, remove, get-insert, Files, parent_of, joined, is_stray, pending_path, cleared, remove_each, is_among, Asked, Meta, without_line, written, passed_files, step, AllStray, AreStrays, Covers, CoversAt, MayWait, WaitsStill, Update, InPlace, NewFile, NoUpdate}
 use Rattle.std.specs.BTreeMap.{is_at}
 use Rattle.std.specs.Cmp.Lexicographic.{slice_cmp}
+use Rattle.std.specs.List.Sorted.{IsStrictlySortedBy}
 use Rattle.std.specs.Ordering.{nat_cmp}
 use Rattle.std.proofs.lemmas.Cmp.{nat_list_cmp_total}
 use Rattle.std.proofs.lemmas.List.Folds.{list_any-append}
+use Rattle.std.proofs.lemmas.List.Kept.{IsStrictlySortedBy-filter}
 use Rattle.std.proofs.lemmas.Map.Text.{is_eq-slice_cmp}
 use Rattle.snap_io.specs.Changes.{all_changed}
 use Rattle.snap_io.specs.Listed.{AreNames}
 use Rattle.snap_assert_place.specs.SnapshotPath.{IsFilePath}
+use Rattle.snap_assert.specs.Session.{text_cmp}
 use Rattle.snap_assert.specs.Steps.{saved_as}
 use Rattle.snap_assert.specs.Subjects.{Subject, tree_with, text_as, payload_with, extension_in}
 use Rattle.snap_assert.proofs.Removals.{get-removed, get-remove_each}
@@ -129,10 +132,11 @@ all_kept path waiting strays is q h = first (is_stray path q) (is_among waiting 
 
 -- the strays of the path, of all that waits
 pub strays_kept : (path : List ℕ) (m : Files) (folders waiting strays : List (List ℕ)) → IsFilePath path → is_among folders (parent_of path) ≡ true → Covers m folders waiting
-    → strays ≡ filter (is_stray path) waiting → AreStrays path m strays
-strays_kept path m folders waiting strays file listed c is = record {
+    → strays ≡ filter (is_stray path) waiting → IsStrictlySortedBy text_cmp waiting → AreStrays path m strays
+strays_kept path m folders waiting strays file listed c is ordered = record {
   all = all_kept path waiting strays is;
   covers = λ q s there. ap (λ xs. is_among xs q) is ∙ filtered (is_stray path) q waiting ∙ both (is_stray path q) (is_among waiting q) s (c.each path q file listed s there);
+  ascend = subst (λ xs. IsStrictlySortedBy text_cmp xs) (sym is) (IsStrictlySortedBy-filter text_cmp (is_stray path) waiting ordered);
 }
   where
     both : (a b : Bool) → a ≡ true → b ≡ true → (a && b) ≡ true

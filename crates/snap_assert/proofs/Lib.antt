@@ -7,6 +7,7 @@ mod StrayPaths
 mod Removals
 mod Covering
 mod Writing
+mod Halting
 mod Extensions
 pub mod Keeping
 mod ApprovedPaths

@@ -20,14 +20,14 @@ saving_is path meta subject contents is body =
     ap (λ c. saving path meta c) is
     ∙ ap (λ b. writes path (encode_utf8_all (image.image_of (header_tree meta) b)) ∷ beside path (payload_of meta (contents_of subject))) body
 
-approved_saving : (asked : Asked) (prepared : Prepared) → IsPrepared asked prepared
+pub approved_saving : (asked : Asked) (prepared : Prepared) → IsPrepared asked prepared
     → saving prepared.path (without_line (meta_in prepared.snapshot)) (contents_in prepared.snapshot) ≡ saved_as asked.path (without_line asked.meta) asked.subject
 approved_saving asked prepared p =
     ap (λ q. saving q (without_line (meta_in prepared.snapshot)) (contents_in prepared.snapshot)) p.path
     ∙ ap (λ t. saving asked.path (without_line t) (contents_in prepared.snapshot)) p.metadata
     ∙ saving_is asked.path (without_line asked.meta) asked.subject (contents_in prepared.snapshot) p.contents p.body
 
-pending_saving : (asked : Asked) (prepared : Prepared) → IsPrepared asked prepared
+pub pending_saving : (asked : Asked) (prepared : Prepared) → IsPrepared asked prepared
     → saving (pending_path prepared.path) (meta_in prepared.snapshot) (contents_in prepared.snapshot) ≡ saved_as (pending_path asked.path) asked.meta asked.subject
 pending_saving asked prepared p =
     ap (λ q. saving (pending_path q) (meta_in prepared.snapshot) (contents_in prepared.snapshot)) p.path

@@ -7,6 +7,7 @@ pub mod Default
 pub mod Subjects
 pub mod Payloads
 pub mod Steps
+pub mod Settling
 pub mod Judging
 pub mod Kept
 pub mod Assertions
@@ -17,6 +18,7 @@ pub mod Strays
 pub mod Listed
 pub mod Prepared
 pub mod Compared
+pub mod Halts
 pub mod Unsaved
 pub mod Literals
 pub mod LiteralCourses

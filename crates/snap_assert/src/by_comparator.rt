@@ -5,6 +5,7 @@ ghost use Rattle.snap_content.specs.View.{tree};
 ghost use Rattle.snap_assert.specs.Outcomes.{IsStopped, IsUnprinted, AssertCause};
 ghost use Rattle.snap_assert.specs.Assertions.{assertion_of};
 ghost use Rattle.snap_assert.specs.Compared.{IsAnsweredBy};
+ghost use Rattle.snap_assert.specs.Halts.{IsHaltedBy, IsUnbegun};
 ghost use Rattle.snap_assert.specs.Kept.{KeptBy, NamesOwn};
 ghost use Rattle.snap_assert.specs.Names.{Named, name_step};
 ghost use Rattle.snap_assert.specs.Relations.{asked_relation};
@@ -69,6 +70,15 @@ pub fn assert_content_by<S: Store, C: Comparator>(
     ensures untouched { (error : AssertError) → name_step (settings_of settings.now)
         (place_of place.now) (option_copied name.entry) (session_of session.old) ≡ Err error
         → store.new ≡ store.old }
+    // After a fault, and out of memory: of the changes those before one are done, and none behind it was begun.
+    ensures halted { IfErr result (λ e. IsUnbegun e (S.files store.old) (S.files store.new)
+        ⊎ ((printed : Tree)
+        × PrintsAs (λ v. (⟦<dyn Redactor as Redactor>⟧ v).allows) settings.now (tree content) printed
+        × IsHaltedBy (asked_relation (C.agrees comparator.now) (C.agrees_fully comparator.now)
+        config.now.require_full_match) config.now
+        (assertion_of (blocks_if config.now.literal)
+        (settings_of settings.now) (place_of place.now) (option_copied name.entry) printed) e
+        (S.files store.old) (S.files store.new) (session_of session.old))) }
     ensures cause { AssertCause (S.faults store.old) (S.faults store.new) result }
 {
     let mut listed = Listed::new(alloc);

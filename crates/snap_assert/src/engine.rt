@@ -5,15 +5,18 @@ ghost use Rattle.snap_content.specs.View.{tree};
 ghost use Rattle.snap_assert.specs.Outcomes.{IsAnswered, IsStopped, IsUnprinted, AssertCause};
 ghost use Rattle.snap_assert.specs.Assertions.{assertion_of, assertion_about, key_under, new_contents};
 ghost use Rattle.snap_assert.specs.Blocks.{keep_step};
+ghost use Rattle.snap_assert.specs.Halts.{HaltsBy, IsHalted, IsHaltedBy, IsUnbegun, PassesAgainst, named_by};
 ghost use Rattle.snap_assert.specs.Kept.{KeptBy, KeptWith, NamesOwn};
 ghost use Rattle.snap_assert.specs.Listed.{IsCovered, IsKnown, StaysCovered};
 ghost use Rattle.snap_assert.specs.Names.{Named, name_step};
 ghost use Rattle.snap_assert.specs.Session.{session_of};
+ghost use Rattle.snap_assert.specs.Settling.{leaving};
 ghost use Rattle.snap_assert_settings.specs.Settings.{settings_of, PrintsAs};
 ghost use Rattle.snap_assert_place.specs.Place.{place_of};
 ghost use Rattle.snap_assert_place.specs.SnapshotPath.{path_of};
 ghost use Rattle.snap_io.specs.Files.{Files};
 ghost use Rattle.snap_io.specs.Outside.{Given, Becomes};
+ghost use Rattle.snap_io.specs.StandsAfter.{StandsAfter};
 ghost use Rattle.snap_print.specs.Blocks.{blocks_if};
 ghost use Rattle.snap_store.specs.Views.{contents_in};
 ghost use Rattle.snap_assert.specs.Compared.{IsDoneBy, IsAnsweredBy};
@@ -92,6 +95,9 @@ fn keep_and_settle<S: Store>(
         → KeptWith (extension_in asked.subject) config.now.update asked.path (S.files store.old) (S.files store.new) }
     ensures named { (asked : Asked) → IsPrepared asked prepared.now
         → NamesOwn config.now.update asked.path result }
+    ensures halted { IfErr result (λ e. (asked : Asked) → IsPrepared asked prepared.now
+        → StandsAfter (leaving config.now.update config.now.force_update asked passed) (named_by e)
+        (S.files store.old) (S.files store.new)) }
     ensures cause { AssertCause (S.faults store.old) (S.faults store.new) result }
 {
     keep(alloc, session, place, name, prepared.snapshot.contents())?;
@@ -129,6 +135,10 @@ fn assert_prepared<S: Store, C: Comparator>(
         → KeptWith (extension_in asked.subject) config.now.update asked.path (S.files store.old) (S.files store.new) }
     ensures named { (asked : Asked) → IsPrepared asked prepared.now
         → NamesOwn config.now.update asked.path result }
+    ensures halted { IfErr result (λ e. (asked : Asked) → IsPrepared asked prepared.now
+        → (known : Option Files) → IsKnown known (S.files store.old) listed.old
+        → HaltsBy (PassesAgainst (asked_relation (C.agrees comparator.now) (C.agrees_fully comparator.now)
+        config.now.require_full_match) asked) config.now asked e known (S.files store.new)) }
     ensures cause { AssertCause (S.faults store.old) (S.faults store.new) result }
 {
     let judged = look_and_clear(
@@ -188,6 +198,13 @@ fn assert_named<S: Store, C: Comparator>(
         (S.files store.old) (S.files store.new) }
     ensures named { (subject : Subject) → IsHeld subject asserted → NamesOwn config.now.update
         (path_of (settings_of settings.now) (place_of place.now) name.now) result }
+    ensures halted { IfErr result (λ e. (subject : Subject) → IsHeld subject asserted
+        → (known : Option Files) → IsKnown known (S.files store.old) listed.old
+        → HaltsBy (PassesAgainst (asked_relation (C.agrees comparator.now) (C.agrees_fully comparator.now)
+        config.now.require_full_match)
+        (asked_for (settings_of settings.now) (place_of place.now) name.now subject)) config.now
+        (asked_for (settings_of settings.now) (place_of place.now) name.now subject) e known
+        (S.files store.new)) }
     ensures cause { AssertCause (S.faults store.old) (S.faults store.new) result }
 {
     let prepared = prepare(alloc, settings, place, name, asserted)?;
@@ -246,6 +263,12 @@ pub(crate) fn assert_any<S: Store, C: Comparator>(
     ensures untouched { (error : AssertError) → name_step (settings_of settings.now)
         (place_of place.now) (option_copied given.entry) (session_of session.old) ≡ Err error
         → store.new ≡ store.old }
+    ensures halted { IfErr result (λ e. (subject : Subject) → IsHeld subject asserted
+        → (known : Option Files) → IsKnown known (S.files store.old) listed.old
+        → IsHaltedBy (asked_relation (C.agrees comparator.now) (C.agrees_fully comparator.now)
+        config.now.require_full_match) config.now
+        (assertion_about (settings_of settings.now) (place_of place.now)
+        (option_copied given.entry) subject) e known (S.files store.new) (session_of session.old)) }
     ensures cause { AssertCause (S.faults store.old) (S.faults store.new) result }
 {
     match take_name(alloc, session, settings, place, given) {
@@ -307,6 +330,16 @@ pub(crate) fn assert_sorted<S: Store, C: Comparator>(
     ensures untouched { (error : AssertError) → name_step (settings_of settings.now)
         (place_of place.now) (option_copied name.entry) (session_of session.old) ≡ Err error
         → store.new ≡ store.old }
+    // After a fault, and out of memory: of the changes those before one are done, and none behind it was begun.
+    ensures halted { IfErr result (λ e. IsUnbegun e (S.files store.old) (S.files store.new)
+        ⊎ ((printed : Tree)
+        × PrintsAs (λ v. (⟦<dyn Redactor as Redactor>⟧ v).allows) settings.now (tree content) printed
+        × ((known : Option Files) → IsKnown known (S.files store.old) listed.old
+        → IsHaltedBy (asked_relation (C.agrees comparator.now) (C.agrees_fully comparator.now)
+        config.now.require_full_match) config.now
+        (assertion_of (blocks_if config.now.literal)
+        (settings_of settings.now) (place_of place.now) (option_copied name.entry) printed) e
+        known (S.files store.new) (session_of session.old)))) }
     ensures cause { AssertCause (S.faults store.old) (S.faults store.new) result }
 {
     match asserted_tree(alloc, settings, content, config.literal) {
@@ -362,6 +395,14 @@ pub fn assert_listed<S: Store>(
     ensures untouched { (error : AssertError) → name_step (settings_of settings.now)
         (place_of place.now) (option_copied name.entry) (session_of session.old) ≡ Err error
         → store.new ≡ store.old }
+    // After a fault, and out of memory: of the changes those before one are done, and none behind it was begun.
+    ensures halted { IfErr result (λ e. IsUnbegun e (S.files store.old) (S.files store.new)
+        ⊎ ((printed : Tree)
+        × PrintsAs (λ v. (⟦<dyn Redactor as Redactor>⟧ v).allows) settings.now (tree content) printed
+        × ((known : Option Files) → IsKnown known (S.files store.old) listed.old
+        → IsHalted config.now (assertion_of (blocks_if config.now.literal)
+        (settings_of settings.now) (place_of place.now) (option_copied name.entry) printed) e
+        known (S.files store.new) (session_of session.old)))) }
     ensures cause { AssertCause (S.faults store.old) (S.faults store.new) result }
 {
     assert_sorted(
@@ -387,6 +428,10 @@ pub fn assert_listed<S: Store>(
 ///
 /// Whatever is returned, the approved file is written in place alone, and the pending one in the mode `new` alone;
 /// what was pending may be gone. Where no name is taken, neither the session nor the store is changed.
+///
+/// After `FileIo`, and out of memory, nothing is changed, or of the changes (each stray removed, in the order of their bytes, on a pass the
+/// pending snapshot removed, and then what the mode writes) those before one are done, that one is in doubt, and none behind it was
+/// begun. A fault names what it stopped at.
 pub fn assert_content<S: Store>(
     alloc: Global,
     session: &mut Session,
@@ -421,6 +466,13 @@ pub fn assert_content<S: Store>(
     ensures untouched { (error : AssertError) → name_step (settings_of settings.now)
         (place_of place.now) (option_copied name.entry) (session_of session.old) ≡ Err error
         → store.new ≡ store.old }
+    // After a fault, and out of memory: of the changes those before one are done, and none behind it was begun.
+    ensures halted { IfErr result (λ e. IsUnbegun e (S.files store.old) (S.files store.new)
+        ⊎ ((printed : Tree)
+        × PrintsAs (λ v. (⟦<dyn Redactor as Redactor>⟧ v).allows) settings.now (tree content) printed
+        × IsHalted config.now (assertion_of (blocks_if config.now.literal)
+        (settings_of settings.now) (place_of place.now) (option_copied name.entry) printed) e
+        (S.files store.old) (S.files store.new) (session_of session.old))) }
     ensures cause { AssertCause (S.faults store.old) (S.faults store.new) result }
 {
     let mut listed = Listed::new(alloc);

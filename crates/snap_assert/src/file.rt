@@ -3,6 +3,7 @@ ghost use Rattle.std.specs.Prelude.{◌≡◌, Ok, Err, IfOk, IfErr, option_copi
 ghost use Rattle.snap_assert.specs.Outcomes.{IsStopped, AssertCause};
 ghost use Rattle.snap_assert.specs.Assertions.{text_assertion_of};
 ghost use Rattle.snap_assert.specs.Compared.{IsAnsweredBy};
+ghost use Rattle.snap_assert.specs.Halts.{IsHaltedBy};
 ghost use Rattle.snap_assert.specs.Kept.{KeptBy, NamesOwn};
 ghost use Rattle.snap_assert.specs.Names.{Named, name_step};
 ghost use Rattle.snap_assert.specs.Relations.{asked_relation};
@@ -68,6 +69,12 @@ pub fn assert_file<S: Store, C: Comparator>(
     ensures untouched { (error : AssertError) → name_step (settings_of settings.now)
         (place_of place.now) (option_copied name.entry) (session_of session.old) ≡ Err error
         → store.new ≡ store.old }
+    // After a fault, and out of memory: of the changes those before one are done, and none behind it was begun.
+    ensures halted { IfErr result (λ e. IsHaltedBy (asked_relation (C.agrees comparator.now) (C.agrees_fully comparator.now)
+        config.now.require_full_match) config.now
+        (text_assertion_of (settings_of settings.now) (place_of place.now)
+        (option_copied name.entry) content) e
+        (S.files store.old) (S.files store.new) (session_of session.old)) }
     ensures cause { AssertCause (S.faults store.old) (S.faults store.new) result }
 {
     let mut listed = Listed::new(alloc);

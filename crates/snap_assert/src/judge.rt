@@ -1,10 +1,11 @@
 //! Whether a new snapshot passes by what the file of the old one holds, and what is to be said of that file.
-ghost use Rattle.std.specs.Prelude.{◌≡◌, ◌↔◌, [], ◌∷◌, false, IfOk, IsTrue, option_map};
+ghost use Rattle.std.specs.Prelude.{◌≡◌, ◌↔◌, [], ◌∷◌, false, IfErr, IfOk, IsTrue, option_map};
 ghost use Rattle.snap_io.specs.Outside.{Given};
 ghost use Rattle.snap_assert.specs.Outcomes.{WorkCause, said};
 ghost use Rattle.snap_assert.specs.Relations.{asked_relation, PassesBy};
 ghost use Rattle.snap_assert.specs.Steps.{Asked};
 ghost use Rattle.snap_assert.specs.Prepared.{IsPrepared, IsJudged, NoPass, RefusedEnd, OlderTexts, OlderPair, OlderAs, IsCompared};
+ghost use Rattle.snap_assert.specs.Halts.{FaultIsLook};
 ghost use Rattle.snap_assert.specs.Kept.{NamesRead};
 ghost use Rattle.snap_store.specs.Views.{snapshot_of};
 ghost use Rattle.snap_content.specs.List.{items_of};
@@ -203,6 +204,7 @@ pub fn judge_file<S: Store, C: Comparator>(
         asked m judged)) }
     ensures same { S.files store.new ≡ S.files store.old }
     ensures named { NamesRead prepared.now.path result }
+    ensures looked { IfErr result (λ e. FaultIsLook prepared.now.path (S.files store.old) e) }
     ensures cause { WorkCause (S.faults store.old) (S.faults store.new) result }
 {
     match Snapshot::from_file(alloc, store, &prepared.path) {

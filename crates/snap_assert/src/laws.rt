@@ -2,6 +2,8 @@
 ghost use Rattle.std.specs.Prelude.{◌≡◌, ◌∷◌, ℕ, Bool, List, [], Some, None, Ok, Err, true, false, codes};
 ghost use Rattle.std.specs.BTreeMap.{insert_entry, is_at};
 ghost use Rattle.std.specs.Map.{lookup};
+ghost use Rattle.snap_io.specs.Changes.{all_changed};
+ghost use Rattle.snap_io.specs.Files.{Files};
 ghost use Rattle.snap_store.specs.Agreement.{Agree};
 ghost use Rattle.snap_store.specs.declared.contents.SnapshotContents.{SnapshotContents};
 ghost use Rattle.snap_assert.specs.Blocks.{parts_of, keep_step};
@@ -11,9 +13,12 @@ ghost use Rattle.snap_assert.specs.Names.{name_step};
 ghost use Rattle.snap_assert.specs.Session.{SessionView, Block, block_cmp, empty_session, opened};
 ghost use Rattle.snap_assert_place.specs.Place.{PlaceView};
 ghost use Rattle.snap_assert_settings.specs.Settings.{new_settings};
-ghost use Rattle.snap_assert.specs.Steps.{pending_path};
+ghost use Rattle.snap_assert.specs.Settling.{settling};
+ghost use Rattle.snap_assert.specs.Steps.{Asked, pending_path, step};
+ghost use Rattle.snap_assert.specs.Strays.{AreStrays};
 ghost use Rattle.snap_assert.specs.declared.error.AssertError.TheVariants.{DuplicateDiffers, DoctestNeedsName, InlineDuplicate};
 ghost use Rattle.snap_assert.specs.declared.error.DuplicateKey.{DuplicateKey};
+ghost use Rattle.snap_assert_settings.specs.declared.config.Update.{Update};
 ghost use Rattle.snap_assert_settings.specs.declared.config.Update.TheVariants.{InPlace, NewFile, NoUpdate};
 
 /// In place alone the approved file is written, and in the mode `new` alone the pending file beside it; in no other mode
@@ -23,6 +28,14 @@ pub const fn only_in_place_is_the_approved_file_written()
         × (may_change NoUpdate path path ≡ false) }
     ensures waiting { (path : List ℕ) → (is_written InPlace path (pending_path path) ≡ false)
         × (is_written NoUpdate path (pending_path path) ≡ false) }
+{}
+
+/// The changes of an assertion, one after the other, come to the files of its step, where its strays are those of the files.
+pub const fn the_changes_are_those_of_the_step()
+    ensures { (mode : Update) (force : Bool) (asked : Asked) (passed : Bool)
+        (strays : List (List ℕ)) (m : Files) → AreStrays asked.path m strays
+        → all_changed (settling mode force asked passed strays) m
+        ≡ step mode force asked passed m }
 {}
 
 /// Where no block of duplicates is open, contents are not asked for. The innermost block keeps the contents that are asserted first

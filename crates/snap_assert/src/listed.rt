@@ -1,6 +1,7 @@
 //! What is known of a store: the folders that were listed, and what payloads may have left in them.
 ghost use Rattle.std.specs.Prelude.{◌≡◌, ℕ, List, IfOk, OnOk, true, false};
 ghost use Rattle.std.specs.List.{filter};
+ghost use Rattle.std.specs.List.Sorted.{IsStrictlySortedBy};
 ghost use Rattle.snap_io.specs.Causes.{Counted};
 ghost use Rattle.snap_io.specs.Files.{Files};
 ghost use Rattle.snap_io.specs.Listed.{AreNames};
@@ -8,6 +9,7 @@ ghost use Rattle.snap_io.specs.Outside.{Given};
 ghost use Rattle.snap_path.specs.Paths.{joined, parent_of};
 ghost use Rattle.snap_assert.specs.Steps.{is_stray};
 ghost use Rattle.snap_assert.specs.Removed.{is_among};
+ghost use Rattle.snap_assert.specs.Session.{text_cmp};
 ghost use Rattle.snap_assert.specs.Listed.{IsCovered};
 ghost use Rattle.snap_assert.specs.Strays.{AreStrays, AllStray};
 ghost use Rattle.snap_assert_place.specs.SnapshotPath.{IsFilePath};
@@ -96,8 +98,9 @@ impl Listed {
 
     /// The paths beside this one that payloads may have left, in the order of their bytes.
     fn beside(&self, path: &Text) -> Result<Vec<Text>, OutOfMemory>
-        ensures { IfOk result (λ strays. strays.items
+        ensures strays { IfOk result (λ strays. strays.items
             ≡ filter (is_stray path.now) self.now.waiting.keys) }
+        ensures ordered { OnOk result (IsStrictlySortedBy text_cmp self.now.waiting.keys) }
     {
         let mut strays = Vec::new(self.alloc);
         for kept in self.waiting.iter() {

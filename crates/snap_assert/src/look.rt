@@ -1,15 +1,18 @@
 //! What stands in the store: whether the tree passes, and what is to go.
-ghost use Rattle.std.specs.Prelude.{◌≡◌, Some, IfOk, OnOk};
+ghost use Rattle.std.specs.Prelude.{◌≡◌, Option, Some, IfErr, IfOk, OnOk, List, ℕ, map};
 ghost use Rattle.snap_io.specs.Files.{Files};
-ghost use Rattle.snap_io.specs.Outside.{Given};
+ghost use Rattle.snap_io.specs.Changes.{all_changed, Change.removes};
+ghost use Rattle.snap_io.specs.Outside.{Given, Becomes};
+ghost use Rattle.snap_assert.specs.Halts.{FaultIsLook, HaltsBy, PassesAgainst};
 ghost use Rattle.snap_assert.specs.Outcomes.{WorkCause};
 ghost use Rattle.snap_assert.specs.Steps.{Asked, cleared};
 ghost use Rattle.snap_assert.specs.Relations.{asked_relation};
 ghost use Rattle.snap_assert.specs.Prepared.{IsPrepared, IsJudged, IsSeen};
 ghost use Rattle.snap_assert.specs.Kept.{KeptWith, NamesOwn};
-ghost use Rattle.snap_assert.specs.Listed.{IsCovered, IsCoveredAt};
-ghost use Rattle.snap_assert.specs.Strays.{AllStray};
+ghost use Rattle.snap_assert.specs.Listed.{IsCovered, IsCoveredAt, IsKnown};
+ghost use Rattle.snap_assert.specs.Strays.{AllStray, AreStrays};
 ghost use Rattle.snap_assert.specs.Subjects.{extension_in};
+ghost use Rattle.snap_assert_settings.specs.declared.config.Config.{Config};
 ghost use Rattle.snap_assert_settings.specs.declared.config.Update.{Update};
 
 use crate::comparator::Comparator;
@@ -49,6 +52,8 @@ fn look<S: Store, C: Comparator>(
     ensures same { S.files store.new ≡ S.files store.old }
     ensures named { (asked : Asked) (mode : Update) → IsPrepared asked prepared.now
         → NamesOwn mode asked.path result }
+    ensures looked { IfErr result (λ e. (asked : Asked) → IsPrepared asked prepared.now
+        → FaultIsLook asked.path (S.files store.old) e) }
     ensures cause { WorkCause (S.faults store.old) (S.faults store.new) result }
 {
     let judged = judge_file(alloc, store, comparator, fully, prepared)?;
@@ -80,6 +85,16 @@ pub fn look_and_clear<S: Store, C: Comparator>(
         (S.files store.new) }
     ensures named { (asked : Asked) (mode : Update) → IsPrepared asked prepared.now
         → NamesOwn mode asked.path result }
+    ensures gone { IfOk result (λ judged. (strays : List (List ℕ))
+        × ((asked : Asked) → IsPrepared asked prepared.now → AllStray asked.path strays)
+        × ((asked : Asked) → IsPrepared asked prepared.now → Given (S.files store.old)
+        (λ m. IsCovered m listed.old → AreStrays asked.path m strays))
+        × Becomes (S.files store.old) (S.files store.new) (all_changed (map removes strays))) }
+    ensures halted { IfErr result (λ e. (asked : Asked) → IsPrepared asked prepared.now
+        → (config : Config) (known : Option Files) → IsKnown known (S.files store.old) listed.old
+        → HaltsBy (PassesAgainst
+        (asked_relation (C.agrees comparator.now) (C.agrees_fully comparator.now) fully) asked)
+        config asked e known (S.files store.new)) }
     ensures cause { WorkCause (S.faults store.old) (S.faults store.new) result }
 {
     let seen = look(alloc, listed, store, comparator, fully, prepared)?;

@@ -1,6 +1,9 @@
 //! Removing files one by one.
-ghost use Rattle.std.specs.Prelude.{OnOk};
+ghost use Rattle.std.specs.Prelude.{IfErr, OnOk, map};
+ghost use Rattle.snap_io.specs.Changes.{Change.removes};
 ghost use Rattle.snap_io.specs.Outside.{Given, Becomes};
+ghost use Rattle.snap_io.specs.StandsAfter.{StandsAfter};
+ghost use Rattle.snap_assert.specs.Halts.{named_by};
 ghost use Rattle.snap_assert.specs.Kept.{Keeps, is_none};
 ghost use Rattle.snap_assert.specs.Outcomes.{WorkCause};
 ghost use Rattle.snap_assert.specs.Listed.{IsCovered, IsCoveredAt};
@@ -27,6 +30,8 @@ pub fn remove_files<S: Store>(
     ensures kept { Given (S.files store.old)
         (λ m. Keeps is_none (is_among paths.now) m (S.files store.new)) }
     ensures named { NamesOneOf paths.now result }
+    ensures halted { IfErr result (λ e. StandsAfter (map removes paths.now) (named_by e)
+        (S.files store.old) (S.files store.new)) }
     ensures cause { WorkCause (S.faults store.old) (S.faults store.new) result }
 {
     for path in paths {
@@ -52,6 +57,8 @@ pub fn clear<S: Store>(
     ensures kept { Given (S.files store.old)
         (λ m. Keeps is_none (is_among strays.now) m (S.files store.new)) }
     ensures named { NamesOneOf strays.now result }
+    ensures halted { IfErr result (λ e. StandsAfter (map removes strays.now) (named_by e)
+        (S.files store.old) (S.files store.new)) }
     ensures cause { WorkCause (S.faults store.old) (S.faults store.new) result }
 {
     remove_files(alloc, store, strays)?;

@@ -1,10 +1,14 @@
 //! What an assertion leaves in the store.
-ghost use Rattle.std.specs.Prelude.{◌≡◌, Some, OnOk};
+ghost use Rattle.std.specs.Prelude.{◌≡◌, ◌∷◌, [], Some, IfErr, OnOk};
 ghost use Rattle.std.specs.FinMap.{remove};
 ghost use Rattle.snap_io.specs.Files.{Files};
+ghost use Rattle.snap_io.specs.Changes.{Change.removes};
 ghost use Rattle.snap_io.specs.Outside.{Becomes};
+ghost use Rattle.snap_io.specs.StandsAfter.{StandsAfter};
 ghost use Rattle.snap_assert.specs.Outcomes.{WorkCause};
+ghost use Rattle.snap_assert.specs.Halts.{named_by};
 ghost use Rattle.snap_assert.specs.Kept.{KeptWith, IsTakenAlone, NamesOwn, NamesOnly};
+ghost use Rattle.snap_assert.specs.Settling.{leaving, writing};
 ghost use Rattle.snap_assert.specs.Steps.{Asked, cleared, step, written};
 ghost use Rattle.snap_assert.specs.Subjects.{extension_in};
 ghost use Rattle.snap_assert.specs.Prepared.{IsPrepared};
@@ -23,6 +27,8 @@ fn approve<S: Store>(alloc: Global, store: &mut S, prepared: &Prepared) -> Resul
         (λ m. remove m prepared.now.pending)) }
     ensures kept { IsTakenAlone prepared.now.pending (S.files store.old) (S.files store.new) }
     ensures named { NamesOnly prepared.now.pending result }
+    ensures halted { IfErr result (λ e. StandsAfter (removes prepared.now.pending ∷ [])
+        (named_by e) (S.files store.old) (S.files store.new)) }
     ensures cause { WorkCause (S.faults store.old) (S.faults store.new) result }
 {
     named::remove(alloc, store, &prepared.pending)?;
@@ -38,6 +44,9 @@ fn update<S: Store>(alloc: Global, store: &mut S, prepared: &Prepared) -> Result
         (S.files store.new) }
     ensures named { (asked : Asked) → IsPrepared asked prepared.now
         → NamesOwn InPlace asked.path result }
+    ensures halted { IfErr result (λ e. (asked : Asked) → IsPrepared asked prepared.now
+        → StandsAfter (writing InPlace asked) (named_by e) (S.files store.old)
+        (S.files store.new)) }
     ensures cause { WorkCause (S.faults store.old) (S.faults store.new) result }
 {
     prepared.snapshot.save(alloc, store, &prepared.path)?;
@@ -53,6 +62,9 @@ fn postpone<S: Store>(alloc: Global, store: &mut S, prepared: &Prepared) -> Resu
         (S.files store.new) }
     ensures named { (asked : Asked) → IsPrepared asked prepared.now
         → NamesOwn NewFile asked.path result }
+    ensures halted { IfErr result (λ e. (asked : Asked) → IsPrepared asked prepared.now
+        → StandsAfter (writing NewFile asked) (named_by e) (S.files store.old)
+        (S.files store.new)) }
     ensures cause { WorkCause (S.faults store.old) (S.faults store.new) result }
 {
     prepared.snapshot.save_new(alloc, store, &prepared.path)?;
@@ -73,6 +85,9 @@ fn write_by<S: Store>(
         (S.files store.new) }
     ensures named { (asked : Asked) → IsPrepared asked prepared.now
         → NamesOwn mode asked.path result }
+    ensures halted { IfErr result (λ e. (asked : Asked) → IsPrepared asked prepared.now
+        → StandsAfter (writing mode asked) (named_by e) (S.files store.old)
+        (S.files store.new)) }
     ensures cause { WorkCause (S.faults store.old) (S.faults store.new) result }
 {
     match mode {
@@ -101,6 +116,9 @@ pub fn settle<S: Store>(
         (S.files store.new) }
     ensures named { (asked : Asked) → IsPrepared asked prepared.now
         → NamesOwn config.now.update asked.path result }
+    ensures halted { IfErr result (λ e. (asked : Asked) → IsPrepared asked prepared.now
+        → StandsAfter (leaving config.now.update config.now.force_update asked passed) (named_by e)
+        (S.files store.old) (S.files store.new)) }
     ensures cause { WorkCause (S.faults store.old) (S.faults store.new) result }
 {
     if !passed {

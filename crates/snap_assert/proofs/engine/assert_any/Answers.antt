@@ -7,6 +7,8 @@ use Rattle.snap_assert.specs.Subjects.{extension_in}
 use Rattle.snap_assert_place.specs.SnapshotPath.{path_of}
 use Rattle.snap_assert.proofs.Refusals.{name_stops, named_stops, answered, one_named, refused_own, refused_cause, err_weaker, done_and_kept, not_both}
 use Rattle.snap_assert.proofs.Settling.{unwritten_with}
+use Rattle.snap_assert.specs.Halts.{looking}
+use Rattle.snap_assert.proofs.Halting.{named_halts, refused_looks}
 use Rattle.snap_assert.proofs.engine.assert_any.Goals as goal
 
 pub returns-in-Err-clause-stopped : goal.returns-in-Err-clause-stopped
@@ -47,3 +49,13 @@ returns-in-Ok-clause-named g c = λ subject is named takes.
 
 pub returns-in-Ok-clause-untouched : goal.returns-in-Ok-clause-untouched
 returns-in-Ok-clause-untouched g c = λ error refuses. not_both _ _ _ c.in-Ok.ensures.ok refuses
+
+pub returns-in-Err-clause-halted : goal.returns-in-Err-clause-halted
+returns-in-Err-clause-halted g c = λ subject is known held named takes.
+    looking (λ m told. (held m told).0) (refused_looks _ known _ c.in-Err.error c.in-Err.ensures.err)
+
+pub returns-in-Ok-clause-halted : goal.returns-in-Ok-clause-halted
+returns-in-Ok-clause-halted g c =
+    err_weaker c.assert_named-outcome.result (λ error halts subject is known held.
+    named_halts _ c.args.config.now (assertion_about (settings_of c.args.settings.now) (place_of c.args.place.now) (option_copied c.args.given) subject) error known (g.S.Store.files c.assert_named-outcome.new.store) (session_of c.args.session.now) _ c.in-Ok.name c.in-Ok.ensures.ok (halts subject is known held))
+    c.assert_named-outcome.ensures.halted

@@ -9,3 +9,7 @@ returns-clause-answered g c = IfOk-weaker c.assert_listed-outcome.result _ _
 pub returns-clause-stopped : goal.returns-clause-stopped
 returns-clause-stopped g c = err_weaker c.assert_listed-outcome.result
     (λ error h. stops_by (λ printed stops. stops (g.S.Store.files c.args.store.now) (λ m told. (told, c.new-listed.ensures m))) h) c.assert_listed-outcome.ensures.stopped
+
+pub returns-clause-halted : goal.returns-clause-halted
+returns-clause-halted g c = err_weaker c.assert_listed-outcome.result
+    (λ error h. stops_by (λ printed halts. halts (g.S.Store.files c.args.store.now) (λ m told. (told, c.new-listed.ensures m))) h) c.assert_listed-outcome.ensures.halted

@@ -3,6 +3,7 @@ use Rattle.snap_assert.proofs.Answering.{done_by}
 use Rattle.snap_assert.proofs.Settling.{unwritten_with, own_refused}
 use Rattle.std.proofs.lemmas.Result.{err_from_is_err_and}
 use Rattle.snap_assert.specs.Subjects.{extension_in}
+use Rattle.snap_assert.specs.Halts.{looking}
 use Rattle.snap_assert.proofs.engine.assert_named.Goals as goal
 
 pub returns-in_err-prepared-clause-stopped : goal.returns-in_err-prepared-clause-stopped
@@ -36,3 +37,13 @@ returns-clause-covered g c = λ subject is none. c.in_ok-judged.ensures.covered 
 pub returns-clause-done : goal.returns-clause-done
 returns-clause-done g c = λ subject is known held.
     rw c.into_path-path.ensures (done_by _ c.args.config.now _ c.in_ok-prepared.prepared c.in_ok-judged.judged _ _ _ _ known c.args.listed.now held (c.in_ok-prepared.ensures subject is) c.verdict-verdict.ensures c.fails.ensures c.in_ok-judged.ensures.settled)
+
+pub returns-in_err-prepared-clause-halted : goal.returns-in_err-prepared-clause-halted
+returns-in_err-prepared-clause-halted g c =
+    let told = err_from_is_err_and c.from_residual.result c.from_residual.ensures.1 in
+    rw (told.1, told.2) (λ subject is known held. looking (λ m told. (held m told).0) tt)
+
+pub returns-in_err-judged-clause-halted : goal.returns-in_err-judged-clause-halted
+returns-in_err-judged-clause-halted g c =
+    let told = err_from_is_err_and c.from_residual-in_err-judged.result c.from_residual-in_err-judged.ensures.1 in
+    rw (told.1, told.2) (λ subject is. c.in_err-judged.ensures.halted _ (c.in_ok-prepared.ensures subject is))

@@ -6,6 +6,7 @@ use Rattle.std.proofs.lemmas.Result.{err_from_is_err_and}
 use Rattle.snap_assert.proofs.Refusals.{work_stops, stops_as, error_cause}
 use Rattle.snap_assert.proofs.Covering.{covers_step}
 use Rattle.snap_assert.proofs.Settling.{own_refused, kept_both}
+use Rattle.snap_assert.proofs.Halting.{leaving_halts}
 use Rattle.snap_assert.proofs.engine.assert_prepared.Goals as goal
 
 pub returns-in_err-judged-clause-stopped : goal.returns-in_err-judged-clause-stopped
@@ -63,3 +64,20 @@ returns-clause-covered g c = λ asked prepared none m told covered n now.
     let step_is = c.in_ok-keep_and_settle.ensures.ok asked m prepared (c.in_ok-judged.ensures.cleared asked prepared m told covered) in
     subst (λ k. IsCovered k c.look_and_clear.new.listed) (some_same (step mode force asked passed m) n (sym step_is ∙ now))
     (covers_step mode force asked passed m _ _ none (c.in_ok-judged.ensures.covered asked prepared m told covered))
+
+pub returns-in_err-judged-clause-halted : goal.returns-in_err-judged-clause-halted
+returns-in_err-judged-clause-halted g c =
+    let told = err_from_is_err_and c.from_residual.result c.from_residual.ensures.1 in
+    rw (told.1, told.2) (λ asked prepared known held. c.in_err-judged.ensures.halted asked prepared c.args.config.now known held)
+
+pub returns-in_err-keep_and_settle-clause-halted : goal.returns-in_err-keep_and_settle-clause-halted
+returns-in_err-keep_and_settle-clause-halted g c =
+    let told = err_from_is_err_and c.from_residual-in_err-keep_and_settle.result c.from_residual-in_err-keep_and_settle.ensures.1 in
+    rw (told.1, told.2) (λ asked prepared known held.
+    leaving_halts _ c.args.config.now asked c.in_err-keep_and_settle.field-0.0 known _ _ _ c.in_ok-judged.judged.passed c.in_ok-judged.ensures.gone.0 (λ m told. (held m told).0)
+    (c.in_ok-judged.ensures.gone.1 asked prepared)
+    (λ m told. record {
+      passes = (_, c.in_ok-judged.ensures.judged asked prepared m (held m told).0 (held m told).1);
+      left = c.in_ok-judged.ensures.gone.2 asked prepared m (held m told).0 (held m told).1;
+    })
+    c.in_ok-judged.ensures.gone.3 (c.in_err-keep_and_settle.ensures.halted asked prepared))

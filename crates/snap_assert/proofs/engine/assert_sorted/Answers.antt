@@ -25,3 +25,10 @@ returns-in-Err-clause-stopped g c = inl (refl, refl)
 
 pub returns-in-Err-clause-kept : goal.returns-in-Err-clause-kept
 returns-in-Err-clause-kept g c = λ named is. kept_unwritten _ _ _ _ refl
+
+pub returns-in-Ok-clause-halted : goal.returns-in-Ok-clause-halted
+returns-in-Ok-clause-halted g c =
+    err_weaker c.assert_any.result (λ error h. inr (c.in-Ok.ensures.0, c.in-Ok.ensures.1, h _ c.in-Ok.ensures.2)) c.assert_any.ensures.halted
+
+pub returns-in-Err-clause-halted : goal.returns-in-Err-clause-halted
+returns-in-Err-clause-halted g c = inl (refl, refl)

@@ -6,6 +6,7 @@ use Rattle.snap_assert.specs.Subjects.{extension_in}
 use Rattle.std.proofs.lemmas.Result.{err_from_is_err_and}
 use Rattle.snap_assert.proofs.Refusals.{refused_stops, refused_own, refused_cause, settled_stops, work_cause}
 use Rattle.snap_assert.proofs.Settling.{unwritten_with, own_refused}
+use Rattle.snap_assert.proofs.Halting.{refused_stands}
 use Rattle.snap_assert.proofs.engine.keep_and_settle.Goals as goal
 
 pub returns-in_err-keep-clause-stopped : goal.returns-in_err-keep-clause-stopped
@@ -35,3 +36,8 @@ returns-clause-stopped g c =
 
 pub returns-clause-cause : goal.returns-clause-cause
 returns-clause-cause g c = work_cause _ _ c.settle.result c.settle.ensures.cause
+
+pub returns-in_err-keep-clause-halted : goal.returns-in_err-keep-clause-halted
+returns-in_err-keep-clause-halted g c =
+    let told = err_from_is_err_and c.from_residual.result c.from_residual.ensures.1 in
+    rw (told.1, told.2) (λ asked prepared. refused_stands _ _ c.in_err-keep.field-0.0 _ c.in_err-keep.ensures.err)

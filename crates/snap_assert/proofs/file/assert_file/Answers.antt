@@ -16,3 +16,7 @@ returns-clause-kept g c = c.assert_any-outcome.ensures.kept _ (text_held c.args.
 
 pub returns-clause-named : goal.returns-clause-named
 returns-clause-named g c = c.assert_any-outcome.ensures.named _ (text_held c.args.content _ c.asserted_text.ensures)
+
+pub returns-clause-halted : goal.returns-clause-halted
+returns-clause-halted g c = err_weaker c.assert_any-outcome.result
+    (λ error h. h _ (text_held c.args.content _ c.asserted_text.ensures) (g.S.Store.files c.args.store.now) (λ m told. (told, c.new-listed.ensures m))) c.assert_any-outcome.ensures.halted

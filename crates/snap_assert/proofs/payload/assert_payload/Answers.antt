@@ -16,3 +16,7 @@ returns-clause-kept g c = c.assert_any-outcome.ensures.kept _ (payload_held c.ar
 
 pub returns-clause-named : goal.returns-clause-named
 returns-clause-named g c = c.assert_any-outcome.ensures.named _ (payload_held c.args.extension c.args.content _ c.asserted_payload.ensures)
+
+pub returns-clause-halted : goal.returns-clause-halted
+returns-clause-halted g c = err_weaker c.assert_any-outcome.result
+    (λ error h. h _ (payload_held c.args.extension c.args.content _ c.asserted_payload.ensures) (g.S.Store.files c.args.store.now) (λ m told. (told, c.new-listed.ensures m))) c.assert_any-outcome.ensures.halted
