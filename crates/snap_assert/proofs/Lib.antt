@@ -8,6 +8,7 @@ mod Removals
 mod Covering
 mod Writing
 mod Halting
+mod LiteralHalting
 mod Extensions
 pub mod Keeping
 mod ApprovedPaths

@@ -23,5 +23,6 @@ pub mod Unsaved
 pub mod Literals
 pub mod LiteralCourses
 pub mod LiteralOutcomes
+pub mod LiteralHalts
 pub mod Previews
 pub mod Values

@@ -8,8 +8,10 @@ use Rattle.snap_assert_settings.specs.declared.config.Config.{Config}
 use Rattle.snap_assert_settings.specs.declared.config.Update.{Update}
 use Rattle.snap_assert.specs.Assertions.{text_assertion_of, payload_assertion_of}
 use Rattle.snap_assert.specs.Compared.{IsAnsweredBy}
+use Rattle.snap_assert.specs.Halts.{IsHaltedBy}
 use Rattle.snap_assert.specs.Kept.{KeptBy, KeptWith, NamesOwn, NamesOnly}
 use Rattle.snap_assert.specs.LiteralCourses.{LiteralRefused, literal_course_of}
+use Rattle.snap_assert.specs.LiteralHalts.{IsLiteralHalted}
 use Rattle.snap_assert.specs.LiteralOutcomes.{ChangesOnly, IsLiteralStopped, LiteralAnswered}
 use Rattle.snap_assert.specs.Literals.{literal_assertion_of}
 use Rattle.snap_assert.specs.Names.{Named, name_step}
@@ -59,6 +61,19 @@ ValueStopped relation config settings place (InlineText reference content) error
     IsLiteralStopped relation config (literal_assertion_of settings place reference content) error files files' session session'
 ValueStopped relation config settings place (Binary name content extension) error files files' session session' =
     PayloadStops settings place name content extension error files files' session session'
+
+-- where its extension is not refused it stopped as a text for a file does
+abbrev pub PayloadHalted : Relation → Config → SettingsView → PlaceView → Option (List ℕ) → List ℕ → Option (List ℕ) → AssertError → Option Files → Option Files → SessionView → Type 0
+PayloadHalted relation config settings place name content extension error files files' session =
+    (told : List ℕ) → extension ≡ Some told → is_bad_extension extension ≡ false → IsHaltedBy relation config (payload_assertion_of settings place name told content) error files files' session
+
+-- what stands where it stopped
+abbrev pub ValueHalted : Relation → Config → SettingsView → PlaceView → SnapshotValue → AssertError → Option Files → Option Files → SessionView → Type 0
+ValueHalted relation config settings place (FileText name content) error files files' session = IsHaltedBy relation config (text_assertion_of settings place name content) error files files' session
+ValueHalted relation config settings place (InlineText reference content) error files files' session =
+    IsLiteralHalted relation config (literal_assertion_of settings place reference content) error files files' session
+ValueHalted relation config settings place (Binary name content extension) error files files' session =
+    PayloadHalted relation config settings place name content extension error files files' session
 
 -- it is refused before any file is touched: a payload by its extension, one for a file by its name, and a literal by its name and an open block
 abbrev pub ValueIsRefused : SettingsView → PlaceView → SnapshotValue → SessionView → Type 0

@@ -1,6 +1,7 @@
 //! Laws of what an assertion rests on, and worked examples.
-ghost use Rattle.std.specs.Prelude.{◌≡◌, ◌∷◌, ℕ, Bool, List, [], Some, None, Ok, Err, true, false, codes};
+ghost use Rattle.std.specs.Prelude.{◌≡◌, ◌∷◌, ℕ, Bool, List, [], Option, Some, None, Ok, Err, true, false, codes, is_some};
 ghost use Rattle.std.specs.BTreeMap.{insert_entry, is_at};
+ghost use Rattle.std.specs.FinMap.{get};
 ghost use Rattle.std.specs.Map.{lookup};
 ghost use Rattle.snap_io.specs.Changes.{all_changed};
 ghost use Rattle.snap_io.specs.Files.{Files};
@@ -8,10 +9,14 @@ ghost use Rattle.snap_store.specs.Agreement.{Agree};
 ghost use Rattle.snap_store.specs.declared.contents.SnapshotContents.{SnapshotContents};
 ghost use Rattle.snap_assert.specs.Blocks.{parts_of, keep_step};
 ghost use Rattle.snap_assert.specs.Kept.{is_written, may_change};
+ghost use Rattle.snap_assert.specs.LiteralHalts.{records_added};
 ghost use Rattle.snap_assert.specs.LiteralNames.{literal_name_step};
+ghost use Rattle.snap_assert.specs.Literals.{LiteralAssertion, has_record, line_if, literal_record, literal_step};
 ghost use Rattle.snap_assert.specs.Names.{name_step};
 ghost use Rattle.snap_assert.specs.Session.{SessionView, Block, block_cmp, empty_session, opened};
 ghost use Rattle.snap_assert_place.specs.Place.{PlaceView};
+ghost use Rattle.snap_assert_place.specs.SnapshotPath.{records_path};
+ghost use Rattle.snap_assert_settings.specs.declared.config.Config.{Config};
 ghost use Rattle.snap_assert_settings.specs.Settings.{new_settings};
 ghost use Rattle.snap_assert.specs.Settling.{settling};
 ghost use Rattle.snap_assert.specs.Steps.{Asked, pending_path, step};
@@ -36,6 +41,16 @@ pub const fn the_changes_are_those_of_the_step()
         (strays : List (List ℕ)) (m : Files) → AreStrays asked.path m strays
         → all_changed (settling mode force asked passed strays) m
         ≡ step mode force asked passed m }
+{}
+
+/// The same of a literal, where it is seen whether the file of records is there.
+pub const fn the_records_are_those_of_the_step()
+    ensures { (config : Config) (a : LiteralAssertion) (name : Option (List ℕ))
+        (passed there : Bool) (m : Files)
+        → (passed ≡ true → there ≡ is_some (get m (records_path a.place)))
+        → all_changed (records_added config.run_id a.place passed there
+        (line_if (has_record config a.place passed) (literal_record config.run_id a name))) m
+        ≡ literal_step config a name passed m }
 {}
 
 /// Where no block of duplicates is open, contents are not asked for. The innermost block keeps the contents that are asserted first

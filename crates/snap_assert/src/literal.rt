@@ -7,6 +7,7 @@ ghost use Rattle.snap_assert_place.specs.Place.{place_of};
 ghost use Rattle.snap_assert_place.specs.SnapshotPath.{records_path};
 ghost use Rattle.snap_assert.specs.Kept.{NamesOnly};
 ghost use Rattle.snap_assert.specs.LiteralCourses.{LiteralRefused, literal_course_of};
+ghost use Rattle.snap_assert.specs.LiteralHalts.{IsLiteralHalted, JudgedHalts, LiteralHalts, RecordsHalt};
 ghost use Rattle.snap_assert.specs.LiteralOutcomes.{AreLiterals, ChangesOnly, IsLiteralDone, IsLiteralJudged, IsLiteralLeft, IsLiteralStopped, LiteralAnswered, LiteralStops, RecordStops, literal_said};
 ghost use Rattle.snap_assert.specs.Literals.{LiteralAssertion, literal_assertion_of, literal_mode, literal_verdict, settled, with_line_if};
 ghost use Rattle.snap_assert.specs.Outcomes.{AssertCause, WorkCause};
@@ -111,6 +112,8 @@ fn answer<S: Store>(
         (settled config.now.run_id (place_of place.now) judged.passed m))) }
     ensures kept { ChangesOnly path (S.files store.old) (S.files store.new) }
     ensures named { NamesOnly path result }
+    ensures halted { IfErr result (λ e. RecordsHalt config.now.run_id (place_of place.now)
+        judged.passed line e (S.files store.old) (S.files store.new)) }
     ensures cause { WorkCause (S.faults store.old) (S.faults store.new) result }
 {
     settle_literal(alloc, store, config, place, &path, judged.passed, &line)?;
@@ -143,6 +146,9 @@ fn assert_judged<S: Store>(
         → RecordStops config.now a name judged.passed (S.files store.old) (S.files store.new) e) }
     ensures kept { ChangesOnly literals.path (S.files store.old) (S.files store.new) }
     ensures named { NamesOnly literals.path result }
+    ensures halted { IfErr result (λ e. (a : LiteralAssertion) (reference : List ℕ)
+        (name : Option (List ℕ)) → AreLiterals a (place_of place.now) reference name literals
+        → JudgedHalts config.now a name judged.passed e (S.files store.old) (S.files store.new)) }
     ensures cause { AssertCause (S.faults store.old) (S.faults store.new) result }
 {
     let Literals { path, old, new } = literals;
@@ -174,6 +180,10 @@ fn assert_begun<S: Store, C: Comparator>(
         config.now.require_full_match) config.now a name (S.files store.old) (S.files store.new) e) }
     ensures kept { ChangesOnly literals.path (S.files store.old) (S.files store.new) }
     ensures named { NamesOnly literals.path result }
+    ensures halted { IfErr result (λ e. (a : LiteralAssertion) (name : Option (List ℕ))
+        → AreLiterals a (place_of place.now) reference.now name literals
+        → LiteralHalts (asked_relation (C.agrees comparator.now) (C.agrees_fully comparator.now)
+        config.now.require_full_match) config.now a name e (S.files store.old) (S.files store.new)) }
     ensures cause { AssertCause (S.faults store.old) (S.faults store.new) result }
 {
     match judge_literal(alloc, config, comparator, place, reference, &literals) {
@@ -227,6 +237,11 @@ pub fn assert_literal<S: Store, C: Comparator>(
     ensures kept { ChangesOnly (records_path (place_of place.now)) (S.files store.old)
         (S.files store.new) }
     ensures named { NamesOnly (records_path (place_of place.now)) result }
+    // After a fault, and out of memory: of the changes those before one are done, and none behind it was begun.
+    ensures halted { IfErr result (λ e. IsLiteralHalted (asked_relation (C.agrees comparator.now) (C.agrees_fully comparator.now)
+        config.now.require_full_match) config.now
+        (literal_assertion_of (settings_of settings.now) (place_of place.now) reference.now content)
+        e (S.files store.old) (S.files store.new) (session_of session.old)) }
     ensures cause { AssertCause (S.faults store.old) (S.faults store.new) result }
 {
     match begin_literal(alloc, session, settings, place, reference, content) {

@@ -1,15 +1,20 @@
 //! What an assertion of a literal leaves of the records.
-ghost use Rattle.std.specs.Prelude.{◌≡◌, true, false, Some, is_some, IfOk, IfErr, OnOk, encode_utf8_all};
+ghost use Rattle.std.specs.Prelude.{◌≡◌, ◌∷◌, [], ℕ, Bool, List, Option, true, false, Some, is_some, IfOk, IfErr, OnOk, encode_utf8_all};
 ghost use Rattle.std.specs.FinMap.{get};
 ghost use Rattle.snap_content.specs.declared.error.Error.{Error as ErrorSeen};
+ghost use Rattle.snap_io.specs.Changes.{all_changed};
 ghost use Rattle.snap_io.specs.Files.{Files, appended};
 ghost use Rattle.snap_io.specs.Outside.{Becomes};
+ghost use Rattle.snap_io.specs.StandsAfter.{StandsAfter};
 ghost use Rattle.snap_pending.specs.Pending.{pending_of};
 ghost use Rattle.snap_pending.specs.Record.{is_refused, record_line};
+ghost use Rattle.snap_pending.specs.Saved.{adds};
 ghost use Rattle.snap_store.specs.Views.{snapshot_of};
 ghost use Rattle.snap_assert_place.specs.Place.{place_of};
 ghost use Rattle.snap_assert_place.specs.SnapshotPath.{records_path};
+ghost use Rattle.snap_assert.specs.Halts.{named_by};
 ghost use Rattle.snap_assert.specs.Kept.{NamesOnly};
+ghost use Rattle.snap_assert.specs.LiteralHalts.{IsThere, RecordsHalt, line_added, pass_added};
 ghost use Rattle.snap_assert.specs.LiteralOutcomes.{ChangesOnly, IsNotDue, unprinted};
 ghost use Rattle.snap_assert.specs.Literals.{calls_for_record, has_record, leaves_out, line_if, nothing_record, record_at, settled, with_line_if, writes};
 ghost use Rattle.snap_assert.specs.Outcomes.{WorkCause};
@@ -163,6 +168,9 @@ fn add_nothing<S: Store>(
         (encode_utf8_all (record_line (nothing_record config.now.run_id (place_of place.now)))))) }
     ensures kept { ChangesOnly path.now (S.files store.old) (S.files store.new) }
     ensures named { NamesOnly path.now result }
+    ensures halted { IfErr result (λ e. StandsAfter (adds path.now
+        (record_line (nothing_record config.now.run_id (place_of place.now))) ∷ []) (named_by e)
+        (S.files store.old) (S.files store.new)) }
     ensures cause { WorkCause (S.faults store.old) (S.faults store.new) result }
 {
     let line = nothing_line(alloc, config, place)?;
@@ -180,6 +188,8 @@ fn add_line<S: Store>(
         (λ m. appended m path.now (encode_utf8_all line.now))) }
     ensures kept { ChangesOnly path.now (S.files store.old) (S.files store.new) }
     ensures named { NamesOnly path.now result }
+    ensures halted { IfErr result (λ e. StandsAfter (adds path.now line.now ∷ []) (named_by e)
+        (S.files store.old) (S.files store.new)) }
     ensures cause { WorkCause (S.faults store.old) (S.faults store.new) result }
 {
     PendingInlineSnapshot::append_line(alloc, store, path, line)?;
@@ -212,6 +222,12 @@ fn settle_passed<S: Store>(
         (settled config.now.run_id (place_of place.now) passed)) }
     ensures kept { ChangesOnly path.now (S.files store.old) (S.files store.new) }
     ensures named { NamesOnly path.now result }
+    ensures there { IfOk result (λ _. (there : Bool)
+        × IsThere (place_of place.now) passed there (S.files store.old)
+        × Becomes (S.files store.old) (S.files store.new)
+        (all_changed (pass_added config.now.run_id (place_of place.now) passed there))) }
+    ensures halted { IfErr result (λ e. (line : Option (List ℕ)) → RecordsHalt config.now.run_id
+        (place_of place.now) passed line e (S.files store.old) (S.files store.new)) }
     ensures cause { WorkCause (S.faults store.old) (S.faults store.new) result }
 {
     if !passed {
@@ -236,6 +252,8 @@ fn settle_line<S: Store>(
         (with_line_if line.now (place_of place.now))) }
     ensures kept { ChangesOnly path.now (S.files store.old) (S.files store.new) }
     ensures named { NamesOnly path.now result }
+    ensures halted { IfErr result (λ e. StandsAfter (line_added (place_of place.now) line.now)
+        (named_by e) (S.files store.old) (S.files store.new)) }
     ensures cause { WorkCause (S.faults store.old) (S.faults store.new) result }
 {
     match line {
@@ -261,6 +279,8 @@ pub fn settle_literal<S: Store>(
         (settled config.now.run_id (place_of place.now) passed m))) }
     ensures kept { ChangesOnly path.now (S.files store.old) (S.files store.new) }
     ensures named { NamesOnly path.now result }
+    ensures halted { IfErr result (λ e. RecordsHalt config.now.run_id (place_of place.now) passed
+        line.now e (S.files store.old) (S.files store.new)) }
     ensures cause { WorkCause (S.faults store.old) (S.faults store.new) result }
 {
     settle_passed(alloc, store, config, place, path, passed)?;

@@ -8,7 +8,7 @@ ghost use Rattle.snap_assert.specs.declared.error.AssertError.{AssertError};
 ghost use Rattle.snap_assert.specs.Outcomes.{AssertCause};
 ghost use Rattle.snap_assert.specs.Relations.{asked_relation};
 ghost use Rattle.snap_assert.specs.Session.{session_of};
-ghost use Rattle.snap_assert.specs.Values.{PayloadAnswered, PayloadStops, ValueAnswered, ValueIsRefused, ValueKeeps, ValueNames, ValueStopped};
+ghost use Rattle.snap_assert.specs.Values.{PayloadAnswered, PayloadHalted, PayloadStops, ValueAnswered, ValueHalted, ValueIsRefused, ValueKeeps, ValueNames, ValueStopped};
 ghost use Rattle.snap_assert_settings.specs.Settings.{settings_of};
 ghost use Rattle.snap_assert_place.specs.Place.{place_of};
 
@@ -70,6 +70,10 @@ fn assert_binary<S: Store, C: Comparator>(
         name.now (session_of session.old) ≡ Ok named
         → NamesOwn config.now.update
         (path_of (settings_of settings.now) (place_of place.now) named.name) result }
+    ensures halted { IfErr result (λ e. PayloadHalted (asked_relation (C.agrees comparator.now) (C.agrees_fully comparator.now)
+        config.now.require_full_match) config.now (settings_of settings.now)
+        (place_of place.now) name.now content extension e (S.files store.old) (S.files store.new)
+        (session_of session.old)) }
     ensures cause { AssertCause (S.faults store.old) (S.faults store.new) result }
 {
     match good_extension(extension) {
@@ -118,6 +122,11 @@ pub fn assert_snapshot<S: Store, C: Comparator>(
         value (session_of session.old) (S.files store.old) (S.files store.new) }
     ensures named { ValueNames config.now.update (settings_of settings.now) (place_of place.now)
         value (session_of session.old) result }
+    // After a fault, and out of memory: of the changes those before one are done, and none behind it was begun.
+    ensures halted { IfErr result (λ e. ValueHalted (asked_relation (C.agrees comparator.now) (C.agrees_fully comparator.now)
+        config.now.require_full_match) config.now (settings_of settings.now)
+        (place_of place.now) value e (S.files store.old) (S.files store.new)
+        (session_of session.old)) }
     ensures cause { AssertCause (S.faults store.old) (S.faults store.new) result }
 {
     match value {

@@ -9,6 +9,8 @@ use Rattle.snap_assert.specs.LiteralOutcomes.{ChangesOnly}
 use Rattle.snap_assert.specs.Literals.{literal_assertion_of}
 use Rattle.snap_assert.specs.Relations.{asked_relation}
 use Rattle.snap_assert.specs.Session.{session_of}
+use Rattle.snap_assert.specs.LiteralHalts.{uncompared}
+use Rattle.snap_assert.proofs.LiteralHalting.{course_halts, course_unnamed}
 use Rattle.snap_assert.proofs.literal.assert_literal.Goals as goal
 
 pub returns-in-Ok-clause-answered : goal.returns-in-Ok-clause-answered
@@ -48,3 +50,16 @@ pub returns-in-Err-clause-named : goal.returns-in-Err-clause-named
 returns-in-Err-clause-named g c =
     let a = literal_assertion_of (settings_of c.args.settings.now) (place_of c.args.place.now) c.args.reference.now c.args.content in
     course_at a (session_of c.args.session.now) (session_of c.begin_literal.new.session) _ c.in-Err.error c.in-Err.ensures.stopped
+
+pub returns-in-Ok-clause-halted : goal.returns-in-Ok-clause-halted
+returns-in-Ok-clause-halted g c =
+    let a = literal_assertion_of (settings_of c.args.settings.now) (place_of c.args.place.now) c.args.reference.now c.args.content in
+    err_weaker c.assert_begun.result (λ e h.
+    course_halts (asked_relation (g.C.Comparator.agrees c.args.comparator.now) (g.C.Comparator.agrees_fully c.args.comparator.now) c.args.config.now.require_full_match)
+    c.args.config.now a (name_in c.in-Ok.literals.new) (session_of c.args.session.now) _ e _ _ c.in-Ok.ensures.course (h a (name_in c.in-Ok.literals.new) c.in-Ok.ensures.made))
+    c.assert_begun.ensures.halted
+
+pub returns-in-Err-clause-halted : goal.returns-in-Err-clause-halted
+returns-in-Err-clause-halted g c =
+    let a = literal_assertion_of (settings_of c.args.settings.now) (place_of c.args.place.now) c.args.reference.now c.args.content in
+    λ course is. uncompared refl (course_unnamed a (session_of c.args.session.now) (session_of c.begin_literal.new.session) c.in-Err.error c.in-Err.ensures.stopped)

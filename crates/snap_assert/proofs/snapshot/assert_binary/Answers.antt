@@ -8,6 +8,8 @@ use Rattle.snap_assert_place.specs.SnapshotPath.{path_of}
 use Rattle.snap_assert.proofs.Extensions.{answered_as, payload_stops, not_bad, of_either}
 use Rattle.snap_assert.proofs.Refusals.{err_weaker}
 use Rattle.snap_assert.proofs.Settling.{unwritten_with}
+use Rattle.snap_assert.specs.Relations.{asked_relation}
+use Rattle.snap_assert.proofs.LiteralHalting.{payload_halts, bad_halts}
 use Rattle.snap_assert.proofs.snapshot.assert_binary.Goals as goal
 
 pub returns-in-Some-clause-answered : goal.returns-in-Some-clause-answered
@@ -43,3 +45,13 @@ returns-in-Some-clause-named g c = λ named takes. c.assert_payload.ensures.name
 
 pub returns-in-None-clause-kept : goal.returns-in-None-clause-kept
 returns-in-None-clause-kept g c = λ named takes. unwritten_with c.args.extension c.args.config.now.update (path_of (settings_of c.args.settings.now) (place_of c.args.place.now) named.name) _ _ refl
+
+pub returns-in-Some-clause-halted : goal.returns-in-Some-clause-halted
+returns-in-Some-clause-halted g c =
+    err_weaker c.assert_payload.result (λ error h.
+    payload_halts (asked_relation (g.C.Comparator.agrees c.args.comparator.now) (g.C.Comparator.agrees_fully c.args.comparator.now) c.args.config.now.require_full_match)
+    c.args.config.now (settings_of c.args.settings.now) (place_of c.args.place.now) _ c.args.name.now c.args.content c.args.extension c.in-Some.extension error
+    (g.S.Store.files c.args.store.now) (g.S.Store.files c.assert_payload.new.store) (session_of c.args.session.now) c.in-Some.ensures.0 c.given_name-given.ensures h) c.assert_payload.ensures.halted
+
+pub returns-in-None-clause-halted : goal.returns-in-None-clause-halted
+returns-in-None-clause-halted g c = bad_halts _ c.args.config.now (settings_of c.args.settings.now) (place_of c.args.place.now) c.args.name.now c.args.content c.args.extension _ _ _ _ c.in-None.ensures
