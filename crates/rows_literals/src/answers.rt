@@ -40,7 +40,12 @@ fn add_outcome(alloc: Global, line: &mut Text, outcome: &Outcome) -> Result<(), 
     add_text_column(alloc, line, told.as_str())
 }
 
+/// Why there is no verdict; of a fault also the path that it names.
 fn add_refusal(alloc: Global, line: &mut Text, error: &AssertError) -> Result<(), OutOfMemory> {
+    if let AssertError::FileIo(path) = error {
+        let told = format!(in alloc; "! {error} {}", path.as_str())?;
+        return add_text_column(alloc, line, told.as_str());
+    }
     let told = format!(in alloc; "! {error}")?;
     add_text_column(alloc, line, told.as_str())
 }

@@ -2,12 +2,12 @@
 use crate::answers::add_answer;
 use crate::steps::place_in;
 use rows::{add_file, add_text_column, text_of};
+use rows_outside::FailingStore;
 use snap_assert::{
     AssertError, AutoName, BinarySnapshotValue, Config, DefaultComparator, Outcome, Session,
     Settings, SnapshotValue, assert_snapshot,
 };
 use snap_content::{Blob, OutOfMemory, Text};
-use snap_io::MemoryStore;
 use std::alloc::Global;
 
 /// The bytes of numbers, a blank between each two.
@@ -47,7 +47,7 @@ fn binary_value(alloc: Global, said: &str) -> Result<SnapshotValue, OutOfMemory>
 fn asserted(
     alloc: Global,
     session: &mut Session,
-    store: &mut MemoryStore,
+    store: &mut FailingStore,
     config: &Config,
     settings: &Settings,
     value: SnapshotValue,
@@ -69,7 +69,7 @@ fn add_value(
     alloc: Global,
     line: &mut Text,
     session: &mut Session,
-    store: &mut MemoryStore,
+    store: &mut FailingStore,
     config: &Config,
     settings: &Settings,
     value: SnapshotValue,
@@ -81,7 +81,7 @@ fn add_value(
 }
 
 /// Has a file with this text stand at the path.
-fn put(alloc: Global, store: &mut MemoryStore, said: &str) -> Result<(), OutOfMemory> {
+fn put(alloc: Global, store: &mut FailingStore, said: &str) -> Result<(), OutOfMemory> {
     let (path, text) = said.split_once('|').unwrap_or((said, ""));
     let text = text_of(alloc, text)?;
     store.put(&Text::from_str(alloc, path)?, text.as_str().as_bytes())
@@ -91,7 +91,7 @@ fn put(alloc: Global, store: &mut MemoryStore, said: &str) -> Result<(), OutOfMe
 fn add_shown(
     alloc: Global,
     line: &mut Text,
-    store: &MemoryStore,
+    store: &FailingStore,
     path: &str,
 ) -> Result<(), OutOfMemory> {
     line.push_ascii(alloc, "\t")?;
@@ -102,7 +102,7 @@ fn add_shown(
 fn add_bytes(
     alloc: Global,
     line: &mut Text,
-    store: &MemoryStore,
+    store: &FailingStore,
     path: &str,
 ) -> Result<(), OutOfMemory> {
     let Some(bytes) = store.get(&Text::from_str(alloc, path)?) else {
@@ -123,7 +123,7 @@ pub(crate) fn add_file_step(
     alloc: Global,
     line: &mut Text,
     session: &mut Session,
-    store: &mut MemoryStore,
+    store: &mut FailingStore,
     config: &Config,
     settings: &Settings,
     (word, said): (&str, &str),

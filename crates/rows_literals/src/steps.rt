@@ -1,19 +1,20 @@
 //! Assertions of literals one after the other, in the module `m` of the file `src/a.rs` below the workspace `w`.
 //!
 //! A column says what is done: `begin` and `end` open a block of duplicates and close one, after `info` the settings have an info whose key is a
-//! list, `fail CALL` lets that call of the store fail, and `FUNCTION LINE|REFERENCE|TEXT` asserts at this line of the function that the literal which
+//! list, `fail CALL` lets that call of the store fail, `done CALL` has it do what it is asked and tell that it failed, after `memory CALL` it tells that
+//! it is out of memory, and `FUNCTION LINE|REFERENCE|TEXT` asserts at this line of the function that the literal which
 //! reads as the reference stands for the text. Of files: `text NAME|TEXT` asserts the text for a file under this name, or under that of the function
 //! `m::test_foo` where there is none; `binary NAME.EXTENSION|NUMBERS` asserts the payload of these bytes, a blank between each two; `put PATH|TEXT`
 //! has a file stand at the path; `show PATH` adds the text of the file there, and `bytes PATH` its bytes.
 use crate::answers::add_answer;
 use crate::files::add_file_step;
 use rows::{add_file, add_text_column, text_of};
+use rows_outside::{FailingStore, Wrong};
 use snap_assert::{
     AssertError, Config, DefaultComparator, InlineValue, Outcome, Place, Session, Settings,
     SnapshotValue, assert_snapshot,
 };
 use snap_content::{Content, List, OutOfMemory, Pairs, Text};
-use snap_io::MemoryStore;
 use std::alloc::Global;
 
 /// A place at this line of the function.
@@ -35,7 +36,7 @@ pub(crate) fn place_in(
 fn asserted(
     alloc: Global,
     session: &mut Session,
-    store: &mut MemoryStore,
+    store: &mut FailingStore,
     config: &Config,
     settings: &Settings,
     column: &str,
@@ -63,7 +64,7 @@ fn add_assertion(
     alloc: Global,
     line: &mut Text,
     session: &mut Session,
-    store: &mut MemoryStore,
+    store: &mut FailingStore,
     config: &Config,
     settings: &Settings,
     column: &str,
@@ -82,11 +83,14 @@ fn listed(alloc: Global) -> Result<Content, OutOfMemory> {
     Ok(Content::Map(pairs))
 }
 
-/// Lets the call of this number fail.
-fn fail_at(alloc: Global, store: &mut MemoryStore, digits: &str) -> Result<(), OutOfMemory> {
-    let call = digits.parse::<u64>().unwrap_or(0);
-    store.fail_at(vec![in alloc; call]?);
-    Ok(())
+/// What a call that goes wrong does, after this word.
+fn wrong_after(word: &str) -> Option<Wrong> {
+    match word {
+        "fail" => Some(Wrong::Failed),
+        "done" => Some(Wrong::Done),
+        "memory" => Some(Wrong::OutOfMemory),
+        _ => None,
+    }
 }
 
 fn add_closed(alloc: Global, line: &mut Text, session: &mut Session) -> Result<(), OutOfMemory> {
@@ -103,15 +107,16 @@ fn add_step(
     alloc: Global,
     line: &mut Text,
     session: &mut Session,
-    store: &mut MemoryStore,
+    store: &mut FailingStore,
     config: &Config,
     settings: &Settings,
     column: &str,
 ) -> Result<(), anyhow::Error> {
-    if let Some(call) = column.strip_prefix("fail ") {
-        return Ok(fail_at(alloc, store, call)?);
-    }
     let step = column.split_once(' ').unwrap_or((column, ""));
+    if let Some(how) = wrong_after(step.0) {
+        store.go_wrong_at(how, step.1.parse().unwrap_or(0));
+        return Ok(());
+    }
     if add_file_step(alloc, line, session, store, config, settings, step)? {
         return Ok(());
     }
@@ -126,7 +131,7 @@ fn add_steps(
     alloc: Global,
     line: &mut Text,
     session: &mut Session,
-    store: &mut MemoryStore,
+    store: &mut FailingStore,
     config: &Config,
     (plain, informed): (&Settings, &Settings),
     steps: &str,
@@ -143,7 +148,7 @@ fn add_steps(
 }
 
 /// Adds the text of the file of records.
-fn add_records(alloc: Global, line: &mut Text, store: &MemoryStore) -> Result<(), OutOfMemory> {
+fn add_records(alloc: Global, line: &mut Text, store: &FailingStore) -> Result<(), OutOfMemory> {
     let path = Text::from_ascii(alloc, "w/src/.a.rs.pending-snap")?;
     line.push_ascii(alloc, "\t")?;
     add_file(alloc, line, store.get(&path))
@@ -158,7 +163,7 @@ fn line_of_steps(
 ) -> Result<Text, anyhow::Error> {
     let mut line = Text::empty();
     let mut session = Session::new(alloc);
-    let mut store = MemoryStore::new(alloc);
+    let mut store = FailingStore::new(alloc);
     add_steps(
         alloc,
         &mut line,

@@ -1,6 +1,6 @@
 //! What a line says of a run.
 use rows::{first_column, text_of};
-use rows_outside::{Outside, input_of, outside_of};
+use rows_outside::{Outside, Wrong, input_of, outside_of, wrong_named};
 use snap_content::{Blob, OutOfMemory, Text};
 use std::alloc::Global;
 
@@ -11,6 +11,8 @@ pub(crate) struct Case<'a> {
     pub outside: Outside,
     /// The number of the call of the store that fails.
     pub store: u32,
+    /// What the call of the store that goes wrong does, where each does in turn.
+    pub wrong: Wrong,
     /// How many runs follow each other over the same store.
     pub times: u32,
     pub input: &'a str,
@@ -26,6 +28,7 @@ pub(crate) fn case_of(columns: &str) -> Case<'_> {
         words,
         outside: outside_of(said),
         store: number_said(said, "store").unwrap_or(0),
+        wrong: wrong_named(word_said(said, "wrong")),
         times: number_said(said, "times").unwrap_or(1),
         input,
         files,
@@ -34,13 +37,18 @@ pub(crate) fn case_of(columns: &str) -> Case<'_> {
 
 /// The number that is said under this name, as in `store=3`.
 fn number_said(column: &str, name: &str) -> Option<u32> {
+    word_said(column, name).parse().ok()
+}
+
+/// The word that is said under this name, as in `wrong=done`; an empty one where none is.
+fn word_said<'a>(column: &'a str, name: &str) -> &'a str {
     for said in column.split(' ') {
-        let (word, digits) = said.split_once('=').unwrap_or((said, ""));
-        if word == name {
-            return digits.parse().ok();
+        let (found, word) = said.split_once('=').unwrap_or((said, ""));
+        if found == name {
+            return word;
         }
     }
-    None
+    ""
 }
 
 /// The files that stand in columns, each as its path and its bytes.

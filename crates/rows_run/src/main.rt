@@ -5,6 +5,9 @@
 //! - `run`: the words, how the outside behaves, the input, and the files before, each a path and its bytes. The store, the source and
 //!   the sink fail where the second column says so. The answer is the exit status, what the status says and the lines that were
 //!   written, of each run; how often the store failed; and how many files there are then, each with its path and its bytes.
+//! - `each`: the same once for each call of the store, which goes wrong in the first run as `wrong` in the second column says: `failed`,
+//!   `done` (it did what it was asked, and tells that it failed) or `memory`. Before each answer stands `call` with the number, and last
+//!   stands the run of which no call goes wrong, with `whole` before it.
 //! - `steady`: the same over forms that never fail, whose answer counts no faults.
 //! - `ends`: the same as `steady`, without the paths and the bytes of the files.
 //! - `long`: the words, and of how many line ends the input is. The answer ends with how many of them were not read.
@@ -20,6 +23,7 @@
 
 mod answers;
 mod cases;
+mod each;
 mod faulty;
 mod long;
 mod requests;
@@ -27,6 +31,7 @@ mod statuses;
 mod steady;
 mod usage;
 
+use crate::each::each_line;
 use crate::faulty::run_line;
 use crate::long::long_line;
 use crate::requests::request_line;
@@ -41,6 +46,7 @@ use std::alloc::Global;
 fn answer_case(alloc: Global, call: &str, columns: &str) -> Result<Text, anyhow::Error> {
     match call {
         "run" => run_line(alloc, columns),
+        "each" => each_line(alloc, columns),
         "steady" => steady_line(alloc, columns),
         "ends" => ends_line(alloc, columns),
         "long" => long_line(alloc, columns),
