@@ -4,6 +4,7 @@ mod Puttings
 mod Choosing
 mod Readings
 mod Stopping
+mod FilePlanning
 mod Planning
 mod OnePatch
 mod RecordPaths

@@ -1,6 +1,6 @@
 -- A plan, of what was read, or why there is none.
-use Rattle.snap_review.proofs.Prelude.{◌≡◌, ◌≢◌, ℕ, List, Option, None, Some, Result, Ok, Err, inl, inr, refl, subst, Files, Counted, IsTextFile, Found, Asks, HasNoPlan, PlanEnd, IsNoSource, IsUnasked, IsAccepted, IsUnaccepted, AcceptEnd, RejectEnd, SourcePlanEnd, NewLiteral, says_file_fault, ReviewOf, unplanned}
-use Rattle.snap_review.proofs.Readings.{file_in, file_told}
+use Rattle.snap_review.proofs.Prelude.{◌≡◌, ◌≢◌, ℕ, List, Option, None, Some, Result, Ok, Err, inl, inr, refl, subst, Files, Counted, IsTextFile, Found, Asks, HasNoPlan, PlanEnd, IsNoSource, IsUnasked, IsAccepted, IsUnaccepted, AcceptEnd, RejectEnd, SourcePlanEnd, NewLiteral, says_file_fault, ReviewOf}
+use Rattle.snap_review.proofs.FilePlanning.{unbegun_for}
 use Rattle.snap_review.specs.declared.plan.Plan.{Plan}
 use Rattle.snap_review.specs.declared.status.ReviewStatus.{ReviewStatus}
 use Rattle.snap_review.specs.declared.status.ReviewStatus.TheVariants as s
@@ -101,8 +101,4 @@ accept_counts waiting text changes (Err status) count h = unaccepted_counts text
 -- before anything begins memory may be out
 pub unbegun : (wanted : Option Request) (files : Option Files) (written : Option (List ℕ)) → wanted ≢ None → ReviewOf wanted s.OutOfMemory files files written written
 unbegun None files written some = absurd (some refl)
-unbegun (Some request) files written some = record {
-  found = record { waiting = file_in files request.waiting; source = file_in files request.path };
-  told = record { waiting_is = file_told files request.waiting; source_is = file_told files request.path };
-  end = unplanned tt refl refl;
-}
+unbegun (Some request) files written some = unbegun_for request.target request files written

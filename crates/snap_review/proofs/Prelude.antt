@@ -49,7 +49,7 @@ pub use Rattle.snap_store.specs.Reading.{IsTextFile, IsNoText}
 pub use Rattle.snap_review.specs.Carried.{StopsIn}
 pub use Rattle.snap_review.specs.Chosen.{latest_after, seen, seen_entry, asked_by, asked, wanted, chosen}
 pub use Rattle.snap_review.specs.Describe.{status_of, refused_as}
-pub use Rattle.snap_review.specs.Ends.{IsSaid, WorkEnd, IsStopped, IsCarriedOut, RunEnd, worked, unplanned, IsRunOf, says_file_fault, says_write_fault}
+pub use Rattle.snap_review.specs.Ends.{IsSaid, WorkEnd, IsStopped, IsCarriedOut, RunEnd, worked, unplanned, says_file_fault, says_write_fault}
 pub use Rattle.snap_review.specs.Planned.{Found, AreFound, Asks, IsMadeOf, IsAcceptance, IsRejection, IsPlannedBy, IsPlanned, IsUnread, HasNoSource, IsUnpatched, HasNoPlan, MadeEnd, IsAccepted, IsUnaccepted, AcceptEnd, IsPlanWith, RejectEnd, PlanEnd, IsPlanBy, written, changes_of, answer_line, answer_lines}
 pub use Rattle.snap_review.specs.Read.{IsFoundAt, IsUnasked, IsNoSource, SourceEnd, SourcePlanEnd}
 pub use Rattle.std.proofs.lemmas.Str.{chars-nil}

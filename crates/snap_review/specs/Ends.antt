@@ -9,7 +9,10 @@ use Rattle.snap_review.specs.Planned.{Found, AreFound, IsPlanned, HasNoPlan, cha
 use Rattle.snap_review.specs.declared.plan.Plan.{Plan}
 use Rattle.snap_review.specs.declared.status.ReviewStatus.{ReviewStatus}
 use Rattle.snap_review.specs.declared.status.ReviewStatus.TheVariants.{Done, BadWords, FileIo, WriteFault, OutOfMemory}
+use Rattle.snap_review.specs.FilePlanned.{IsFilePlan, HasNoFilePlan}
 use Rattle.snap_review.specs.declared.words.Request.{Request}
+use Rattle.snap_review.specs.declared.words.Target.{Target}
+use Rattle.snap_review.specs.declared.words.Target.TheVariants.{Literals, File}
 
 -- a status that tells that the store failed
 abbrev pub says_file_fault : ReviewStatus → Bool
@@ -43,17 +46,27 @@ WorkEnd changes lines (FileIo path) files files' written written' = IsStopped ch
 WorkEnd changes lines OutOfMemory files files' written written' = IsStopped changes None files files' written written'
 WorkEnd changes lines status files files' written written' = IsCarriedOut changes lines status files files' written written'
 
--- a plan was made and carried out as far as the status says; or there is none, and nothing has changed
-pub data RunEnd (request : Request) (found : Found) (status : ReviewStatus) (files files' : Option Files) (written written' : Option (List ℕ)) : Type 0 where
-  worked : (plan : Plan) → IsPlanned request found plan → WorkEnd (changes_of request plan) plan.lines status files files' written written'
-      → RunEnd request found status files files' written written'
-  unplanned : HasNoPlan request.command request found status → files' ≡ files → written' ≡ written → RunEnd request found status files files' written written'
+-- a plan was made and carried out as far as the status says; or there is none, for its reason, and nothing has changed
+pub data RunEnd (request : Request) (IsPlan : Plan → Type 0) (HasNone : ReviewStatus → Type 0) (status : ReviewStatus) (files files' : Option Files) (written written' : Option (List ℕ)) : Type 0 where
+  worked : (plan : Plan) → IsPlan plan → WorkEnd (changes_of request plan) plan.lines status files files' written written'
+      → RunEnd request IsPlan HasNone status files files' written written'
+  unplanned : HasNone status → files' ≡ files → written' ≡ written → RunEnd request IsPlan HasNone status files files' written written'
 
--- the run of a request over these files
-pub record IsRunOf (request : Request) (status : ReviewStatus) (files files' : Option Files) (written written' : Option (List ℕ)) : Type 0 where
+-- the run of a request for literals over these files
+pub record IsRunOfLiterals (request : Request) (status : ReviewStatus) (files files' : Option Files) (written written' : Option (List ℕ)) : Type 0 where
   pub found : Found
   pub told : AreFound request found files
-  pub end : RunEnd request found status files files' written written'
+  pub end : RunEnd request (IsPlanned request found) (HasNoPlan request.command request found) status files files' written written'
+
+-- the run of a request over these files, by what waits
+abbrev pub IsRunFor : Target → Request → ReviewStatus → Option Files → Option Files → Option (List ℕ) → Option (List ℕ) → Type 0
+IsRunFor Literals request status files files' written written' = IsRunOfLiterals request status files files' written written'
+IsRunFor File request status files files' written written' =
+    RunEnd request (IsFilePlan request.command request files) (HasNoFilePlan request.command request files) status files files' written written'
+
+-- the run of a request over these files
+abbrev pub IsRunOf : Request → ReviewStatus → Option Files → Option Files → Option (List ℕ) → Option (List ℕ) → Type 0
+IsRunOf request status files files' written written' = IsRunFor request.target request status files files' written written'
 
 -- wrong words begin nothing, and for others memory may be out before anything begins
 abbrev pub ReviewOf : Option Request → ReviewStatus → Option Files → Option Files → Option (List ℕ) → Option (List ℕ) → Type 0

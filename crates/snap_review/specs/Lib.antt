@@ -5,6 +5,9 @@ pub mod Describe
 pub mod Wanted
 pub mod Planned
 pub mod Read
+pub mod Strays
+pub mod FilePlanned
+pub mod Plans
 pub mod Carried
 pub mod Ends
 pub mod Program

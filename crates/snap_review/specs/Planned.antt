@@ -9,7 +9,10 @@ use Rattle.snap_io.specs.Changes.{Change, writes, removes}
 use Rattle.snap_io.specs.Files.{Files}
 use Rattle.snap_pending.specs.Loaded.{IsBatch, LoadRefused}
 use Rattle.snap_pending.specs.Pending.{Pending}
+use Rattle.snap_store.specs.Meta.{without_line}
 use Rattle.snap_store.specs.Reading.{IsTextFile, IsNoText}
+use Rattle.snap_store.specs.Saving.{saving}
+use Rattle.snap_store.specs.Views.{meta_in, contents_in}
 use Rattle.snap_review.specs.Chosen.{chosen}
 use Rattle.snap_review.specs.Patched.{IsPatched, IsRefused, RefusedFrom}
 use Rattle.snap_review.specs.declared.patching.NewLiteral.{NewLiteral}
@@ -17,7 +20,7 @@ use Rattle.snap_review.specs.declared.patching.Refusal as refusal
 use Rattle.snap_review.specs.declared.patching.Refusal.TheVariants as r
 use Rattle.snap_review.specs.declared.plan.Plan.{Plan}
 use Rattle.snap_review.specs.declared.plan.Put.{Put}
-use Rattle.snap_review.specs.declared.plan.Put.TheVariants.{Nothing, Source}
+use Rattle.snap_review.specs.declared.plan.Put.TheVariants.{Nothing, Source, Snapshot}
 use Rattle.snap_review.specs.declared.status.ReviewStatus.{ReviewStatus}
 use Rattle.snap_review.specs.declared.status.ReviewStatus.TheVariants.{Done, BadWords, NoPending, Unreadable, FileIo, NoSource, WriteFault, OutOfMemory, NotStable, NoLiteral, Stale, SameLiteral}
 use Rattle.snap_review.specs.declared.words.Command.{Command}
@@ -82,9 +85,10 @@ IsPlannedBy Reject request found plan = IsRejection request found plan
 abbrev pub IsPlanned : Request → Found → Plan → Type 0
 IsPlanned request found plan = IsPlannedBy request.command request found plan
 
--- what is written at the path of the request
+-- what is written at the path of the request: a snapshot, with its payload beside it, without the line of its assertion
 abbrev pub written : Request → Put → List Change
 written request Nothing = []
+written request (Snapshot held) = saving request.path (without_line (meta_in held)) (contents_in held)
 written request (Source made) = writes request.path (encode_utf8_all made) ∷ []
 
 -- what a plan changes: first what it puts, and then what it removes
@@ -178,7 +182,3 @@ pub record IsPlanBy (command : Command) (request : Request) (files : Option File
   pub found : Found
   pub told : AreFound request found files
   pub comes_to : PlanEnd command request found result
-
--- the same by the command of the request
-abbrev pub IsPlanOf : Request → Option Files → Result Plan ReviewStatus → Type 0
-IsPlanOf request files result = IsPlanBy request.command request files result

@@ -4,6 +4,9 @@ ghost use Rattle.snap_io.specs.Causes.{Counted, CountedIf};
 ghost use Rattle.snap_io.specs.Changes.{all_changed, removes, writes};
 ghost use Rattle.snap_io.specs.Outside.{Becomes};
 ghost use Rattle.snap_store.specs.Causes.{is_file_fault};
+ghost use Rattle.snap_store.specs.Meta.{without_line};
+ghost use Rattle.snap_store.specs.Saving.{saving};
+ghost use Rattle.snap_store.specs.Views.{contents_in, meta_in};
 ghost use Rattle.snap_review.specs.Carried.{StopsIn};
 ghost use Rattle.snap_review.specs.Ends.{IsSaid, WorkEnd, says_file_fault, says_write_fault};
 ghost use Rattle.snap_review.specs.Planned.{changes_of, written};
@@ -14,7 +17,7 @@ use crate::words::Request;
 use snap_content::{Error, Text};
 use snap_io::{Sink, Store};
 use snap_io_streams::streams::write_all;
-use snap_store::named;
+use snap_store::{Snapshot, named};
 use std::alloc::Global;
 
 /// Removes the files, one after the other.
@@ -49,6 +52,26 @@ fn put_source<S: Store>(alloc: Global, store: &mut S, path: &Text, made: &Text) 
     }
 }
 
+/// Writes the snapshot and its payload, without the line of its assertion.
+fn put_snapshot<S: Store>(
+    alloc: Global,
+    store: &mut S,
+    path: &Text,
+    snapshot: &Snapshot,
+) -> Result<(), Error>
+    ensures ok { OnOk result (Becomes (S.files store.old) (S.files store.new) (all_changed
+        (saving path.now (without_line (meta_in snapshot.now)) (contents_in snapshot.now)))) }
+    ensures stopped { IfErr result (λ error. StopsIn
+        (saving path.now (without_line (meta_in snapshot.now)) (contents_in snapshot.now)) error
+        (S.files store.old) (S.files store.new)) }
+    ensures cause { Counted is_file_fault (S.faults store.old) (S.faults store.new) result }
+{
+    match snapshot.save(alloc, store, path) {
+        Ok(()) => Ok(()),
+        Err(error) => Err(error),
+    }
+}
+
 /// Writes what is to be put.
 fn put<S: Store>(alloc: Global, store: &mut S, request: &Request, put: &Put) -> Result<(), Error>
     ensures ok { OnOk result (Becomes (S.files store.old) (S.files store.new)
@@ -60,6 +83,7 @@ fn put<S: Store>(alloc: Global, store: &mut S, request: &Request, put: &Put) -> 
     match put {
         Put::Nothing => Ok(()),
         Put::Source(made) => put_source(alloc, store, &request.path, made),
+        Put::Snapshot(snapshot) => put_snapshot(alloc, store, &request.path, snapshot),
     }
 }
 

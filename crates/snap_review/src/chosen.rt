@@ -37,16 +37,16 @@ fn copy_of(alloc: Global, text: Option<&str>) -> Result<Option<Text>, OutOfMemor
 }
 
 /// What the record asks for; none where it has no new text.
-fn wanted(alloc: Global, record: &PendingInlineSnapshot) -> Result<Option<NewLiteral>, OutOfMemory>
-    ensures { IfOk result (λ found. found ≡ wanted (pending_of record.now)) }
+fn wanted(alloc: Global, pending: &PendingInlineSnapshot) -> Result<Option<NewLiteral>, OutOfMemory>
+    ensures { IfOk result (λ found. found ≡ wanted (pending_of pending.now)) }
 {
-    let Some(new) = text_of(record.new_snapshot()) else {
+    let Some(new) = text_of(pending.new_snapshot()) else {
         return Ok(None);
     };
     let text = Text::from_str(alloc, new)?;
-    let old = copy_of(alloc, text_of(record.old_snapshot()))?;
+    let old = copy_of(alloc, text_of(pending.old_snapshot()))?;
     Ok(Some(NewLiteral {
-        line: record.line(),
+        line: pending.line(),
         text,
         old,
     }))

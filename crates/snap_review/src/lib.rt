@@ -1,15 +1,17 @@
-//! Review of what assertions of literals left waiting: the new texts are accepted into the source file, or rejected.
+//! Review of what assertions left waiting. New texts of literals are accepted into their source file, or rejected; a new snapshot file
+//! is accepted in place of the one beside it, or rejected.
 //! Records of changed literals wait beside the source file; each asks for a new literal in place of the first one behind an `@` from
 //! its line on. No Rust is parsed: an `@` in a comment counts.
 //!
 //! In the order in which data flows: `places` (where the first literal stands from a line on), `patching` (a source with new literals),
 //! `chosen` (what the records ask for), `words` (what is asked of the program), `status` (how a run ended), `reading` (the records and
-//! the source), `plan` (what is to be changed and answered), `carrying` (the plan carried out), `reviewing` (one run), `usage` and
-//! `invocation` (the program), `laws`.
+//! the source), `plan` (what is to be changed and answered), `strays` and `file_plan` (the same of a snapshot file), `carrying` (the plan carried
+//! out), `reviewing` (one run), `usage` and `invocation` (the program), `laws`.
 #![tactic(auto)]
 
 pub mod carrying;
 pub mod chosen;
+pub mod file_plan;
 pub mod invocation;
 pub mod laws;
 pub mod patching;
@@ -18,6 +20,7 @@ pub mod plan;
 pub mod reading;
 pub mod reviewing;
 pub mod status;
+pub mod strays;
 pub mod usage;
 pub mod words;
 

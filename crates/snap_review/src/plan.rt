@@ -1,9 +1,9 @@
-//! What a request is to change, and what is to be answered.
+//! What a request is to change, and what is to be answered: of literals.
 ghost use Rattle.std.specs.Prelude.{◌≡◌, [], ◌∷◌, IfOk};
 ghost use Rattle.std.specs.Str.{chars};
 ghost use Rattle.snap_io.specs.Causes.{Counted};
 ghost use Rattle.snap_review.specs.Ends.{says_file_fault};
-ghost use Rattle.snap_review.specs.Planned.{AcceptEnd, IsPlanBy, IsPlanOf, IsPlanWith, MadeEnd, RejectEnd, answer_line, answer_lines};
+ghost use Rattle.snap_review.specs.Planned.{AcceptEnd, IsPlanBy, IsPlanWith, MadeEnd, RejectEnd, answer_line, answer_lines};
 ghost use Rattle.snap_review.specs.Read.{IsFoundAt, SourcePlanEnd};
 ghost use Rattle.snap_review.specs.declared.words.Command.TheVariants.{Accept, Reject};
 
@@ -13,6 +13,7 @@ use crate::status::{ReviewStatus, refused};
 use crate::words::{Command, Request};
 use snap_content::{OutOfMemory, Text};
 use snap_io::Store;
+use snap_store::Snapshot;
 use std::alloc::Global;
 
 /// What is to be written.
@@ -21,6 +22,8 @@ pub enum Put {
     Nothing,
     /// A source with its new literals.
     Source(Text),
+    /// A snapshot that waited for its place.
+    Snapshot(Snapshot),
 }
 
 /// What is to be changed, and what is to be answered then.
@@ -29,7 +32,7 @@ pub struct Plan {
     pub put: Put,
     /// The paths of the files that go then, in this order.
     pub removals: Vec<Text>,
-    /// A line for each record that was accepted or rejected.
+    /// A line for each record that was accepted or rejected, or one for the file.
     pub lines: Text,
 }
 
@@ -169,13 +172,13 @@ fn rejection(alloc: Global, waiting: &Text, changes: &[NewLiteral]) -> Result<Pl
     }
 }
 
-/// The plan of the request. The store is not changed.
-pub fn plan_of<S: Store>(
+/// The plan of a request for literals. The store is not changed.
+pub fn plan_literals<S: Store>(
     alloc: Global,
     store: &mut S,
     request: &Request,
 ) -> Result<Plan, ReviewStatus>
-    ensures end { IsPlanOf request.now (S.files store.old) result }
+    ensures end { IsPlanBy request.now.command request.now (S.files store.old) result }
     ensures same { S.files store.new ≡ S.files store.old }
     ensures cause { Counted says_file_fault (S.faults store.old) (S.faults store.new) result }
 {

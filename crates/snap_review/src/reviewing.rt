@@ -1,16 +1,30 @@
 //! One run of a review.
 ghost use Rattle.std.specs.Prelude.{◌≡◌, Some};
-ghost use Rattle.snap_io.specs.Causes.{CountedIf};
+ghost use Rattle.snap_io.specs.Causes.{Counted, CountedIf};
 ghost use Rattle.snap_review.specs.Ends.{IsRunOf, ReviewOf, says_file_fault, says_write_fault};
+ghost use Rattle.snap_review.specs.Plans.{IsPlanOf};
 ghost use Rattle.snap_review.specs.Wanted.{wanted_by};
 
 use crate::carrying::carry_out;
-use crate::plan::plan_of;
+use crate::file_plan::plan_file;
+use crate::plan::{Plan, plan_literals};
 use crate::status::ReviewStatus;
-use crate::words::{Request, request_of};
+use crate::words::{Request, Target, request_of};
 use snap_content::Text;
 use snap_io::{Sink, Store};
 use std::alloc::Global;
+
+/// The plan of the request. The store is not changed.
+fn plan_of<S: Store>(alloc: Global, store: &mut S, request: &Request) -> Result<Plan, ReviewStatus>
+    ensures end { IsPlanOf request.now (S.files store.old) result }
+    ensures same { S.files store.new ≡ S.files store.old }
+    ensures cause { Counted says_file_fault (S.faults store.old) (S.faults store.new) result }
+{
+    match request.target {
+        Target::Literals => plan_literals(alloc, store, request),
+        Target::File => plan_file(alloc, store, request),
+    }
+}
 
 /// The run of a request.
 fn run<K: Sink, S: Store>(
@@ -26,15 +40,23 @@ fn run<K: Sink, S: Store>(
 {
     match plan_of(alloc, store, request) {
         Err(status) => status,
-        Ok(plan) => carry_out(alloc, request, &plan, sink, store),
+        Ok(plan) => {
+            let status = carry_out(alloc, request, &plan, sink, store);
+            drop(plan);
+            status
+        }
     }
 }
 
-/// Does what the words ask for, `accept SOURCE` or `reject SOURCE`, and writes a line for each record that was accepted or rejected.
+/// Does what the words ask for, `accept SOURCE`, `reject SOURCE`, `accept-file PATH` or `reject-file PATH`, and writes a line for each
+/// record that was accepted or rejected, or for the file.
 ///
 /// `accept` puts each new text that waits in place of the first literal behind an `@` from its line on, all lines being those of the
 /// source before, and then takes the file of the records away; `reject` does that alone. Where there is nothing to put, the source is
 /// not written.
+///
+/// `accept-file` saves the snapshot that waits at PATH with `.new`, and its payload, at PATH, without the line of its assertion. Then
+/// it takes away what payloads left there, PATH with `.new.` and more, and at last the file that waited; `reject-file` does that alone.
 pub fn review<K: Sink, S: Store>(
     alloc: Global,
     words: &[Text],

@@ -13,20 +13,25 @@ pub const VERSION: &str = "snap-review 0.1.0\n";
 
 /// The answer to `--help`.
 pub const USAGE: &str = "\
-Accepts or rejects what tests of literals left waiting.
+Accepts or rejects what snapshot tests left waiting.
 
 Usage: snap-review accept SOURCE
        snap-review reject SOURCE
+       snap-review accept-file PATH
+       snap-review reject-file PATH
        snap-review --help | --version
 
 SOURCE is a source file whose literals wait in .NAME.pending-snap beside it.
-  accept  puts each new text in place of the first literal behind an @, from
-          its line on, and removes the pending file
-  reject  removes the pending file
+  accept       puts each new text in place of the first literal behind an @,
+               from its line on, and removes the pending file
+  reject       removes the pending file
+PATH is the path of a snapshot that waits as PATH.new.
+  accept-file  saves it at PATH, and removes PATH.new and what goes with it
+  reject-file  removes these
 Lines are those of SOURCE as it is, so accept before you edit. An @ in a
 comment counts.
 
-Each answer is a line: accepted or rejected, and the line of SOURCE.
+Each answer is a line: accepted or rejected, and the line of SOURCE, or PATH.
 
 Exit status:
   0   done
