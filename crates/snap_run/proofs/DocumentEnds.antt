@@ -1,5 +1,5 @@
 -- What one document leaves.
-use Rattle.snap_run.proofs.Prelude.{◌≡◌, ◌⊎◌, ◌&&◌, not, inl, inr, Bool, true, false, ℕ, List, ◌++◌, map, Option, None, Some, refl, sym, ap, ◌∙◌, subst, Result, Ok, Err, encode_utf8_all, append-nil, Files, outside, HoldsFront, verdict_of, is_failure, SessionView, is_open, opened, closed, AssertionView, RequestView, asserts, begins, ends, Spells, ReadsAs, RunWords, place_by, settings_by, printed_by, assertion_by, line_text, line_by, course_line, course_files, MayPass, KeptBy, FaultIsOwn, is_written, may_change, words_of, RanOne, StopsAt, AssertionStops, IsInWork, IsRefusedWith, LineFails, IsMade, IsSeenFrom, name_in, path_in, CountedIf, is_store_fault, DocumentError, Outcome, Runner, passes_in, no_tally, Tally, Update, if◌then◌else◌, failed_verdict}
+use Rattle.snap_run.proofs.Prelude.{◌≡◌, ◌⊎◌, ◌&&◌, not, inl, inr, Bool, true, false, ℕ, List, ◌++◌, map, Option, None, Some, refl, sym, ap, ◌∙◌, subst, Result, Ok, Err, encode_utf8_all, append-nil, Files, outside, HoldsFront, verdict_of, is_failure, SessionView, is_open, opened, closed, AssertionView, RequestView, asserts, begins, ends, Spells, ReadsAs, RunWords, place_by, settings_by, printed_by, assertion_by, line_text, line_by, course_line, course_files, MayPass, KeptBy, FaultIsOwn, is_written, may_change, words_of, RanOne, StopsAt, AssertionStops, IsInWork, FileFails, MemoryFails, HaltsAt, config_by, IsRefusedWith, LineFails, IsMade, IsSeenFrom, name_in, path_in, CountedIf, is_store_fault, DocumentError, Outcome, Runner, passes_in, no_tally, Tally, Update, if◌then◌else◌, failed_verdict}
 use Rattle.std.specs.Result.{IfErr, OnOk, is_ok}
 use Rattle.snap_content.proofs.Booleans.{some_same}
 use Rattle.snap_content.specs.Tree.{Tree}
@@ -12,7 +12,11 @@ use Rattle.snap_assert_settings.specs.Settings.{SettingsView, settings_of, redac
 use Rattle.snap_assert_settings.specs.declared.settings.Settings.{Settings}
 use Rattle.snap_assert_settings.proofs.PlainRedactions.{plain_prints}
 use Rattle.snap_assert_place.specs.Place.{PlaceView}
-use Rattle.snap_assert.specs.Assertions.{Assertion, assertion_of}
+use Rattle.snap_io.specs.StandsAfter.{StandsAfter}
+use Rattle.snap_assert.specs.Assertions.{Assertion, assertion_of, asked_under}
+use Rattle.snap_assert.specs.Halts.{named_by, FaultIsLook, HaltsBy, looking, changing, PassesAsAllowed, IsHalted, IsUnbegun}
+use Rattle.snap_assert.specs.Settling.{settling}
+use Rattle.snap_assert.specs.Steps.{Asked}
 use Rattle.snap_assert.specs.Courses.{Course, Refused, course_of, named_course, cleared_at, session_after}
 use Rattle.snap_assert.specs.Listed.{IsCovered, IsKnown, StaysCovered}
 use Rattle.snap_assert.specs.declared.listed.Listed.{Listed}
@@ -36,6 +40,10 @@ use Rattle.snap_assert.specs.declared.error.AssertError.TheVariants as refusal
 -- nothing was changed, so what no work may change is as before
 pub nothing_done : (words : RunWords) (a : AssertionView) (session : SessionView) (f g : Option Files) → g ≡ f → IsInWork words a session f g
 nothing_done words a session f g same = record { kept = λ named is m told. kept_same (is_written words.update (path_in words a named.name)) (may_change words.update (path_in words a named.name)) m g (same ∙ told); untouched = λ refused is. same }
+
+-- and memory was out
+pub none_begun : (words : RunWords) (a : AssertionView) (session : SessionView) (f g : Option Files) → g ≡ f → MemoryFails words a session f g
+none_begun words a session f g same = record { work = nothing_done words a session f g same; halts = inl (λ named is. looking (λ m told. same ∙ told) tt) }
 
 -- what is printed with the redactions of a request is what the request prints
 pub printed_is : {X : Type 0} {P : X → Type 0} {Y : Type 0} {Q : Y → Type 0} {g : _} (objects : Objects X P) (settings : Settings X Y P Q g)
@@ -142,24 +150,69 @@ refused_with : (words : RunWords) (a : AssertionView) (k : RefusalKind) (e : Ass
     → IsInWork words a s f g → IsRefusedAs (assertion_by words a) e known g s t → IsSeenFrom f known (λ files. IsRefusedWith k words a s files g)
 refused_with words a k e s t f known g is of_store work r = refused_by words a k e s t f known g (name_in words a s) refl is of_store work r
 
+-- the configuration of a run is that of its words, but for the name of its records
+halts_by_words : (runner : Runner) (asked : Asked) (e : AssertError) (f g : Option Files) → HaltsBy (PassesAsAllowed runner.config asked) runner.config asked e f g
+    → HaltsBy (PassesAsAllowed (config_by (words_of runner)) asked) (config_by (words_of runner)) asked e f g
+halts_by_words runner asked e f g (looking same look) = looking same look
+halts_by_words runner asked e f g (changing passed strays all seen stands) =
+    changing passed strays all (λ m told. record { passes = (seen m told).passes; left = (seen m told).left }) stands
+
+-- an error without a path halts as want of memory does
+halts_unnamed : (words : RunWords) (asked : Asked) (e : AssertError) (f g : Option Files) → named_by e ≡ None → HaltsBy (PassesAsAllowed (config_by words) asked) (config_by words) asked e f g
+    → HaltsBy (PassesAsAllowed (config_by words) asked) (config_by words) asked refusal.OutOfMemory f g
+halts_unnamed words asked e f g none (looking same look) = looking same tt
+halts_unnamed words asked e f g none (changing passed strays all seen stands) =
+    changing passed strays all seen (subst (λ named. StandsAfter (settling words.update words.force_update asked passed strays) named f g) none stands)
+
+-- an assertion whose printed tree is some tree halts as that of the request does
+pub halted_by : {P : Tree → Type 0} → (runner : Runner) (a : AssertionView) (settings : SettingsView) (place : PlaceView) (given : Option (List ℕ)) (e : AssertError) (real f g : Option Files) (listed : Listed) (s : SessionView)
+    → settings ≡ settings_by a → place ≡ place_by runner.workspace a → given ≡ a.name → ((out : Tree) → P out → out ≡ printed_by a)
+    → IsKnown f real listed
+    → IsUnbegun e real g ⊎ ((printed : Tree) × P printed × ((known : Option Files) → IsKnown known real listed → IsHalted runner.config (assertion_of (blocks_if runner.config.literal) settings place given printed) e known g s))
+    → HaltsAt (words_of runner) a e s f g
+halted_by runner a settings place given e real f g listed s new is named prints held (inl u) =
+    λ name so. looking (λ m told. u.1 ∙ (held m told).0) (subst (λ x. FaultIsLook (asked_under (assertion_by (words_of runner) a) name.name).path f x) (sym u.0) tt)
+halted_by runner a settings place given e real f g listed s new is named prints held (inr x) =
+    let words = words_of runner in
+    λ name so. halts_by_words runner (asked_under (assertion_by words a) name.name) e f g
+    (subst (λ k. IsHalted runner.config k e f g s) (assertion_is settings place given words a x.0 new is named (prints x.0 x.1)) (x.2 f held) name so)
+
+-- a fault, of the files that are known where a name is taken
+fault_by : (words : RunWords) (a : AssertionView) (s : SessionView) (f known g : Option Files) (path : List ℕ) (named : Result Named AssertError) → name_in words a s ≡ named
+    → ((m : Files) → known ≡ Some m → f ≡ Some m) → IsInWork words a s f g → ((name : Named) → name_in words a s ≡ Ok name → FaultIsOwn words.update (path_in words a name.name) (refusal.FileIo path))
+    → HaltsAt words a (refusal.FileIo path) s known g → IsSeenFrom f known (λ files. FileFails words a s path files g)
+fault_by words a s f known g path (Err refused) is of_store work own halts = inl (record { work = work; own = own; halts = λ name so. absurd (let clash = sym is ∙ so in cc clash) })
+fault_by words a s f known g path (Ok named) is of_store work own halts =
+    inr (record { work = known_work words a s f known g of_store (λ refused none. let clash = sym is ∙ none in cc clash) work; own = own; halts = halts })
+
+-- want of memory, and the errors that an assertion of a tree doesn't come to
+memory_by : (words : RunWords) (a : AssertionView) (s : SessionView) (f known g : Option Files) (e : AssertError) (named : Result Named AssertError) → name_in words a s ≡ named → named_by e ≡ None
+    → ((m : Files) → known ≡ Some m → f ≡ Some m) → IsInWork words a s f g → HaltsAt words a e s known g → IsSeenFrom f known (λ files. MemoryFails words a s files g)
+memory_by words a s f known g e (Err refused) is none of_store work halts = inl (record { work = work; halts = inl (λ name so. absurd (let clash = sym is ∙ so in cc clash)) })
+memory_by words a s f known g e (Ok named) is none of_store work halts = inr (record {
+  work = known_work words a s f known g of_store (λ refused none. let clash = sym is ∙ none in cc clash) work;
+  halts = inl (λ name so. halts_unnamed words (asked_under (assertion_by words a) name.name) e known g none (halts name so));
+})
+
 -- an assertion is refused
 pub refused_stops : (words : RunWords) (a : AssertionView) (s t : SessionView) (f known g : Option Files) (e : AssertError) → ((m : Files) → known ≡ Some m → f ≡ Some m) → IsInWork words a s f g
-    → ((name : Named) → name_in words a s ≡ Ok name → FaultIsOwn words.update (path_in words a name.name) e)
+    → ((name : Named) → name_in words a s ≡ Ok name → FaultIsOwn words.update (path_in words a name.name) e) → HaltsAt words a e s known g
     → IsUnprinted e s t ⊎ IsStopped (assertion_by words a) e known g s t → IsSeenFrom f known (λ files. AssertionStops words (unanswered e) a s files g)
-refused_stops words a s t f known g (refusal.FileIo named) of_store work own h = inl (record { work = work; own = own })
-refused_stops words a s t f known g refusal.OutOfMemory of_store work own h = inl work
-refused_stops words a s t f known g refusal.NameClash of_store work own (inl u) = absurd (let clash = u.0 in cc clash)
-refused_stops words a s t f known g refusal.NameClash of_store work own (inr r) = refused_with words a kind.NameClash refusal.NameClash s t f known g refl of_store work r
-refused_stops words a s t f known g refusal.DoctestNeedsName of_store work own (inl u) = absurd (let clash = u.0 in cc clash)
-refused_stops words a s t f known g refusal.DoctestNeedsName of_store work own (inr r) = refused_with words a kind.DoctestNeedsName refusal.DoctestNeedsName s t f known g refl of_store work r
-refused_stops words a s t f known g (refusal.DuplicateDiffers key kept new) of_store work own (inl u) = absurd (let clash = u.0 in cc clash)
-refused_stops words a s t f known g (refusal.DuplicateDiffers key kept new) of_store work own (inr r) =
+refused_stops words a s t f known g (refusal.FileIo named) of_store work own halts h = fault_by words a s f known g named (name_in words a s) refl of_store work own halts
+refused_stops words a s t f known g refusal.OutOfMemory of_store work own halts h = memory_by words a s f known g refusal.OutOfMemory (name_in words a s) refl refl of_store work halts
+refused_stops words a s t f known g refusal.NameClash of_store work own halts (inl u) = absurd (let clash = u.0 in cc clash)
+refused_stops words a s t f known g refusal.NameClash of_store work own halts (inr r) = refused_with words a kind.NameClash refusal.NameClash s t f known g refl of_store work r
+refused_stops words a s t f known g refusal.DoctestNeedsName of_store work own halts (inl u) = absurd (let clash = u.0 in cc clash)
+refused_stops words a s t f known g refusal.DoctestNeedsName of_store work own halts (inr r) =
+    refused_with words a kind.DoctestNeedsName refusal.DoctestNeedsName s t f known g refl of_store work r
+refused_stops words a s t f known g (refusal.DuplicateDiffers key kept new) of_store work own halts (inl u) = absurd (let clash = u.0 in cc clash)
+refused_stops words a s t f known g (refusal.DuplicateDiffers key kept new) of_store work own halts (inr r) =
     refused_with words a kind.DuplicateDiffers (refusal.DuplicateDiffers key kept new) s t f known g refl of_store work r
-refused_stops words a s t f known g refusal.NamesExhausted of_store work own (inl u) = absurd (let clash = u.0 in cc clash)
-refused_stops words a s t f known g refusal.NamesExhausted of_store work own (inr r) = refused_with words a kind.NamesExhausted refusal.NamesExhausted s t f known g refl of_store work r
-refused_stops words a s t f known g refusal.InlineDuplicate of_store work own h = inl work
-refused_stops words a s t f known g refusal.BadExtension of_store work own h = inl work
-refused_stops words a s t f known g refusal.JsonKey of_store work own h = inl work
+refused_stops words a s t f known g refusal.NamesExhausted of_store work own halts (inl u) = absurd (let clash = u.0 in cc clash)
+refused_stops words a s t f known g refusal.NamesExhausted of_store work own halts (inr r) = refused_with words a kind.NamesExhausted refusal.NamesExhausted s t f known g refl of_store work r
+refused_stops words a s t f known g refusal.InlineDuplicate of_store work own halts h = memory_by words a s f known g refusal.InlineDuplicate (name_in words a s) refl refl of_store work halts
+refused_stops words a s t f known g refusal.BadExtension of_store work own halts h = memory_by words a s f known g refusal.BadExtension (name_in words a s) refl refl of_store work halts
+refused_stops words a s t f known g refusal.JsonKey of_store work own halts h = memory_by words a s f known g refusal.JsonKey (name_in words a s) refl refl of_store work halts
 
 pub refused_count : (before now : ℕ) (e : AssertError) → ErrorCause before now e → CountedIf (is_store_fault (unanswered e)) before now
 refused_count before now (refusal.FileIo named) cause = cause
@@ -233,7 +286,14 @@ line_fails words a outcome line bytes s t f g w v d told encoded wrote document 
 -- it was answered, and memory was out for its line
 pub no_line : (words : RunWords) (a : AssertionView) (outcome : Outcome) (s t : SessionView) (real f g : Option Files) (w : Option (List ℕ)) → IsMade words a outcome s t f g
     → (document : List ℕ) → ReadsAs document (asserts a) → IsSeenFrom real f (λ files. StopsAt words error.OutOfMemory document s (outside files w) (outside g w))
-no_line words a outcome s t real f g w d document reads = inr (refl, inr (record { assertion = a; reads = reads; is = d.work }))
+no_line words a outcome s t real f g w d document reads = inr (
+  refl,
+  inr (record {
+    assertion = a;
+    reads = reads;
+    is = record { work = d.work; halts = inr (record { passed = d.passed; course = d.course; course_is = d.course_is; allowed = d.allowed; stands = d.stands }) };
+  }),
+)
 
 -- the assertion of a document comes to no answer
 stops_in : (words : RunWords) (a : AssertionView) (e : DocumentError) (s : SessionView) (f g : Option Files) (w : Option (List ℕ)) → AssertionStops words e a s f g

@@ -21,7 +21,7 @@ pub use Rattle.snap_run.specs.Meaning.{meaning, meaning_by, a_text, a_run, a_dem
 pub use Rattle.snap_run.specs.Program.{message, IsSaid, IsRunOf}
 pub use Rattle.snap_run.specs.Refused.{status_at}
 pub use Rattle.snap_run.specs.Runner.{words_of}
-pub use Rattle.snap_run.specs.Runs.{StopsAt, Ran, AssertionStops, IsInWork, IsRefusedWith, LineFails, IsMade, IsSeenFrom, is_store_fault, Stopped, RanOne, name_in, path_in}
+pub use Rattle.snap_run.specs.Runs.{StopsAt, Ran, AssertionStops, IsInWork, FileFails, MemoryFails, HaltsAt, config_by, IsRefusedWith, LineFails, IsMade, IsSeenFrom, is_store_fault, Stopped, RanOne, name_in, path_in}
 pub use Rattle.snap_run.specs.Status.{RunsTo, AreSpelled, IsSteady, EndsWell, Ended, EndedBy, ended_status, WordsCause, RunsFrom, LengthCause, says_read_fault, says_write_fault, says_file_fault}
 pub use Rattle.snap_run.specs.declared.document_error.DocumentError.{DocumentError}
 pub use Rattle.snap_run.specs.declared.runner.Runner.{Runner}

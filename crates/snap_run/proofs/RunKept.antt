@@ -128,7 +128,7 @@ stop_keeps words (error.Refused kind) document s a b m h told = work_keeps words
 stop_keeps words (error.FileIo named) document s a b m h told = work_keeps words document h.1.assertion s m a.files b.files h.1.reads h.1.is.work told
 stop_keeps words error.WriteFault document s a b m h told = line_keeps words document s a b m h told
 stop_keeps words error.OutOfMemory document s a b m (written, inl same) told = same_keeps words (document ∷ []) s m a.files b.files same told
-stop_keeps words error.OutOfMemory document s a b m (written, inr h) told = work_keeps words document h.assertion s m a.files b.files h.reads h.is told
+stop_keeps words error.OutOfMemory document s a b m (written, inr h) told = work_keeps words document h.assertion s m a.files b.files h.reads h.is.work told
 
 spared_front : (words : RunWords) (test : Update → List ℕ → List ℕ → Bool) (q : List ℕ) (xs ys : List RequestView) (s : SessionView) → AreSpared words test q (xs ++ ys) s → AreSpared words test q xs s
 spared_front words test q [] ys s h = tt

@@ -9,13 +9,16 @@ use Rattle.snap_run.specs.Refused.{status_at, kind_of}
 use Rattle.snap_run.specs.Answers.{Answer, RunWords, place_by, settings_by, assertion_by, asked_by, is_taken, AreTaken, remembered_after, IsAllowed, step_by, line_by, requests_of, AreAllowed, files_after, lines_of, answer_fails, passes}
 use Rattle.snap_assert_place.specs.SnapshotPath.{path_of}
 use Rattle.snap_assert.specs.Courses.{Course, Refused, course_of, cleared_at}
+use Rattle.snap_assert.specs.Halts.{IsHalted}
 use Rattle.snap_assert.specs.Judging.{Allowed}
 use Rattle.snap_assert.specs.Names.{Named, name_step}
 use Rattle.snap_assert.specs.Session.{SessionView, is_open}
 use Rattle.snap_assert.specs.Steps.{step, verdict_of, is_failure}
 use Rattle.snap_assert.specs.Kept.{KeptBy, IsOwn}
 use Rattle.snap_assert.specs.declared.error.AssertError.{AssertError}
+use Rattle.snap_assert.specs.declared.error.AssertError.TheVariants as refusal
 use Rattle.snap_assert.specs.declared.outcome.Outcome.{Outcome}
+use Rattle.snap_assert_settings.specs.declared.config.Config.{Config}
 use Rattle.snap_run.specs.declared.document_error.DocumentError.{DocumentError}
 use Rattle.snap_run.specs.declared.document_error.DocumentError.TheVariants as error
 use Rattle.snap_run.specs.declared.status.RefusalKind.{RefusalKind}
@@ -52,10 +55,41 @@ pub record IsInWork (words : RunWords) (a : AssertionView) (session : SessionVie
   pub kept : (named : Named) → name_in words a session ≡ Ok named → KeptBy words.update (path_in words a named.name) files files'
   pub untouched : (refused : AssertError) → name_in words a session ≡ Err refused → files' ≡ files
 
+-- how a run treats its assertions; it makes no records
+abbrev pub config_by : RunWords → Config
+config_by words = record {
+  update = words.update;
+  force_update = words.force_update;
+  require_full_match = words.full;
+  force_pass = words.force_pass;
+  literal = words.literal;
+  run_id = [];
+}
+
+-- the assertion stopped with this error, and under the name that it takes the files are as it then leaves them: nothing was changed, and a
+-- fault was one of looking; or of its changes those before one are done, that one is in work, none behind it was begun, and a fault names
+-- its path
+abbrev pub HaltsAt : RunWords → AssertionView → AssertError → SessionView → Option Files → Option Files → Type 0
+HaltsAt words a error session files files' = IsHalted (config_by words) (assertion_by words a) error files files' session
+
 -- the store failed in that work at one of the assertion's own paths
 pub record FileFails (words : RunWords) (a : AssertionView) (session : SessionView) (named : List ℕ) (files files' : Option Files) : Type 0 where
   pub work : IsInWork words a session files files'
   pub own : (name : Named) → name_in words a session ≡ Ok name → IsOwn words.update (path_in words a name.name) named
+  pub halts : HaltsAt words a (refusal.FileIo named) session files files'
+
+-- the assertion was answered, and all its changes are done
+pub record IsAllDone (words : RunWords) (a : AssertionView) (session : SessionView) (files files' : Option Files) : Type 0 where
+  pub passed : Bool
+  pub course : Course
+  pub course_is : course_of (assertion_by words a) session ≡ Ok course
+  pub allowed : Given files (λ m. Allowed words.full (asked_by words a course.name) passed (get m (asked_by words a course.name).path))
+  pub stands : Becomes files files' (λ m. step words.update words.force_update (asked_by words a course.name) passed m)
+
+-- memory was out in that work, or after it, for its line
+pub record MemoryFails (words : RunWords) (a : AssertionView) (session : SessionView) (files files' : Option Files) : Type 0 where
+  pub work : IsInWork words a session files files'
+  pub halts : HaltsAt words a refusal.OutOfMemory session files files' ⊎ IsAllDone words a session files files'
 
 -- what is remembered refuses it, with this kind; what was pending is gone where a block refuses it
 pub record IsRefusedWith (kind : RefusalKind) (words : RunWords) (a : AssertionView) (session : SessionView) (files files' : Option Files) : Type 0 where
@@ -93,7 +127,7 @@ AssertionStops words error.NoRequest a session files files' = ⊥
 AssertionStops words (error.Refused kind) a session files files' = IsRefusedWith kind words a session files files'
 AssertionStops words (error.FileIo named) a session files files' = FileFails words a session named files files'
 AssertionStops words error.WriteFault a session files files' = ⊥
-AssertionStops words error.OutOfMemory a session files files' = IsInWork words a session files files'
+AssertionStops words error.OutOfMemory a session files files' = MemoryFails words a session files files'
 
 -- the document was read as an assertion, of which this holds
 pub record OfAssertion (document : List ℕ) (holds : AssertionView → Type 0) : Type 0 where
@@ -114,7 +148,7 @@ StopsAt words (error.FileIo named) document session before after =
     (after.written ≡ before.written) × OfAssertion document (λ a. FileFails words a session named before.files after.files)
 StopsAt words error.WriteFault document session before after = LineFails words document session before after
 StopsAt words error.OutOfMemory document session before after =
-    (after.written ≡ before.written) × ((after.files ≡ before.files) ⊎ OfAssertion document (λ a. IsInWork words a session before.files after.files))
+    (after.written ≡ before.written) × ((after.files ≡ before.files) ⊎ OfAssertion document (λ a. MemoryFails words a session before.files after.files))
 
 -- the documents before one were run, that one stops the run, and the status tells of it
 pub record Stopped (status : Status) (words : RunWords) (documents : List (List ℕ)) (session : SessionView) (before after : Outside) : Type 0 where

@@ -5,15 +5,15 @@ use Rattle.snap_store.specs.Meta.{shown_text}
 use Rattle.snap_assert_place.specs.Place.{place_of}
 use Rattle.snap_assert_settings.specs.Settings.{SettingsView, settings_of}
 use Rattle.snap_assert.specs.Session.{session_of}
-use Rattle.snap_run.proofs.DocumentEnds.{nothing_done, printed_is, assertion_is, made, in_work, own_in, refused_stops, stopped_by, refused_count}
+use Rattle.snap_run.proofs.DocumentEnds.{none_begun, printed_is, assertion_is, made, in_work, own_in, refused_stops, stopped_by, halted_by, refused_count}
 use Rattle.snap_run_requests.specs.RequestOf.{assertion_of}
 use Rattle.snap_run.proofs.documents.make_assertion.Goals as goal
 
 pub returns-in_default-clause-err : goal.returns-in_default-clause-err
-returns-in_default-clause-err g c = λ known held. inl (nothing_done _ _ _ _ _ refl)
+returns-in_default-clause-err g c = λ known held. inl (none_begun _ _ _ _ _ refl)
 
 pub returns-in_default-place_of_request-clause-err : goal.returns-in_default-place_of_request-clause-err
-returns-in_default-place_of_request-clause-err g c = λ known held. inl (nothing_done _ _ _ _ _ refl)
+returns-in_default-place_of_request-clause-err g c = λ known held. inl (none_begun _ _ _ _ _ refl)
 
 pub returns-clause-ok : goal.returns-clause-ok
 returns-clause-ok g c = λ known held.
@@ -48,6 +48,9 @@ returns-in_err-outcome-clause-err g c =
     (in_work settings place given words a s _ _ new c.in-Ok-place_of_request.ensures c.given_name.ensures
     c.in_err-outcome.ensures.kept (λ refused is. ap g.F.Store.files (c.in_err-outcome.ensures.untouched refused is)))
     (own_in settings place given words a s c.in_err-outcome.field-0.0 new c.in-Ok-place_of_request.ensures c.given_name.ensures c.in_err-outcome.ensures.named)
+    (halted_by c.args.runner.now a settings place given c.in_err-outcome.field-0.0 (g.F.Store.files c.args.store.now) known _ c.args.listed.now _ new c.in-Ok-place_of_request.ensures c.given_name.ensures
+    (λ out prints. printed_is _ c.set_snapshot_suffix.new.self c.args.assertion.redactions.items a out new (c.set_snapshot_suffix.ensures.redactions ∙ c.in-Ok.ensures.redactions) refl prints)
+    held c.in_err-outcome.ensures.halted)
     (stopped_by words a settings place given c.in_err-outcome.field-0.0 (g.F.Store.files c.args.store.now) known _ c.args.listed.now _ _ new c.in-Ok-place_of_request.ensures c.given_name.ensures
     (λ out prints. printed_is _ c.set_snapshot_suffix.new.self c.args.assertion.redactions.items a out new (c.set_snapshot_suffix.ensures.redactions ∙ c.in-Ok.ensures.redactions) refl prints)
     held c.in_err-outcome.ensures.stopped))
