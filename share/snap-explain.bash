@@ -2,10 +2,10 @@
 _snap_explain() {
   local word=${COMP_WORDS[COMP_CWORD]} at=2
   if [ "$COMP_CWORD" -eq 1 ]; then
-    COMPREPLY=($(compgen -W "stream mask front --help --version" -- "$word"))
+    COMPREPLY=($(compgen -W "stream unused mask front --help --version" -- "$word"))
     return 0
   fi
-  if [ "${COMP_WORDS[1]}" = stream ] && [ "$COMP_CWORD" -eq 2 ]; then
+  if { [ "${COMP_WORDS[1]}" = stream ] || [ "${COMP_WORDS[1]}" = unused ]; } && [ "$COMP_CWORD" -eq 2 ]; then
     COMPREPLY=($(compgen -d -- "$word"))
     return 0
   fi

@@ -21,7 +21,7 @@ end
 # Whether it is the workspace.
 function __snap_explain_at_workspace
     set -l words (commandline -opc)
-    test (count $words) -eq 2; and test "$words[2]" = stream
+    test (count $words) -eq 2; and contains -- "$words[2]" stream unused
 end
 
 # Whether it is a flag after the workspace.
@@ -43,6 +43,7 @@ end
 
 complete -c snap-explain -f
 complete -c snap-explain -n __snap_explain_at_first -a stream -d 'Say which requests are none or would not pass, and why'
+complete -c snap-explain -n __snap_explain_at_first -a unused -d 'Name the snapshots that no request asks for'
 complete -c snap-explain -n __snap_explain_at_workspace -a '(__fish_complete_directories)'
 complete -c snap-explain -n __snap_explain_at_flag -l json -d 'Write each finding as a JSON object'
 complete -c snap-explain -n __snap_explain_at_flag -l literal -d 'Print texts of several lines as literal blocks'

@@ -3,10 +3,10 @@
 _snap-explain() {
   local -i at=3
   if (( CURRENT == 2 )); then
-    compadd -- stream mask front --help --version
+    compadd -- stream unused mask front --help --version
     return
   fi
-  if [[ $words[2] == stream ]] && (( CURRENT == 3 )); then
+  if [[ $words[2] == (stream|unused) ]] && (( CURRENT == 3 )); then
     _files -/
     return
   fi

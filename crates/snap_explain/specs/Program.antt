@@ -7,6 +7,8 @@ use Rattle.snap_io_words.specs.Asked.{text_asked}
 use Rattle.snap_assert_settings.specs.Replaced.{ReplacementView}
 use Rattle.snap_mask.specs.Program.{IsNotBegun}
 use Rattle.snap_mask.specs.Rules.{rules_in}
+use Rattle.snap_explain_unused.specs.Runs.{UnusedRun, code_of as unused_code}
+use Rattle.snap_explain_unused.specs.declared.status.UnusedStatus.{UnusedStatus}
 use Rattle.snap_explain.specs.Findings.{LeavesOf}
 use Rattle.snap_explain.specs.Pages.{FrontRun}
 use Rattle.snap_explain.specs.Streams.{StreamRun, StreamWords, stream_at}
@@ -107,14 +109,19 @@ pub record IsRunOf (words : List (List ℕ)) (files : Option Files) (status : Ex
   pub front : (rest : List (List ℕ)) → front_words words ≡ Some rest → FrontRun rest status left left' written written'
   pub leaves : (rules : List ReplacementView) → asked_of words ≡ None → mask_rules words ≡ Some rules → LeavesOf rules status left written written'
 
--- the run of the words, where all arguments are texts, or no memory for them; and else wrong words. Nothing is begun but by the run
-abbrev pub RunOfArguments : Option (List (List ℕ)) → Option Files → ExplainStatus → Option (List ℕ) → Option (List ℕ) → Option (List ℕ) → Option (List ℕ) → Type 0
-RunOfArguments None files status left left' written written' = ((status ≡ BadWords) ⊎ (status ≡ OutOfMemory)) × IsNotBegun left left' written written'
-RunOfArguments (Some words) files status left left' written written' =
-    IsRunOf words files status left left' written written' ⊎ ((status ≡ OutOfMemory) × IsNotBegun left left' written written')
+-- the workspace in which unused files are to be named, after the word `unused`
+abbrev pub unused_of : List (List ℕ) → Option (List ℕ)
+unused_of (tool ∷ workspace ∷ []) = if bytes_eq tool (codes "unused") then Some workspace else None
+unused_of _ = None
 
--- how the program ended: with the exit status of one status, which is that of the run of its arguments
-pub record Ends (code : ℕ) (words : Option (List (List ℕ))) (files : Option Files) (left left' written written' : Option (List ℕ)) : Type 0 where
-  pub status : ExplainStatus
-  pub code_is : code ≡ code_of status
-  pub run : RunOfArguments words files status left left' written written'
+-- how the run of these words ended, by its exit status: it named unused files where they ask for that, and explained what else they ask for
+pub data EndsBy (code : ℕ) (words : List (List ℕ)) (files : Option Files) (left left' written written' : Option (List ℕ)) : Type 0 where
+  by_naming : (workspace : List ℕ) (ended : UnusedStatus) → unused_of words ≡ Some workspace → code ≡ unused_code ended → UnusedRun workspace files ended left left' written written'
+      → EndsBy code words files left left' written written'
+  by_explaining : (ended : ExplainStatus) → unused_of words ≡ None → code ≡ code_of ended → IsRunOf words files ended left left' written written' → EndsBy code words files left left' written written'
+
+-- how the program ended, by its exit status: as the run of the words, where all arguments are texts, or without memory for them; and else
+-- with that of wrong words. Nothing is begun but by the run
+abbrev pub Ends : ℕ → Option (List (List ℕ)) → Option Files → Option (List ℕ) → Option (List ℕ) → Option (List ℕ) → Option (List ℕ) → Type 0
+Ends code None files left left' written written' = ((code ≡ code_of BadWords) ⊎ (code ≡ code_of OutOfMemory)) × IsNotBegun left left' written written'
+Ends code (Some words) files left left' written written' = EndsBy code words files left left' written written' ⊎ ((code ≡ code_of OutOfMemory) × IsNotBegun left left' written written')

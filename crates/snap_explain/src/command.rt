@@ -1,37 +1,56 @@
 //! The run that the system's arguments ask for.
-ghost use Rattle.std.specs.Prelude.{◌≡◌};
+ghost use Rattle.std.specs.Prelude.{◌≡◌, option_copied};
 ghost use Rattle.snap_io_words.specs.Arguments.{arguments_of, words_given};
-ghost use Rattle.snap_explain.specs.Program.{Ends, RunOfArguments};
+ghost use Rattle.snap_explain.specs.Program.{Ends, EndsBy, unused_of};
 
 use crate::explaining::explain;
 use crate::status::ExplainStatus;
+use snap_content::Text;
+use snap_content::characters::is_same;
+use snap_explain_unused::name_unused;
 use snap_io::{Sink, Source, Store};
 use snap_io_words::words_in;
 use std::alloc::Global;
 use std::env::Args;
 use std::io;
 
-/// The status of the run that the arguments ask for. Arguments that are no texts are wrong words.
-pub fn explain_arguments<S: Source, K: Sink, F: Store>(
+/// The workspace in which unused files are to be named, where the words ask for that.
+fn unused_workspace(words: &[Text]) -> Option<&Text>
+    ensures { option_copied result ≡ unused_of words.now }
+{
+    match words {
+        [tool, workspace] => {
+            if is_same(tool.as_str(), "unused") {
+                Some(workspace)
+            } else {
+                None
+            }
+        }
+        _ => None,
+    }
+}
+
+/// The exit status of the run that the words ask for.
+fn code_by_words<S: Source, K: Sink, F: Store>(
     alloc: Global,
-    arguments: io::Result<Args<Global>>,
+    words: &[Text],
     source: &mut S,
     sink: &mut K,
     store: &mut F,
-) -> ExplainStatus
-    ensures run { RunOfArguments (words_given (arguments_of arguments)) (F.files store.old) result
-        (S.left source.old) (S.left source.new) (K.written sink.old) (K.written sink.new) }
+) -> u8
+    ensures run { EndsBy result words.now (F.files store.old) (S.left source.old)
+        (S.left source.new) (K.written sink.old) (K.written sink.new) }
     ensures same { F.files store.new ≡ F.files store.old }
 {
-    match words_in(alloc, arguments) {
-        Err(_) => ExplainStatus::OutOfMemory,
-        Ok(None) => ExplainStatus::BadWords,
-        Ok(Some(words)) => explain(alloc, &words, source, sink, store),
+    match unused_workspace(words) {
+        Some(workspace) => name_unused(alloc, workspace, source, sink, store).code(),
+        None => explain(alloc, words, source, sink, store).code(),
     }
 }
 
 /// All that the program does: the run that the arguments ask for. The answer is the exit status. The first argument is the
-/// program's name.
+/// program's name; arguments that are no texts are wrong words. After the word `unused` stands a workspace, in which the files are named
+/// that no request of the source asks for; all other words are those of `explain`.
 pub fn program<S: Source, K: Sink, F: Store>(
     alloc: Global,
     arguments: io::Result<Args<Global>>,
@@ -44,6 +63,9 @@ pub fn program<S: Source, K: Sink, F: Store>(
     // No file is changed.
     ensures same { F.files store.new ≡ F.files store.old }
 {
-    let status = explain_arguments(alloc, arguments, source, sink, store);
-    status.code()
+    match words_in(alloc, arguments) {
+        Err(_) => ExplainStatus::OutOfMemory.code(),
+        Ok(None) => ExplainStatus::BadWords.code(),
+        Ok(Some(words)) => code_by_words(alloc, &words, source, sink, store),
+    }
 }

@@ -16,6 +16,7 @@ pub const USAGE: &str = "\
 Says why input is refused, or would not pass. Nothing is changed.
 
 Usage: snap-explain stream WORKSPACE [--json] [--literal] < REQUESTS
+       snap-explain unused WORKSPACE < REQUESTS
        snap-explain mask [RULE...] < LINES
        snap-explain front COMMAND... < PAGE
        snap-explain --help | --version
@@ -26,6 +27,13 @@ why that is so: what is wrong with the file of its snapshot, or that it would
 end the run. Files are read, and none is changed. --literal is that of snap run.
 With --json each finding is a JSON object on a line, with a fixed word as its
 cause; the man page and docs/FORMAT.md list them.
+
+unused names each file that ends with .snap or .snap.new, in the folders of the
+snapshots that REQUESTS ask for, whose snapshot none of them asks for. Each path
+is a line, as xargs reads it: a backslash stands before a blank, a quote and a
+backslash. A path with an end of line in it is not named. Where a document is no
+request, or would end a run, nothing is named. The streams of a suite in shards,
+one after the other, are one stream.
 
 mask says of each line of LINES that snap-mask refuses by these rules why that
 is so. The rules are those of snap-mask --help.
@@ -45,9 +53,10 @@ the whole input, columns in characters. A line of LINES of more than 1,048,576
 bytes is the last that is read.
 
 Exit status:
-  0   nothing is refused, and all would pass
-  1   something is said
+  0   nothing is refused, and all would pass; or no file is unused
+  1   something is said, or a file is unused
   2   wrong words, or a selector of a rule that cannot be read
+  3   for unused, a document is no request, or would end a run: see stream
   5   a file could not be read
   6   the input could not be read
   7   the findings could not be written
