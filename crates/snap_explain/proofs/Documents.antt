@@ -1,38 +1,44 @@
 -- What was said of the documents so far, and of one more.
-use Rattle.snap_explain.proofs.Prelude.{◌≡◌, ℕ, suc, ◌+◌, ◌≤◌, ◌||◌, List, [], ◌∷◌, ◌++◌, Bool, true, false, Option, Some, Result, Ok, Err, length, take, drop, refl, sym, ap, ◌∙◌, arith, append_assoc, append-nil, length-append, subst, is_filled, Writes, SayError}
+use Rattle.snap_explain.proofs.Prelude.{◌≡◌, ℕ, suc, ◌+◌, ◌≤◌, ◌||◌, List, [], ◌∷◌, ◌++◌, Bool, true, false, cond, inl, inr, Option, Some, None, Result, Ok, Err, length, take, drop, refl, sym, ap, ◌∙◌, arith, append_assoc, append-nil, length-append, subst, is_filled, Writes, SayError}
 use Rattle.snap_explain.specs.declared.saying.SayError.TheVariants as say
 use Rattle.snap_explain.specs.declared.status.ExplainStatus.TheVariants as status
 use Rattle.snap_io.specs.Causes.{Counted, CountedIf}
 use Rattle.snap_io.specs.Files.{Files}
 use Rattle.snap_io_streams.specs.Streams.{TakesAtMost, input_limit as stream_limit}
-use Rattle.snap_assert.specs.Session.{SessionView, empty_session}
+use Rattle.snap_explain.specs.Asked.{Known, nothing_known}
 use Rattle.snap_run_requests.specs.Cut.{documents}
 use Rattle.snap_run_requests.specs.Requests.{RequestView, ReadsAs}
 use Rattle.snap_run_requests.specs.declared.fault.Reason.{Reason}
-use Rattle.snap_explain.specs.Json.{IsTroubleLine, refusal_in, trouble_in}
+use Rattle.snap_explain.specs.Json.{AreTroubleLines, earlier_line, note_lines, outside_line, refusal_in, trouble_in, trouble_lines}
 use Rattle.snap_explain.specs.declared.form.Form.{Form}
 use Rattle.snap_explain.specs.declared.form.Form.TheVariants.{Plain, Json}
 use Rattle.snap_explain.specs.declared.position.Place.{Place}
 use Rattle.snap_explain.specs.Streams.{StreamWords, IsNoRequest, IsRefusal, Said, TellsOf, Tells, DocumentEnds, ToldAll, ToldWithin, StreamTold, StreamLeaves, StreamLength, stream_status, whether_said}
 use Rattle.snap_explain.specs.Streams.TellsOf.{of_request, of_refusal, of_trouble}
 use Rattle.snap_explain.specs.Streams.Tells.{at_start as tells_nothing, at_document}
-use Rattle.snap_explain.specs.Troubles.{IsClear, HasTrouble, is_tell_file, is_tell_write}
+use Rattle.snap_run.specs.Answers.{RunWords, asked_by}
+use Rattle.snap_explain.specs.Notes.{has_file_word, has_word}
+use Rattle.snap_explain.specs.declared.notes.Notes.{Notes}
+use Rattle.snap_explain.specs.Troubles.{IsClear, HasTrouble, IsSaidAfter, is_tell_file, is_tell_write}
+use Rattle.snap_explain.specs.Troubles.HasTrouble.{stray as is_stray, refused as is_refused, said_of as passes_or_not}
 use Rattle.snap_explain.specs.Findings.{is_write_fault, says_read_fault, says_write_fault, says_file_fault}
 use Rattle.snap_explain.specs.declared.telling.TellError.{TellError}
 use Rattle.snap_explain.specs.declared.telling.TellError.TheVariants as tell
 use Rattle.snap_explain.specs.declared.trouble.Trouble.{Trouble}
+use Rattle.snap_explain.specs.declared.trouble.Trouble.TheVariants as trouble
+use Rattle.std.specs.Prelude.{is_some}
 use Rattle.snap_explain.proofs.Turns.{all_held, held_after, filled-append}
 
-tells_more : (words : StreamWords) (files : Option Files) (ds : List (List ℕ)) (d : List ℕ) (s s' : SessionView) (out said : List ℕ) → Tells words files ds s out → TellsOf words files (suc (length ds)) d s s' said
+tells_more : (words : StreamWords) (files : Option Files) (ds : List (List ℕ)) (d : List ℕ) (s s' : Known) (out said : List ℕ) → Tells words files ds s out → TellsOf words files (suc (length ds)) d s s' said
     → Tells words files (ds ++ d ∷ []) s' (out ++ said)
 tells_more words files ds d s s' out said h k = at_document (ds ++ d ∷ []) ds d s s' (out ++ said) out said h k refl refl
 
-counted : (words : StreamWords) (files : Option Files) (ds : List (List ℕ)) (number : ℕ) (d : List ℕ) (s s' : SessionView) (said : List ℕ) → number ≡ length ds → TellsOf words files (number + 1) d s s' said
+counted : (words : StreamWords) (files : Option Files) (ds : List (List ℕ)) (number : ℕ) (d : List ℕ) (s s' : Known) (said : List ℕ) → number ≡ length ds → TellsOf words files (number + 1) d s s' said
     → TellsOf words files (suc (length ds)) d s s' said
 counted words files ds number d s s' said is k = let next : number + 1 ≡ suc (length ds) = omega (arith, is) in subst (λ n. TellsOf words files n d s s' said) next k
 
 -- these documents at the front of the input were read, and what is said of them was written
-pub record ToldSoFar (words : StreamWords) (files : Option Files) (input w rest : List ℕ) (now : Option (List ℕ)) (number : ℕ) (session : SessionView) (found : Bool) : Type 0 where
+pub record ToldSoFar (words : StreamWords) (files : Option Files) (input w rest : List ℕ) (now : Option (List ℕ)) (number : ℕ) (session : Known) (found : Bool) : Type 0 where
   pub done : List (List ℕ)
   pub out : List ℕ
   pub cut : documents input ≡ done ++ documents rest
@@ -41,7 +47,7 @@ pub record ToldSoFar (words : StreamWords) (files : Option Files) (input w rest 
   pub told : now ≡ Some (w ++ out)
   pub found_is : found ≡ is_filled out
 
-pub told_start : (words : StreamWords) (files : Option Files) (input w : List ℕ) (now : Option (List ℕ)) (session : SessionView) → session ≡ empty_session → now ≡ Some w → ToldSoFar words files input w input now 0 session false
+pub told_start : (words : StreamWords) (files : Option Files) (input w : List ℕ) (now : Option (List ℕ)) (session : Known) → session ≡ nothing_known → now ≡ Some w → ToldSoFar words files input w input now 0 session false
 told_start words files input w now session fresh written = record {
   done = [];
   out = [];
@@ -59,10 +65,10 @@ one_more : (input d rest later : List ℕ) (done : List (List ℕ)) → document
 one_more input d rest later done cut first = cut ∙ ap (λ t. done ++ t) first ∙ sym (append_assoc done (d ∷ []) (documents later))
 
 -- what the writing of what is said of one document comes to, whatever was written before
-abbrev pub DocumentOf : StreamWords → Option Files → ℕ → List ℕ → SessionView → SessionView → Option (List ℕ) → Option (List ℕ) → Result Bool TellError → Type 0
+abbrev pub DocumentOf : StreamWords → Option Files → ℕ → List ℕ → Known → Known → Option (List ℕ) → Option (List ℕ) → Result Bool TellError → Type 0
 DocumentOf words files number document s s' now now' result = (v : List ℕ) → now ≡ Some v → DocumentEnds words files number document s s' v now' result
 
-pub told_more : (words : StreamWords) (files : Option Files) (input w rest d later : List ℕ) (now now' : Option (List ℕ)) (number : ℕ) (session session' : SessionView) (found this : Bool) → documents rest ≡ d ∷ documents later
+pub told_more : (words : StreamWords) (files : Option Files) (input w rest d later : List ℕ) (now now' : Option (List ℕ)) (number : ℕ) (session session' : Known) (found this : Bool) → documents rest ≡ d ∷ documents later
     → ToldSoFar words files input w rest now number session found → DocumentOf words files (number + 1) d session session' now now' (Ok this) → ToldSoFar words files input w later now' (number + 1) session' (found || this)
 told_more words files input w rest d later now now' number session session' found this first s r =
     let k = r (w ++ s.out) s.told in
@@ -76,11 +82,11 @@ told_more words files input w rest d later now now' number session session' foun
       found_is = ap (λ b. b || this) s.found_is ∙ ap (λ b. is_filled s.out || b) k.3 ∙ sym (filled-append s.out k.0);
     }
 
-pub told_end : (words : StreamWords) (files : Option Files) (input w rest : List ℕ) (now : Option (List ℕ)) (number : ℕ) (session : SessionView) (found : Bool) → length rest ≡ 0 → ToldSoFar words files input w rest now number session found
+pub told_end : (words : StreamWords) (files : Option Files) (input w rest : List ℕ) (now : Option (List ℕ)) (number : ℕ) (session : Known) (found : Bool) → length rest ≡ 0 → ToldSoFar words files input w rest now number session found
     → ToldAll words files input w now found
 told_end words files input w [] now number session found none s = record {
   out = s.out;
-  session = session;
+  known = session;
   tells = subst (λ ds. Tells words files ds session s.out) (sym (s.cut ∙ append-nil s.done)) s.tells;
   told = s.told;
   found_is = s.found_is;
@@ -88,19 +94,19 @@ told_end words files input w [] now number session found none s = record {
 told_end words files input w (b ∷ rest) now number session found none s = absurd (omega arith)
 
 -- nothing more was said
-told_before : (words : StreamWords) (files : Option Files) (input w rest : List ℕ) (now now' : Option (List ℕ)) (number : ℕ) (session : SessionView) (found : Bool) → (s : ToldSoFar words files input w rest now number session found)
+told_before : (words : StreamWords) (files : Option Files) (input w rest : List ℕ) (now now' : Option (List ℕ)) (number : ℕ) (session : Known) (found : Bool) → (s : ToldSoFar words files input w rest now number session found)
     → now' ≡ Some (w ++ s.out) → ToldWithin words files input w now'
 told_before words files input w rest now now' number session found s k =
-    record { done = s.done; later = documents rest; session = session; out = s.out; is = s.cut; tells = s.tells; part = all_held s.out w now' k }
+    record { done = s.done; later = documents rest; known = session; out = s.out; is = s.cut; tells = s.tells; part = all_held s.out w now' k }
 
-pub told_stop : (error : TellError) (words : StreamWords) (files : Option Files) (input w rest d later : List ℕ) (now now' : Option (List ℕ)) (number : ℕ) (session session' : SessionView) (found : Bool) → documents rest ≡ d ∷ documents later
+pub told_stop : (error : TellError) (words : StreamWords) (files : Option Files) (input w rest d later : List ℕ) (now now' : Option (List ℕ)) (number : ℕ) (session session' : Known) (found : Bool) → documents rest ≡ d ∷ documents later
     → ToldSoFar words files input w rest now number session found → DocumentOf words files (number + 1) d session session' now now' (Err error) → ToldWithin words files input w now'
 told_stop tell.WriteFault words files input w rest d later now now' number session session' found first s r =
     let k = r (w ++ s.out) s.told in
     record {
       done = s.done ++ d ∷ [];
       later = documents later;
-      session = session';
+      known = session';
       out = s.out ++ k.0;
       is = one_more input d rest later s.done s.cut first;
       tells = tells_more words files s.done d session session' s.out k.0 s.tells (counted words files s.done number d session session' k.0 s.number_is k.1);
@@ -110,7 +116,7 @@ told_stop tell.FileFault words files input w rest d later now now' number sessio
 told_stop tell.OutOfMemory words files input w rest d later now now' number session session' found first s r = told_before words files input w rest now now' number session found s (r (w ++ s.out) s.told)
 
 -- what is written of a finding
-pub said_of : {T : Type 0} → (result : Result T SayError) (holds : List ℕ → Type 0) (words : StreamWords) (files : Option Files) (number : ℕ) (document : List ℕ) (s s' : SessionView) (w : List ℕ) (now : Option (List ℕ))
+pub said_of : {T : Type 0} → (result : Result T SayError) (holds : List ℕ → Type 0) (words : StreamWords) (files : Option Files) (number : ℕ) (document : List ℕ) (s s' : Known) (w : List ℕ) (now : Option (List ℕ))
     → ((said : List ℕ) → holds said → TellsOf words files number document s s' said × (is_filled said ≡ true)) → Said holds w now result → DocumentEnds words files number document s s' w now (whether_said result)
 said_of (Ok done) holds words files number document s s' w now then h = (h.0, (then h.0 h.1).0, h.2, sym (then h.0 h.1).1)
 said_of (Err say.WriteFault) holds words files number document s s' w now then h = (h.0, (then h.0 h.1).0, h.2)
@@ -127,22 +133,53 @@ unfolding lib.Utf8.encode
 trouble_filled Plain number place what = refl
 trouble_filled Json number place what = refl
 
-pub refusal_said : {T : Type 0} → (result : Result T SayError) (words : StreamWords) (files : Option Files) (number : ℕ) (document : List ℕ) (s : SessionView) (w : List ℕ) (now : Option (List ℕ))
+-- so are the lines on a request that passes, where something is to be said of it
+note_filled : (form : Form) (number : ℕ) (place : Place) (notes : Notes) (file path : List ℕ) → has_word notes ≡ true → is_filled (note_lines form number place notes file path) ≡ true
+unfolding lib.Utf8.encode
+note_filled form number place notes file path worded = by form (has_file_word notes) notes.earlier notes.outside worded
+  where
+    by : (form : Form) (b : Bool) (earlier : Option ℕ) (outside : Bool) → b || (is_some earlier || outside) ≡ true
+        → is_filled (cond b (trouble_in form number place (trouble.Noted notes file path)) [] ++ (earlier_line form number place earlier file path ++ outside_line form number place outside file path)) ≡ true
+    by Plain true earlier outside h = refl
+    by Json true earlier outside h = refl
+    by Plain false (Some n) outside h = refl
+    by Json false (Some n) outside h = refl
+    by Plain false None true h = refl
+    by Json false None true h = refl
+    by Plain false None false h = cc
+    by Json false None false h = cc
+
+lines_filled : (form : Form) (number : ℕ) (place : Place) (words : RunWords) (files : Option Files) (s s' : Known) (r : RequestView) (what : Trouble) → HasTrouble words files number s s' r what
+    → is_filled (trouble_lines form number place what) ≡ true
+lines_filled form number place words files s s' r what (is_stray _ _ is told shut same) =
+    subst (λ w. is_filled (trouble_lines form number place w) ≡ true) (sym told) (trouble_filled form number place trouble.StrayEnd)
+lines_filled form number place words files s s' r what (is_refused _ a _ kind detail is told why) =
+    subst (λ w. is_filled (trouble_lines form number place w) ≡ true) (sym told) (trouble_filled form number place (trouble.Refused kind detail))
+lines_filled form number place words files s s' r what (passes_or_not _ a _ is on) = by on.is
+  where
+    by : IsSaidAfter words s files what (asked_by words a on.course.name) → is_filled (trouble_lines form number place what) ≡ true
+    by (inl h) =
+        subst (λ w. is_filled (trouble_lines form number place w) ≡ true) (sym h.why.is)
+        (trouble_filled form number place (trouble.Unpassed h.why.cause (asked_by words a on.course.name).path h.why.spelled h.why.detail))
+    by (inr h) =
+        subst (λ w. is_filled (trouble_lines form number place w) ≡ true) (sym h.is) (note_filled form number place h.notes (asked_by words a on.course.name).path h.spelled h.worded)
+
+pub refusal_said : {T : Type 0} → (result : Result T SayError) (words : StreamWords) (files : Option Files) (number : ℕ) (document : List ℕ) (s : Known) (w : List ℕ) (now : Option (List ℕ))
     → Said (IsRefusal words.form number document) w now result → DocumentEnds words files number document s s w now (whether_said result)
 refusal_said result words files number document s w now h =
     said_of result (IsRefusal words.form number document) words files number document s s w now (λ said r. (of_refusal r refl, ap is_filled r.is ∙ refusal_filled words.form number r.place r.why r.seen r.detail)) h
 
-pub trouble_said : {T : Type 0} → (result : Result T SayError) (words : StreamWords) (files : Option Files) (number : ℕ) (document : List ℕ) (s s' : SessionView) (w : List ℕ) (now : Option (List ℕ)) (r : RequestView) (what : Trouble)
-    → ReadsAs document r → HasTrouble words.run files s s' r what → Said (IsTroubleLine words.form number what) w now result → DocumentEnds words files number document s s' w now (whether_said result)
+pub trouble_said : {T : Type 0} → (result : Result T SayError) (words : StreamWords) (files : Option Files) (number : ℕ) (document : List ℕ) (s s' : Known) (w : List ℕ) (now : Option (List ℕ)) (r : RequestView) (what : Trouble)
+    → ReadsAs document r → HasTrouble words.run files number s s' r what → Said (AreTroubleLines words.form number what) w now result → DocumentEnds words files number document s s' w now (whether_said result)
 trouble_said result words files number document s s' w now r what reads has h =
-    said_of result (IsTroubleLine words.form number what) words files number document s s' w now (λ said line. (of_trouble r what reads has line, ap is_filled line.1 ∙ trouble_filled words.form number line.0 what)) h
+    said_of result (AreTroubleLines words.form number what) words files number document s s' w now (λ said line. (of_trouble r what reads has line, ap is_filled line.1 ∙ lines_filled words.form number line.0 words.run files s s' r what has)) h
 
-pub nothing_said_of : (words : StreamWords) (files : Option Files) (number : ℕ) (document : List ℕ) (s s' : SessionView) (w : List ℕ) (now : Option (List ℕ)) (r : RequestView) → ReadsAs document r → IsClear words.run files s s' r → now ≡ Some w
+pub nothing_said_of : (words : StreamWords) (files : Option Files) (number : ℕ) (document : List ℕ) (s s' : Known) (w : List ℕ) (now : Option (List ℕ)) (r : RequestView) → ReadsAs document r → IsClear words.run files number s s' r → now ≡ Some w
     → DocumentEnds words files number document s s' w now (Ok false)
 nothing_said_of words files number document s s' w now r reads clear e = ([], of_request r reads clear refl, e ∙ ap Some (sym (append-nil w)), refl)
 
 -- where nothing was said, the sink didn't fail
-pub unsaid : (error : TellError) (words : StreamWords) (files : Option Files) (number : ℕ) (document : List ℕ) (s s' : SessionView) (w : List ℕ) (now : Option (List ℕ)) → now ≡ Some w → is_tell_write error ≡ false
+pub unsaid : (error : TellError) (words : StreamWords) (files : Option Files) (number : ℕ) (document : List ℕ) (s s' : Known) (w : List ℕ) (now : Option (List ℕ)) → now ≡ Some w → is_tell_write error ≡ false
     → DocumentEnds words files number document s s' w now (Err error)
 unsaid tell.WriteFault words files number document s s' w now e other = cc
 unsaid tell.FileFault words files number document s s' w now e other = e
@@ -175,10 +212,10 @@ pub told_nothing : (words : StreamWords) (files : Option Files) (input w : List 
 told_nothing words files input w now told = record {
   done = [];
   later = documents input;
-  session = empty_session;
+  known = nothing_known;
   out = [];
   is = refl;
-  tells = tells_nothing [] empty_session [] refl refl refl;
+  tells = tells_nothing [] nothing_known [] refl refl refl;
   part = all_held [] w now (told ∙ ap Some (sym (append-nil w)));
 }
 
@@ -238,8 +275,8 @@ said_refusal (Err say.WriteFault) form number document why place seen detail w n
     (refusal_in form number place why seen detail, record { why = why; refused = refused; place = place; seen = seen; detail = detail; is = refl }, h)
 said_refusal (Err say.OutOfMemory) form number document why place seen detail w now refused h = h
 
-pub said_trouble : {T : Type 0} → (result : Result T SayError) (form : Form) (number : ℕ) (place : Place) (what : Trouble) (w : List ℕ) (now : Option (List ℕ)) → Writes (trouble_in form number place what) w now result
-    → Said (IsTroubleLine form number what) w now result
-said_trouble (Ok done) form number place what w now h = (trouble_in form number place what, (place, refl), h)
-said_trouble (Err say.WriteFault) form number place what w now h = (trouble_in form number place what, (place, refl), h)
+pub said_trouble : {T : Type 0} → (result : Result T SayError) (form : Form) (number : ℕ) (place : Place) (what : Trouble) (w : List ℕ) (now : Option (List ℕ)) → Writes (trouble_lines form number place what) w now result
+    → Said (AreTroubleLines form number what) w now result
+said_trouble (Ok done) form number place what w now h = (trouble_lines form number place what, (place, refl), h)
+said_trouble (Err say.WriteFault) form number place what w now h = (trouble_lines form number place what, (place, refl), h)
 said_trouble (Err say.OutOfMemory) form number place what w now h = h

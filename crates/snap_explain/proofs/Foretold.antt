@@ -1,6 +1,6 @@
 -- What would become of a request.
 use Rattle.snap_explain.proofs.Prelude.{◌≡◌, ℕ, List, Bool, true, false, Option, Some, None, Result, Ok, Err, refl, sym, ap, ◌∙◌, subst, inr}
-use Rattle.std.specs.Prelude.{IfOk, MatchOption, is_some}
+use Rattle.std.specs.Prelude.{IfOk, OnOk, MatchOption, is_some}
 use Rattle.snap_content.specs.List.{items_of}
 use Rattle.snap_print.specs.Spell.{spell_text}
 use Rattle.snap_store.specs.Image.{pending_path}
@@ -19,6 +19,8 @@ use Rattle.snap_store.specs.declared.snapshot.Snapshot.{Snapshot}
 use Rattle.snap_assert.specs.Outcomes.{ErrorCause}
 use Rattle.snap_assert.specs.Previews.{IsForeseen, IsPreviewed, IsStoppedBefore}
 use Rattle.snap_assert.specs.Session.{SessionView, is_open, opened, closed}
+use Rattle.snap_explain.specs.Asked.{Seen, Known, asked_before, deeper, first_asker, known_behind, known_within, shallower, told_first, with_asker}
+use Rattle.snap_explain.specs.Outside.{is_outside}
 use Rattle.snap_assert.specs.Steps.{Asked}
 use Rattle.snap_assert.specs.declared.error.AssertError.{AssertError}
 use Rattle.snap_assert.specs.declared.error.AssertError.TheVariants as refusal
@@ -28,7 +30,7 @@ use Rattle.snap_run.specs.Refused.{kind_of}
 use Rattle.snap_run.specs.declared.status.RefusalKind.{RefusalKind}
 use Rattle.snap_run.specs.declared.status.RefusalKind.TheVariants.{NameClash, DoctestNeedsName, DuplicateDiffers, NamesExhausted}
 use Rattle.snap_run_requests.specs.Requests.{AssertionView, RequestView, asserts, begins, ends, ReadsAs}
-use Rattle.snap_explain.specs.Troubles.{IsOfFile, IsCauseOf, IsContentCause, ComesTo, PassesWith, Passes, IsNoted, IsSaidFor, IsUnpassed, IsUnpassedBy, GoesOn, IsClear, HasTrouble, IsRefusedFor, RefusesFor, unforeseen, unread, is_tell_file}
+use Rattle.snap_explain.specs.Troubles.{IsOfFile, IsCauseOf, IsContentCause, ComesTo, PassesWith, Passes, IsNoted, IsSaidFor, PassesAfter, IsSaidAfter, IsUnpassed, IsUnpassedBy, GoesOn, IsClear, HasTrouble, IsRefusedFor, RefusesFor, unforeseen, unread, is_tell_file}
 use Rattle.snap_explain.specs.Troubles.IsClear.{passes, begin, end}
 use Rattle.snap_explain.specs.Troubles.HasTrouble.{stray, refused, said_of}
 use Rattle.snap_explain.specs.declared.telling.TellError.{TellError}
@@ -48,77 +50,99 @@ is_unpassed fully asked preview files what is why seen = record {
 }
 
 -- what is foreseen is a pass, of which these are to be said
-pub passes_with : (fully : Bool) (asked : Asked) (preview : Preview) (files : Option Files) (notes : Notes) (pending : Bool) → preview.judged.passed ≡ true → notes ≡ notes_by pending (items_of preview.judged.warnings)
-    → Given files (λ m. pending ≡ is_some (get m (pending_path preview.path))) → IsForeseen fully asked preview files → Given files (λ m. PassesWith fully asked notes m)
-passes_with fully asked preview files notes pending is told waits seen = λ m here. record {
+pub passes_with : (workspace : List ℕ) (earlier : Option ℕ) (fully : Bool) (asked : Asked) (preview : Preview) (files : Option Files) (notes : Notes) (pending outside : Bool) → preview.judged.passed ≡ true
+    → notes ≡ notes_by pending (items_of preview.judged.warnings) earlier outside → outside ≡ is_outside workspace preview.path
+    → Given files (λ m. pending ≡ is_some (get m (pending_path preview.path))) → IsForeseen fully asked preview files → Given files (λ m. PassesWith workspace earlier fully asked notes m)
+passes_with workspace earlier fully asked preview files notes pending outside is told out waits seen = λ m here. record {
   judged = preview.judged;
   compared = seen.judged m here;
   passed = is;
-  told = told ∙ ap (λ b. notes_by b (items_of preview.judged.warnings)) (waits m here ∙ ap (λ path. is_some (get m (pending_path path))) seen.path);
+  told =
+      told ∙ ap (λ b. notes_by b (items_of preview.judged.warnings) earlier outside) (waits m here ∙ ap (λ path. is_some (get m (pending_path path))) seen.path)
+      ∙ ap (notes_by (is_some (get m (pending_path asked.path))) (items_of preview.judged.warnings) earlier) (out ∙ ap (is_outside workspace) seen.path);
 }
 
-pub is_noted : (found : Option Trouble) (fully : Bool) (asked : Asked) (preview : Preview) (files : Option Files) (notes : Notes)
+pub is_noted : (found : Option Trouble) (workspace : List ℕ) (earlier : Option ℕ) (fully : Bool) (asked : Asked) (preview : Preview) (files : Option Files) (notes : Notes)
     → MatchOption found (has_word notes ≡ false) (λ what. (has_word notes ≡ true) × (what ≡ trouble.Noted notes preview.path (spell_text preview.path)))
-    → Given files (λ m. PassesWith fully asked notes m) → IsForeseen fully asked preview files → MatchOption found (Passes fully asked files) (λ what. IsNoted fully asked files what)
-is_noted None fully asked preview files notes h holds seen = record { notes = notes; holds = holds; silent = h }
-is_noted (Some what) fully asked preview files notes h holds seen =
+    → Given files (λ m. PassesWith workspace earlier fully asked notes m) → IsForeseen fully asked preview files
+    → MatchOption found (Passes workspace earlier fully asked files) (λ what. IsNoted workspace earlier fully asked files what)
+is_noted None workspace earlier fully asked preview files notes h holds seen = record { notes = notes; holds = holds; silent = h }
+is_noted (Some what) workspace earlier fully asked preview files notes h holds seen =
     record { notes = notes; spelled = spell_text preview.path; is = h.1 ∙ ap (λ path. trouble.Noted notes path (spell_text preview.path)) seen.path; path_is = ap spell_text seen.path; holds = holds; worded = h.0 }
 
-said_pass : (found : Option Trouble) (fully : Bool) (asked : Asked) (files : Option Files) → MatchOption found (Passes fully asked files) (λ what. IsNoted fully asked files what)
-    → MatchOption found (Passes fully asked files) (λ what. IsSaidFor fully asked files what)
-said_pass None fully asked files h = h
-said_pass (Some what) fully asked files h = inr h
+said_pass : (found : Option Trouble) (workspace : List ℕ) (earlier : Option ℕ) (fully : Bool) (asked : Asked) (files : Option Files)
+    → MatchOption found (Passes workspace earlier fully asked files) (λ what. IsNoted workspace earlier fully asked files what)
+    → MatchOption found (Passes workspace earlier fully asked files) (λ what. IsSaidFor workspace earlier fully asked files what)
+said_pass None workspace earlier fully asked files h = h
+said_pass (Some what) workspace earlier fully asked files h = inr h
 
-pub passes_said : (result : Result (Option Trouble) TellError) (preview : Preview) (files : Option Files) → preview.judged.passed ≡ true
-    → IfOk result (λ found. (fully : Bool) (asked : Asked) → preview.judged.passed ≡ true → IsForeseen fully asked preview files → MatchOption found (Passes fully asked files) (λ what. IsNoted fully asked files what))
-    → IfOk result (λ found. (fully : Bool) (asked : Asked) → IsForeseen fully asked preview files → MatchOption found (Passes fully asked files) (λ what. IsSaidFor fully asked files what))
-passes_said (Ok found) preview files is h = λ fully asked seen. said_pass found fully asked files (h fully asked is seen)
-passes_said (Err error) preview files is h = tt
+-- what an assertion would come to, by what is foreseen of it, after these documents
+abbrev pub IsFound : List ℕ → Seen → Preview → Option Files → Option Trouble → Type 0
+IsFound workspace seen preview files found =
+    (fully : Bool) (asked : Asked) → IsForeseen fully asked preview files → MatchOption found (Passes workspace (asked_before asked.path seen) fully asked files) (λ what. IsSaidFor workspace (asked_before asked.path seen) fully asked files what)
+
+pub passes_said : (result : Result (Option Trouble) TellError) (workspace : List ℕ) (seen : Seen) (depth : ℕ) (first : Option ℕ) (preview : Preview) (files : Option Files) → preview.judged.passed ≡ true
+    → first ≡ first_asker preview.path seen → depth ≡ seen.depth
+    → IfOk result (λ found. (fully : Bool) (asked : Asked) → preview.judged.passed ≡ true → IsForeseen fully asked preview files
+    → MatchOption found (Passes workspace (told_first first depth) fully asked files) (λ what. IsNoted workspace (told_first first depth) fully asked files what))
+    → IfOk result (λ found. IsFound workspace seen preview files found)
+passes_said (Ok found) workspace seen depth first preview files is asks same h = λ fully asked foreseen.
+    let told : told_first first depth ≡ asked_before asked.path seen =
+    ap (λ f. told_first f depth) (asks ∙ ap (λ path. first_asker path seen) foreseen.path) ∙ ap (told_first (first_asker asked.path seen)) same in
+    subst (λ earlier. MatchOption found (Passes workspace earlier fully asked files) (λ what. IsSaidFor workspace earlier fully asked files what)) told
+    (said_pass found workspace (told_first first depth) fully asked files (h fully asked is foreseen))
+passes_said (Err error) workspace seen depth first preview files is asks same h = tt
 
 -- the assertion goes on, and what is foreseen of it
-goes_on : (words : RunWords) (a : AssertionView) (preview : Preview) (files : Option Files) (s s' : SessionView) (asks : Asked → Type 0) → (p : IsPreviewed words.full (assertion_by words a) preview files s s')
-    → ((asked : Asked) → IsForeseen words.full asked preview files → asks asked) → GoesOn words a s s' asks
-goes_on words a preview files s s' asks p then = record { course = p.course; course_is = p.course_is; remembered = p.remembered; is = then (asked_by words a p.course.name) p.foreseen }
+goes_on : (words : RunWords) (number : ℕ) (a : AssertionView) (preview : Preview) (files : Option Files) (k k' : Known) (asks : Asked → Type 0) → (p : IsPreviewed words.full (assertion_by words a) preview files k.session k'.session)
+    → k'.seen ≡ with_asker number preview.path k.seen → ((asked : Asked) → IsForeseen words.full asked preview files → asks asked) → GoesOn words number a k k' asks
+goes_on words number a preview files k k' asks p seen then = record {
+  course = p.course;
+  course_is = p.course_is;
+  remembered = p.remembered;
+  seen = seen ∙ ap (λ path. with_asker number path k.seen) p.foreseen.path;
+  is = then (asked_by words a p.course.name) p.foreseen;
+}
 
-pub of_preview : (found : Option Trouble) (words : RunWords) (a : AssertionView) (preview : Preview) (files : Option Files) (s s' : SessionView) → IsPreviewed words.full (assertion_by words a) preview files s s'
-    → ((asked : Asked) → IsForeseen words.full asked preview files → MatchOption found (Passes words.full asked files) (λ what. IsSaidFor words.full asked files what))
-    → MatchOption found (IsClear words files s s' (asserts a)) (λ what. HasTrouble words files s s' (asserts a) what)
-of_preview None words a preview files s s' p found = passes (asserts a) a refl (goes_on words a preview files s s' (λ asked. Passes words.full asked files) p found)
-of_preview (Some what) words a preview files s s' p found = said_of (asserts a) a what refl (goes_on words a preview files s s' (λ asked. IsSaidFor words.full asked files what) p found)
+of_preview : (found : Option Trouble) (words : RunWords) (number : ℕ) (a : AssertionView) (preview : Preview) (files : Option Files) (k k' : Known) → IsPreviewed words.full (assertion_by words a) preview files k.session k'.session
+    → k'.seen ≡ with_asker number preview.path k.seen → IsFound words.workspace k.seen preview files found
+    → MatchOption found (IsClear words files number k k' (asserts a)) (λ what. HasTrouble words files number k k' (asserts a) what)
+of_preview None words number a preview files k k' p seen found = passes (asserts a) a refl (goes_on words number a preview files k k' (PassesAfter words k files) p seen (found words.full))
+of_preview (Some what) words number a preview files k k' p seen found = said_of (asserts a) a what refl (goes_on words number a preview files k k' (IsSaidAfter words k files what) p seen (found words.full))
 
-pub found_in_preview : (result : Result (Option Trouble) TellError) (words : RunWords) (a : AssertionView) (preview : Preview) (files : Option Files) (s s' : SessionView) → IsPreviewed words.full (assertion_by words a) preview files s s'
-    → IfOk result (λ found. (fully : Bool) (asked : Asked) → IsForeseen fully asked preview files → MatchOption found (Passes fully asked files) (λ what. IsSaidFor fully asked files what))
-    → IfOk result (λ found. MatchOption found (IsClear words files s s' (asserts a)) (λ what. HasTrouble words files s s' (asserts a) what))
-found_in_preview (Ok found) words a preview files s s' p h = of_preview found words a preview files s s' p (h words.full)
-found_in_preview (Err error) words a preview files s s' p h = tt
+pub found_in_preview : (result : Result (Option Trouble) TellError) (words : RunWords) (number : ℕ) (a : AssertionView) (preview : Preview) (files : Option Files) (k k' : Known)
+    → IsPreviewed words.full (assertion_by words a) preview files k.session k'.session → OnOk result (k'.seen ≡ with_asker number preview.path k.seen) → IfOk result (λ found. IsFound words.workspace k.seen preview files found)
+    → IfOk result (λ found. MatchOption found (IsClear words files number k k' (asserts a)) (λ what. HasTrouble words files number k k' (asserts a) what))
+found_in_preview (Ok found) words number a preview files k k' p seen h = of_preview found words number a preview files k k' p seen h
+found_in_preview (Err error) words number a preview files k k' p seen h = tt
 
 -- an assertion that is refused is in trouble
-refusal_is : (kind : RefusalKind) (words : RunWords) (a : AssertionView) (files : Option Files) (s s' : SessionView) (found : Option Trouble) → IsRefusedFor words a s s' kind → RefusesFor (Ok kind) found
-    → MatchOption found (IsClear words files s s' (asserts a)) (λ what. HasTrouble words files s s' (asserts a) what)
-refusal_is kind words a files s s' found h k =
-    subst (λ f. MatchOption f (IsClear words files s s' (asserts a)) (λ what. HasTrouble words files s s' (asserts a) what)) (sym k.1)
-    (refused (asserts a) a (trouble.Refused kind k.0) kind k.0 refl refl h)
+refusal_is : (kind : RefusalKind) (words : RunWords) (number : ℕ) (a : AssertionView) (files : Option Files) (k k' : Known) (found : Option Trouble) → IsRefusedFor words a k k' kind → RefusesFor (Ok kind) found
+    → MatchOption found (IsClear words files number k k' (asserts a)) (λ what. HasTrouble words files number k k' (asserts a) what)
+refusal_is kind words number a files k k' found h t =
+    subst (λ f. MatchOption f (IsClear words files number k k' (asserts a)) (λ what. HasTrouble words files number k k' (asserts a) what)) (sym t.1)
+    (refused (asserts a) a (trouble.Refused kind t.0) kind t.0 refl refl h)
 
-of_stop : (e : AssertError) (words : RunWords) (a : AssertionView) (files : Option Files) (s s' : SessionView) (found : Option Trouble) → IsStoppedBefore (assertion_by words a) e s s' → RefusesFor (unforeseen e) found
-    → MatchOption found (IsClear words files s s' (asserts a)) (λ what. HasTrouble words files s s' (asserts a) what)
-of_stop refusal.OutOfMemory words a files s s' found h k = absurd k
-of_stop (refusal.FileIo path) words a files s s' found h k = absurd k
-of_stop refusal.NameClash words a files s s' found h k = refusal_is NameClash words a files s s' found
-    (record { refused = h.refused; course_is = h.course_is; kind_is = ap kind_of h.error_is; remembered = h.remembered }) k
-of_stop refusal.DoctestNeedsName words a files s s' found h k = refusal_is DoctestNeedsName words a files s s' found
-    (record { refused = h.refused; course_is = h.course_is; kind_is = ap kind_of h.error_is; remembered = h.remembered }) k
-of_stop (refusal.DuplicateDiffers key kept new) words a files s s' found h k = refusal_is DuplicateDiffers words a files s s' found
-    (record { refused = h.refused; course_is = h.course_is; kind_is = ap kind_of h.error_is; remembered = h.remembered }) k
-of_stop refusal.NamesExhausted words a files s s' found h k = refusal_is NamesExhausted words a files s s' found
-    (record { refused = h.refused; course_is = h.course_is; kind_is = ap kind_of h.error_is; remembered = h.remembered }) k
-of_stop refusal.InlineDuplicate words a files s s' found h k = absurd k
-of_stop refusal.BadExtension words a files s s' found h k = absurd k
-of_stop refusal.JsonKey words a files s s' found h k = absurd k
+of_stop : (e : AssertError) (words : RunWords) (number : ℕ) (a : AssertionView) (files : Option Files) (k k' : Known) (found : Option Trouble) → IsStoppedBefore (assertion_by words a) e k.session k'.session → k'.seen ≡ k.seen → RefusesFor (unforeseen e) found
+    → MatchOption found (IsClear words files number k k' (asserts a)) (λ what. HasTrouble words files number k k' (asserts a) what)
+of_stop refusal.OutOfMemory words number a files k k' found h same t = absurd t
+of_stop (refusal.FileIo path) words number a files k k' found h same t = absurd t
+of_stop refusal.NameClash words number a files k k' found h same t = refusal_is NameClash words number a files k k' found
+    (record { refused = h.refused; course_is = h.course_is; kind_is = ap kind_of h.error_is; remembered = h.remembered; seen = same }) t
+of_stop refusal.DoctestNeedsName words number a files k k' found h same t = refusal_is DoctestNeedsName words number a files k k' found
+    (record { refused = h.refused; course_is = h.course_is; kind_is = ap kind_of h.error_is; remembered = h.remembered; seen = same }) t
+of_stop (refusal.DuplicateDiffers key kept new) words number a files k k' found h same t = refusal_is DuplicateDiffers words number a files k k' found
+    (record { refused = h.refused; course_is = h.course_is; kind_is = ap kind_of h.error_is; remembered = h.remembered; seen = same }) t
+of_stop refusal.NamesExhausted words number a files k k' found h same t = refusal_is NamesExhausted words number a files k k' found
+    (record { refused = h.refused; course_is = h.course_is; kind_is = ap kind_of h.error_is; remembered = h.remembered; seen = same }) t
+of_stop refusal.InlineDuplicate words number a files k k' found h same t = absurd t
+of_stop refusal.BadExtension words number a files k k' found h same t = absurd t
+of_stop refusal.JsonKey words number a files k k' found h same t = absurd t
 
-pub stopped : (result : Result (Option Trouble) TellError) (e : AssertError) (words : RunWords) (a : AssertionView) (files : Option Files) (s s' : SessionView) → IsStoppedBefore (assertion_by words a) e s s'
-    → IfOk result (λ found. RefusesFor (unforeseen e) found) → IfOk result (λ found. MatchOption found (IsClear words files s s' (asserts a)) (λ what. HasTrouble words files s s' (asserts a) what))
-stopped (Ok found) e words a files s s' h k = of_stop e words a files s s' found h k
-stopped (Err error) e words a files s s' h k = tt
+pub stopped : (result : Result (Option Trouble) TellError) (e : AssertError) (words : RunWords) (number : ℕ) (a : AssertionView) (files : Option Files) (k k' : Known) → IsStoppedBefore (assertion_by words a) e k.session k'.session → k'.seen ≡ k.seen
+    → IfOk result (λ found. RefusesFor (unforeseen e) found) → IfOk result (λ found. MatchOption found (IsClear words files number k k' (asserts a)) (λ what. HasTrouble words files number k k' (asserts a) what))
+stopped (Ok found) e words number a files k k' h same t = of_stop e words number a files k k' found h same t
+stopped (Err error) e words number a files k k' h same t = tt
 
 -- and leaves the count of the store's faults, but for a fault
 pub stop_counts : (e : AssertError) (before now : ℕ) → ErrorCause before now e → Counted is_tell_file before now (unforeseen e)
@@ -133,16 +157,21 @@ stop_counts refusal.BadExtension before now h = h
 stop_counts refusal.JsonKey before now h = h
 
 -- a block begins, or ends where one is open
-pub begun : (result : Result (Option Trouble) TellError) (words : RunWords) (files : Option Files) (s s' : SessionView) (r : RequestView) → r ≡ begins → IfOk result (λ found. (found ≡ None) × (s' ≡ opened s))
-    → IfOk result (λ found. MatchOption found (IsClear words files s s' r) (λ what. HasTrouble words files s s' r what))
-begun (Ok found) words files s s' r is h = subst (λ f. MatchOption f (IsClear words files s s' r) (λ what. HasTrouble words files s s' r what)) (sym h.0) (begin r is h.1)
-begun (Err error) words files s s' r is h = tt
+pub known_is : (k other : Known) → k.session ≡ other.session → k.seen ≡ other.seen → k ≡ other
+known_is k other a b = ap (λ s. record { session = s; seen = k.seen }) a ∙ ap (λ s. record { session = other.session; seen = s }) b
 
-pub ended : (found : Option Trouble) (words : RunWords) (files : Option Files) (s s' : SessionView) (r : RequestView) → r ≡ ends
-    → MatchOption found ((is_open s ≡ true) × (s' ≡ closed s)) (λ what. (what ≡ trouble.StrayEnd) × ((is_open s ≡ false) × (s' ≡ s)))
-    → MatchOption found (IsClear words files s s' r) (λ what. HasTrouble words files s s' r what)
-ended None words files s s' r is h = end r is h.0 h.1
-ended (Some what) words files s s' r is h = stray r what is h.0 h.1.0 h.1.1
+pub begun : (result : Result (Option Trouble) TellError) (words : RunWords) (files : Option Files) (number : ℕ) (k k' : Known) (r : RequestView) → r ≡ begins → IfOk result (λ found. (found ≡ None) × (k'.session ≡ opened k.session))
+    → OnOk result (k'.seen ≡ deeper k.seen) → IfOk result (λ found. MatchOption found (IsClear words files number k k' r) (λ what. HasTrouble words files number k k' r what))
+begun (Ok found) words files number k k' r is h seen =
+    subst (λ f. MatchOption f (IsClear words files number k k' r) (λ what. HasTrouble words files number k k' r what)) (sym h.0) (begin r is (known_is k' (known_within k) h.1 seen))
+begun (Err error) words files number k k' r is h seen = tt
+
+pub ended : (found : Option Trouble) (words : RunWords) (files : Option Files) (number : ℕ) (k k' : Known) (r : RequestView) → r ≡ ends
+    → MatchOption found ((is_open k.session ≡ true) × ((k'.session ≡ closed k.session) × (k'.seen ≡ shallower k.seen)))
+    (λ what. (what ≡ trouble.StrayEnd) × ((is_open k.session ≡ false) × ((k'.session ≡ k.session) × (k'.seen ≡ k.seen))))
+    → MatchOption found (IsClear words files number k k' r) (λ what. HasTrouble words files number k k' r what)
+ended None words files number k k' r is h = end r is h.0 (known_is k' (known_behind k) h.1.0 h.1.1)
+ended (Some what) words files number k k' r is h = stray r what is h.0 h.1.0 (known_is k' k h.1.1.0 h.1.1.1)
 
 -- an assertion that was read is made in a file
 pub of_file : (document : List ℕ) (r : RequestView) → ReadsAs document r → IsOfFile r

@@ -6,3 +6,4 @@ mod Pages
 mod Asking
 mod Foretold
 mod Shown
+mod Askers

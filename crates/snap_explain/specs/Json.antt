@@ -1,5 +1,5 @@
 -- Findings as JSON: an object on a line, with a fixed word for each cause.
-use Rattle.std.specs.Prelude.{◌≡◌, ℕ, List, ◌++◌, Option, None, Some, codes, encode_utf8_all}
+use Rattle.std.specs.Prelude.{◌≡◌, ℕ, Bool, List, [], ◌++◌, Option, None, Some, codes, decimal, encode_utf8_all, if◌then◌else◌}
 use Rattle.std.specs.Str.{chars}
 use Rattle.snap_content.specs.Tree.{Tree, string, u64, map, TreePairs, no_pairs, pair}
 use Rattle.snap_emit.specs.declared.refusal.Refusal.{Refusal}
@@ -16,10 +16,12 @@ use Rattle.snap_run_requests.specs.declared.fault.RedactionFault.TheVariants as 
 use Rattle.snap_run_requests.specs.declared.fault.Reason.{Reason}
 use Rattle.snap_run_requests.specs.declared.fault.Reason.TheVariants as reason
 use Rattle.snap_store.specs.MetaTree.{text_pair}
-use Rattle.snap_explain.specs.Refusals.{reason_text, refusal_text}
+use Rattle.snap_explain.specs.Notes.{earlier_text, has_file_word, outside_text}
+use Rattle.snap_explain.specs.Refusals.{place_text, reason_text, refusal_text}
 use Rattle.snap_explain.specs.Troubles.{trouble_text, trouble_line}
 use Rattle.snap_explain.specs.declared.form.Form.{Form}
 use Rattle.snap_explain.specs.declared.form.Form.TheVariants.{Plain, Json}
+use Rattle.snap_explain.specs.declared.notes.Notes.{Notes}
 use Rattle.snap_explain.specs.declared.position.Place.{Place}
 use Rattle.snap_explain.specs.declared.trouble.Cause.{Cause}
 use Rattle.snap_explain.specs.declared.trouble.Cause.TheVariants as cause
@@ -148,6 +150,36 @@ abbrev pub trouble_in : Form → ℕ → Place → Trouble → List ℕ
 trouble_in Plain number place what = trouble_line number place what
 trouble_in Json number place what = finding_line (trouble_tree number place what)
 
--- such a line, with some place
-abbrev pub IsTroubleLine : Form → ℕ → Trouble → List ℕ → Type 0
-IsTroubleLine form number what said = (place : Place) × (said ≡ trouble_in form number place what)
+-- a line that tells this of a request that passes, by its word and with the path of its file, which is told as it is and as a scalar is
+-- spelled
+abbrev pub word_line : Form → ℕ → Place → List ℕ → List ℕ → List ℕ → List ℕ → List ℕ
+word_line Plain number place word text file path = codes "document " ++ decimal number ++ codes ", " ++ place_text place ++ codes ": " ++ text ++ codes ": " ++ encode_utf8_all path ++ codes "\n"
+word_line Json number place word text file path =
+    finding_line (finding_tree number place (chars word) None None (Some file) (chars (text ++ codes ": " ++ encode_utf8_all path)))
+
+-- the line on the earlier document that asks for the same path, where there is one
+abbrev pub earlier_line : Form → ℕ → Place → Option ℕ → List ℕ → List ℕ → List ℕ
+earlier_line form number place None file path = []
+earlier_line form number place (Some earlier) file path = word_line form number place (codes "asked-twice") (earlier_text earlier) file path
+
+-- the line on a path that leaves the workspace
+abbrev pub outside_line : Form → ℕ → Place → Bool → List ℕ → List ℕ → List ℕ
+outside_line form number place outside file path = if outside then word_line form number place (codes "outside-workspace") outside_text file path else []
+
+-- the line on the file
+abbrev pub file_line : Form → ℕ → Place → Notes → List ℕ → List ℕ → List ℕ
+file_line form number place notes file path = if has_file_word notes then trouble_in form number place (trouble.Noted notes file path) else []
+
+-- all lines on a request that passes
+abbrev pub note_lines : Form → ℕ → Place → Notes → List ℕ → List ℕ → List ℕ
+note_lines form number place notes file path =
+    file_line form number place notes file path ++ (earlier_line form number place notes.earlier file path ++ outside_line form number place notes.outside file path)
+
+-- what is said of a request, as lines: one, but for a request that passes, of which each word has its own
+abbrev pub trouble_lines : Form → ℕ → Place → Trouble → List ℕ
+trouble_lines form number place (trouble.Noted notes file path) = note_lines form number place notes file path
+trouble_lines form number place what = trouble_in form number place what
+
+-- such lines, with some place
+abbrev pub AreTroubleLines : Form → ℕ → Trouble → List ℕ → Type 0
+AreTroubleLines form number what said = (place : Place) × (said ≡ trouble_lines form number place what)

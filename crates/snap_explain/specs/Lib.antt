@@ -4,6 +4,8 @@ pub mod Reasons
 pub mod Findings
 pub mod Runs
 pub mod LineEnds
+pub mod Asked
+pub mod Outside
 pub mod Notes
 pub mod Refusals
 pub mod Troubles

@@ -6,12 +6,12 @@ use Rattle.snap_run_requests.specs.Cut.{documents}
 use Rattle.snap_run_requests.specs.Faults.{IsReason}
 use Rattle.snap_run_requests.specs.Requests.{RequestView, ReadsAs, Spells}
 use Rattle.snap_io.specs.Files.{Files}
-use Rattle.snap_assert.specs.Session.{SessionView, empty_session}
 use Rattle.snap_assert_settings.specs.declared.config.Update.TheVariants.{NoUpdate}
 use Rattle.snap_run.specs.Answers.{RunWords, words_at}
 use Rattle.snap_run_requests.specs.declared.fault.Reason.{Reason}
+use Rattle.snap_explain.specs.Asked.{Known, nothing_known}
 use Rattle.snap_explain.specs.Findings.{is_filled}
-use Rattle.snap_explain.specs.Json.{refusal_in, IsTroubleLine}
+use Rattle.snap_explain.specs.Json.{refusal_in, AreTroubleLines}
 use Rattle.snap_explain.specs.Troubles.{IsClear, HasTrouble}
 use Rattle.snap_explain.specs.declared.form.Form.{Form}
 use Rattle.snap_explain.specs.declared.telling.TellError.{TellError}
@@ -48,17 +48,17 @@ pub record IsRefusal (form : Form) (number : ℕ) (document said : List ℕ) : T
 
 -- what is said of the document with this number: nothing where it is read as a request that would pass, or begins or ends a block; and
 -- else why it is no request, which changes nothing that is remembered, or why that request would not pass
-pub data TellsOf (words : StreamWords) (files : Option Files) (number : ℕ) (document : List ℕ) (session session' : SessionView) (said : List ℕ) : Type 0 where
-  of_request : (r : RequestView) → ReadsAs document r → IsClear words.run files session session' r → said ≡ [] → TellsOf words files number document session session' said
-  of_refusal : IsRefusal words.form number document said → session' ≡ session → TellsOf words files number document session session' said
-  of_trouble : (r : RequestView) (what : Trouble) → ReadsAs document r → HasTrouble words.run files session session' r what → IsTroubleLine words.form number what said
-      → TellsOf words files number document session session' said
+pub data TellsOf (words : StreamWords) (files : Option Files) (number : ℕ) (document : List ℕ) (known known' : Known) (said : List ℕ) : Type 0 where
+  of_request : (r : RequestView) → ReadsAs document r → IsClear words.run files number known known' r → said ≡ [] → TellsOf words files number document known known' said
+  of_refusal : IsRefusal words.form number document said → known' ≡ known → TellsOf words files number document known known' said
+  of_trouble : (r : RequestView) (what : Trouble) → ReadsAs document r → HasTrouble words.run files number known known' r what → AreTroubleLines words.form number what said
+      → TellsOf words files number document known known' said
 
 -- what is said of documents, of each in turn, the first of which has the number 1, and what is remembered then: before the first nothing
-pub data Tells (words : StreamWords) (files : Option Files) : List (List ℕ) → SessionView → List ℕ → Type 0 where
-  at_start : (all : List (List ℕ)) (session : SessionView) (out : List ℕ) → all ≡ [] → session ≡ empty_session → out ≡ [] → Tells words files all session out
-  at_document : (all before : List (List ℕ)) (document : List ℕ) (session session' : SessionView) (out told said : List ℕ) → Tells words files before session told
-      → TellsOf words files (suc (length before)) document session session' said → all ≡ before ++ document ∷ [] → out ≡ told ++ said → Tells words files all session' out
+pub data Tells (words : StreamWords) (files : Option Files) : List (List ℕ) → Known → List ℕ → Type 0 where
+  at_start : (all : List (List ℕ)) (known : Known) (out : List ℕ) → all ≡ [] → known ≡ nothing_known → out ≡ [] → Tells words files all known out
+  at_document : (all before : List (List ℕ)) (document : List ℕ) (known known' : Known) (out told said : List ℕ) → Tells words files before known told
+      → TellsOf words files (suc (length before)) document known known' said → all ≡ before ++ document ∷ [] → out ≡ told ++ said → Tells words files all known' out
 
 -- a text of which this holds was written after w, or a part of its front where the sink failed, or nothing
 abbrev pub Said : {T : Type 0} → (List ℕ → Type 0) → List ℕ → Option (List ℕ) → Result T SayError → Type 0
@@ -76,19 +76,19 @@ whether_said (Ok done) = Ok true
 whether_said (Err error) = Err (told_error error)
 
 -- what is said of a document was written after w, and it is told whether that is something; or a part of it, or nothing
-abbrev pub DocumentEnds : StreamWords → Option Files → ℕ → List ℕ → SessionView → SessionView → List ℕ → Option (List ℕ) → Result Bool TellError → Type 0
-DocumentEnds words files number document session session' w now (Ok found) =
-    (said : List ℕ) × TellsOf words files number document session session' said × (now ≡ Some (w ++ said)) × (found ≡ is_filled said)
-DocumentEnds words files number document session session' w now (Err tell.WriteFault) =
-    (said : List ℕ) × TellsOf words files number document session session' said × HoldsFront said w now
-DocumentEnds words files number document session session' w now (Err tell.FileFault) = now ≡ Some w
-DocumentEnds words files number document session session' w now (Err tell.OutOfMemory) = now ≡ Some w
+abbrev pub DocumentEnds : StreamWords → Option Files → ℕ → List ℕ → Known → Known → List ℕ → Option (List ℕ) → Result Bool TellError → Type 0
+DocumentEnds words files number document known known' w now (Ok found) =
+    (said : List ℕ) × TellsOf words files number document known known' said × (now ≡ Some (w ++ said)) × (found ≡ is_filled said)
+DocumentEnds words files number document known known' w now (Err tell.WriteFault) =
+    (said : List ℕ) × TellsOf words files number document known known' said × HoldsFront said w now
+DocumentEnds words files number document known known' w now (Err tell.FileFault) = now ≡ Some w
+DocumentEnds words files number document known known' w now (Err tell.OutOfMemory) = now ≡ Some w
 
 -- what is said of all documents of the input was written after w
 pub record ToldAll (words : StreamWords) (files : Option Files) (input w : List ℕ) (now : Option (List ℕ)) (found : Bool) : Type 0 where
   pub out : List ℕ
-  pub session : SessionView
-  pub tells : Tells words files (documents input) session out
+  pub known : Known
+  pub tells : Tells words files (documents input) known out
   pub told : now ≡ Some (w ++ out)
   pub found_is : found ≡ is_filled out
 
@@ -96,10 +96,10 @@ pub record ToldAll (words : StreamWords) (files : Option Files) (input w : List 
 pub record ToldWithin (words : StreamWords) (files : Option Files) (input w : List ℕ) (now : Option (List ℕ)) : Type 0 where
   pub done : List (List ℕ)
   pub later : List (List ℕ)
-  pub session : SessionView
+  pub known : Known
   pub out : List ℕ
   pub is : documents input ≡ done ++ later
-  pub tells : Tells words files done session out
+  pub tells : Tells words files done known out
   pub part : HoldsFront out w now
 
 -- what the documents of the input leave after w

@@ -6,7 +6,9 @@ use Rattle.snap_io.specs.Outside.{Given}
 use Rattle.snap_print.specs.Spell.{spell_text}
 use Rattle.snap_content.specs.List.{items_of}
 use Rattle.snap_store.specs.Image.{pending_path}
+use Rattle.snap_explain.specs.Asked.{Known, asked_before, known_behind, known_within, with_asker}
 use Rattle.snap_explain.specs.Notes.{has_word, notes_by, notes_text}
+use Rattle.snap_explain.specs.Outside.{is_outside}
 use Rattle.snap_explain.specs.declared.notes.Notes.{Notes}
 use Rattle.snap_store.specs.Reading.{IsNoText, HasUnspelledHeader, HasOtherHeader, LacksExtension, IsReadAs}
 use Rattle.snap_store.specs.Views.{contents_in, text_in}
@@ -18,7 +20,7 @@ use Rattle.snap_assert_place.specs.Place.{names_file}
 use Rattle.snap_assert.specs.Courses.{Course, Refused, course_of}
 use Rattle.snap_assert.specs.Default.{default_relation}
 use Rattle.snap_assert.specs.Prepared.{IsJudged}
-use Rattle.snap_assert.specs.Session.{SessionView, is_open, opened, closed}
+use Rattle.snap_assert.specs.Session.{is_open}
 use Rattle.snap_assert.specs.Steps.{Asked}
 use Rattle.snap_assert.specs.declared.error.AssertError.{AssertError}
 use Rattle.snap_assert.specs.declared.error.AssertError.TheVariants as refusal
@@ -94,27 +96,27 @@ pub record ComesTo (fully : Bool) (asked : Asked) (passed : Bool) (m : Files) : 
   pub compared : IsJudged (default_relation fully) asked m judged
   pub so : judged.passed ≡ passed
 
--- the engine's own comparison comes to a pass, and these are to be said: what it warns of, and whether a pending snapshot waits beside
--- the file
-pub record PassesWith (fully : Bool) (asked : Asked) (notes : Notes) (m : Files) : Type 0 where
+-- the engine's own comparison comes to a pass, and these are to be said: what it warns of, whether a pending snapshot waits beside
+-- the file, which earlier document asks for the path, and whether that leaves the workspace
+pub record PassesWith (workspace : List ℕ) (earlier : Option ℕ) (fully : Bool) (asked : Asked) (notes : Notes) (m : Files) : Type 0 where
   pub judged : Judged
   pub compared : IsJudged (default_relation fully) asked m judged
   pub passed : judged.passed ≡ true
-  pub told : notes ≡ notes_by (is_some (get m (pending_path asked.path))) (items_of judged.warnings)
+  pub told : notes ≡ notes_by (is_some (get m (pending_path asked.path))) (items_of judged.warnings) earlier (is_outside workspace asked.path)
 
 -- what is asked of the files would pass, and nothing is to be said of it
-pub record Passes (fully : Bool) (asked : Asked) (files : Option Files) : Type 0 where
+pub record Passes (workspace : List ℕ) (earlier : Option ℕ) (fully : Bool) (asked : Asked) (files : Option Files) : Type 0 where
   pub notes : Notes
-  pub holds : Given files (λ m. PassesWith fully asked notes m)
+  pub holds : Given files (λ m. PassesWith workspace earlier fully asked notes m)
   pub silent : has_word notes ≡ false
 
 -- what is asked of the files would pass, and something is to be said of it, which is told with the path of the file, as it is and as a scalar is spelled
-pub record IsNoted (fully : Bool) (asked : Asked) (files : Option Files) (what : Trouble) : Type 0 where
+pub record IsNoted (workspace : List ℕ) (earlier : Option ℕ) (fully : Bool) (asked : Asked) (files : Option Files) (what : Trouble) : Type 0 where
   pub notes : Notes
   pub spelled : List ℕ
   pub is : what ≡ trouble.Noted notes asked.path spelled
   pub path_is : spelled ≡ spell_text asked.path
-  pub holds : Given files (λ m. PassesWith fully asked notes m)
+  pub holds : Given files (λ m. PassesWith workspace earlier fully asked notes m)
   pub worded : has_word notes ≡ true
 
 -- a cause of contents: a payload, or a text
@@ -150,8 +152,8 @@ pub record IsUnpassed (fully : Bool) (asked : Asked) (files : Option Files) (wha
   pub why : IsUnpassedBy asked.path files what
 
 -- what is said of what is asked: why it would not pass, or what is to be said of a pass
-abbrev pub IsSaidFor : Bool → Asked → Option Files → Trouble → Type 0
-IsSaidFor fully asked files what = IsUnpassed fully asked files what ⊎ IsNoted fully asked files what
+abbrev pub IsSaidFor : List ℕ → Option ℕ → Bool → Asked → Option Files → Trouble → Type 0
+IsSaidFor workspace earlier fully asked files what = IsUnpassed fully asked files what ⊎ IsNoted workspace earlier fully asked files what
 
 -- an assertion is made in a file
 abbrev pub IsOfFile : RequestView → Type 0
@@ -159,32 +161,43 @@ IsOfFile (asserts a) = names_file a.file ≡ true
 IsOfFile begins = Unit {0}
 IsOfFile ends = Unit {0}
 
--- the assertion goes on under the name of its course, and what is asked of the files then is this
-pub record GoesOn (words : RunWords) (a : AssertionView) (session session' : SessionView) (asks : Asked → Type 0) : Type 0 where
+-- the assertion of the document with this number goes on under the name of its course, and what is asked of the files then is this: that
+-- is seen from now on
+pub record GoesOn (words : RunWords) (number : ℕ) (a : AssertionView) (known known' : Known) (asks : Asked → Type 0) : Type 0 where
   pub course : Course
-  pub course_is : course_of (assertion_by words a) session ≡ Ok course
-  pub remembered : session' ≡ course.session
+  pub course_is : course_of (assertion_by words a) known.session ≡ Ok course
+  pub remembered : known'.session ≡ course.session
+  pub seen : known'.seen ≡ with_asker number (asked_by words a course.name).path known.seen
   pub is : asks (asked_by words a course.name)
 
--- what is remembered refuses the assertion, with this kind
-pub record IsRefusedFor (words : RunWords) (a : AssertionView) (session session' : SessionView) (kind : RefusalKind) : Type 0 where
+-- what is remembered refuses the assertion, with this kind, and it asks for no path
+pub record IsRefusedFor (words : RunWords) (a : AssertionView) (known known' : Known) (kind : RefusalKind) : Type 0 where
   pub refused : Refused
-  pub course_is : course_of (assertion_by words a) session ≡ Err refused
+  pub course_is : course_of (assertion_by words a) known.session ≡ Err refused
   pub kind_is : kind_of refused.error ≡ Some kind
-  pub remembered : session' ≡ refused.session
+  pub remembered : known'.session ≡ refused.session
+  pub seen : known'.seen ≡ known.seen
 
--- a request would pass and nothing is to be said of it, or it begins or ends a block
-pub data IsClear (words : RunWords) (files : Option Files) (session session' : SessionView) : RequestView → Type 0 where
-  passes : (r : RequestView) (a : AssertionView) → r ≡ asserts a → GoesOn words a session session' (λ asked. Passes words.full asked files) → IsClear words files session session' r
-  begin : (r : RequestView) → r ≡ begins → session' ≡ opened session → IsClear words files session session' r
-  end : (r : RequestView) → r ≡ ends → is_open session ≡ true → session' ≡ closed session → IsClear words files session session' r
+-- what is asked of the files would pass, after these documents, and nothing is to be said of it
+abbrev pub PassesAfter : RunWords → Known → Option Files → Asked → Type 0
+PassesAfter words known files asked = Passes words.workspace (asked_before asked.path known.seen) words.full asked files
+
+-- what is said of it after these documents
+abbrev pub IsSaidAfter : RunWords → Known → Option Files → Trouble → Asked → Type 0
+IsSaidAfter words known files what asked = IsSaidFor words.workspace (asked_before asked.path known.seen) words.full asked files what
+
+-- a request, of the document with this number, would pass and nothing is to be said of it, or it begins or ends a block
+pub data IsClear (words : RunWords) (files : Option Files) (number : ℕ) (known known' : Known) : RequestView → Type 0 where
+  passes : (r : RequestView) (a : AssertionView) → r ≡ asserts a → GoesOn words number a known known' (PassesAfter words known files) → IsClear words files number known known' r
+  begin : (r : RequestView) → r ≡ begins → known' ≡ known_within known → IsClear words files number known known' r
+  end : (r : RequestView) → r ≡ ends → is_open known.session ≡ true → known' ≡ known_behind known → IsClear words files number known known' r
 
 -- why a request would not pass, or would end a run; or what is to be said of one that would pass
-pub data HasTrouble (words : RunWords) (files : Option Files) (session session' : SessionView) : RequestView → Trouble → Type 0 where
-  stray : (r : RequestView) (what : Trouble) → r ≡ ends → what ≡ trouble.StrayEnd → is_open session ≡ false → session' ≡ session → HasTrouble words files session session' r what
-  refused : (r : RequestView) (a : AssertionView) (what : Trouble) (kind : RefusalKind) (detail : List ℕ) → r ≡ asserts a → what ≡ trouble.Refused kind detail → IsRefusedFor words a session session' kind
-      → HasTrouble words files session session' r what
-  said_of : (r : RequestView) (a : AssertionView) (what : Trouble) → r ≡ asserts a → GoesOn words a session session' (λ asked. IsSaidFor words.full asked files what) → HasTrouble words files session session' r what
+pub data HasTrouble (words : RunWords) (files : Option Files) (number : ℕ) (known known' : Known) : RequestView → Trouble → Type 0 where
+  stray : (r : RequestView) (what : Trouble) → r ≡ ends → what ≡ trouble.StrayEnd → is_open known.session ≡ false → known' ≡ known → HasTrouble words files number known known' r what
+  refused : (r : RequestView) (a : AssertionView) (what : Trouble) (kind : RefusalKind) (detail : List ℕ) → r ≡ asserts a → what ≡ trouble.Refused kind detail → IsRefusedFor words a known known' kind
+      → HasTrouble words files number known known' r what
+  said_of : (r : RequestView) (a : AssertionView) (what : Trouble) → r ≡ asserts a → GoesOn words number a known known' (IsSaidAfter words known files what) → HasTrouble words files number known known' r what
 
 -- why what is remembered refuses an assertion that comes to no answer: a fault and want of memory end the work, and the errors of literals
 -- and of payloads don't come of a tree

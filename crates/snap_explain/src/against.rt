@@ -1,4 +1,7 @@
 //! Which earlier document stands against one that what is remembered refuses.
+ghost use Rattle.std.specs.Prelude.{◌≡◌};
+ghost use Rattle.snap_explain.specs.Asked.{seen_of};
+
 use crate::detail::difference_of;
 use crate::earlier::{Earlier, Taking};
 use snap_assert::error::{AssertError, DuplicateKey};
@@ -73,7 +76,9 @@ pub(crate) fn against(
     number: u64,
     taking: Taking,
     error: AssertError,
-) -> Result<Text, OutOfMemory> {
+) -> Result<Text, OutOfMemory>
+    ensures { seen_of earlier.new ≡ seen_of earlier.old }
+{
     match error {
         AssertError::NameClash => taker_detail(alloc, earlier.taker(&taking)),
         AssertError::DuplicateDiffers { key, kept, new } => {

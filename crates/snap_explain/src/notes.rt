@@ -1,7 +1,7 @@
 //! What is to be said of a request that passes, in words.
 ghost use Rattle.std.specs.Prelude.{◌≡◌};
 ghost use Rattle.std.specs.List.{list_any};
-ghost use Rattle.snap_explain.specs.Notes.{has_word, is_number, is_older, is_oldest, notes_by, word_if};
+ghost use Rattle.snap_explain.specs.Notes.{has_file_word, has_word, is_number, is_older, is_oldest, notes_by, word_if};
 
 use snap_assert::outcome::Warning;
 use std::fmt;
@@ -17,6 +17,10 @@ pub struct Notes {
     pub number: bool,
     /// It passes by an older form alone.
     pub older: bool,
+    /// The earlier document that asks for the same path first, while no block of duplicates is open.
+    pub earlier: Option<u64>,
+    /// The path leaves the workspace.
+    pub outside: bool,
 }
 
 fn is_oldest(warning: &Warning) -> bool
@@ -55,24 +59,34 @@ fn has_older(warnings: &[Warning]) -> bool
     warnings.iter().any(|warning| is_older(warning))
 }
 
-/// What is to be said, by whether a pending snapshot waits, and by what the comparison warns of.
-pub fn notes_by(pending: bool, warnings: &[Warning]) -> Notes
-    ensures { result ≡ notes_by pending warnings.now }
+/// What is to be said, by whether a pending snapshot waits, by what the comparison warns of, by the earlier document that asks for the
+/// path, and by whether that leaves the workspace.
+pub fn notes_by(pending: bool, warnings: &[Warning], earlier: Option<u64>, outside: bool) -> Notes
+    ensures { result ≡ notes_by pending warnings.now earlier outside }
 {
     Notes {
         pending,
         oldest: has_oldest(warnings),
         number: has_number(warnings),
         older: has_older(warnings),
+        earlier,
+        outside,
     }
 }
 
 impl Notes {
+    /// Whether something is to be said of the file.
+    pub fn has_file_word(&self) -> bool
+        ensures { result ≡ has_file_word self.now }
+    {
+        self.pending || self.oldest || self.number || self.older
+    }
+
     /// Whether something is to be said.
     pub fn has_word(&self) -> bool
         ensures { result ≡ has_word self.now }
     {
-        self.pending || self.oldest || self.number || self.older
+        self.has_file_word() || self.earlier.is_some() || self.outside
     }
 }
 
@@ -83,7 +97,7 @@ fn word_if(holds: bool, word: &'static str) -> &'static str
     if holds { word } else { "" }
 }
 
-/// All words, after what kind of finding it is.
+/// The words on the file, after what kind of finding it is.
 impl fmt::Display for Notes {
     ghost use Rattle.std.specs.Prelude.{Some};
     ghost use Rattle.snap_explain.specs.Notes.{notes_text};

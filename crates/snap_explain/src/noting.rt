@@ -10,6 +10,7 @@ ghost use Rattle.snap_explain.specs.Troubles.{PassesWith, Passes, IsNoted, is_te
 
 use crate::misfit::{is_pending, spelled};
 use crate::notes::{Notes, notes_by};
+use crate::outside::is_outside;
 use crate::telling::TellError;
 use crate::trouble::Trouble;
 use snap_assert::preview::Preview;
@@ -18,17 +19,25 @@ use snap_io::Store;
 use std::alloc::Global;
 
 /// All that is to be said of a pass.
-fn notes_on<F: Store>(alloc: Global, store: &mut F, preview: &Preview) -> Result<Notes, TellError>
+fn notes_on<F: Store>(
+    alloc: Global,
+    workspace: &Text,
+    store: &mut F,
+    earlier: Option<u64>,
+    preview: &Preview,
+) -> Result<Notes, TellError>
     ensures notes { IfOk result (λ notes. (fully : Bool) (asked : Asked)
         → preview.now.judged.passed ≡ true
         → IsForeseen fully asked preview.now (F.files store.old)
-        → Given (F.files store.old) (λ m. PassesWith fully asked notes m)) }
+        → Given (F.files store.old) (λ m. PassesWith workspace.now earlier fully asked notes m)) }
     ensures unsaid { IfErr result (λ error. is_tell_write error ≡ false) }
     ensures same { F.files store.new ≡ F.files store.old }
     ensures cause { Counted is_tell_file (F.faults store.old) (F.faults store.new) result }
 {
     let pending = is_pending(alloc, store, &preview.path)?;
-    Ok(notes_by(pending, preview.judged.warnings.as_slice()))
+    let outside = is_outside(alloc, workspace, &preview.path)?;
+    let warnings = preview.judged.warnings.as_slice();
+    Ok(notes_by(pending, warnings, earlier, outside))
 }
 
 /// The notes with the path of the file, where something is to be said.
@@ -48,21 +57,23 @@ fn noted(alloc: Global, notes: Notes, path: &Text) -> Result<Option<Trouble>, Ou
     }))
 }
 
-/// What is to be said of a request that passes, where something is.
+/// What is to be said of a request that passes, where something is: this earlier document asks for the same path.
 pub(crate) fn note<F: Store>(
     alloc: Global,
+    workspace: &Text,
     store: &mut F,
+    earlier: Option<u64>,
     preview: &Preview,
 ) -> Result<Option<Trouble>, TellError>
     ensures found { IfOk result (λ found. (fully : Bool) (asked : Asked)
         → preview.now.judged.passed ≡ true
         → IsForeseen fully asked preview.now (F.files store.old)
-        → MatchOption found (Passes fully asked (F.files store.old))
-        (λ what. IsNoted fully asked (F.files store.old) what)) }
+        → MatchOption found (Passes workspace.now earlier fully asked (F.files store.old))
+        (λ what. IsNoted workspace.now earlier fully asked (F.files store.old) what)) }
     ensures unsaid { IfErr result (λ error. is_tell_write error ≡ false) }
     ensures same { F.files store.new ≡ F.files store.old }
     ensures cause { Counted is_tell_file (F.faults store.old) (F.faults store.new) result }
 {
-    let notes = notes_on(alloc, store, preview)?;
+    let notes = notes_on(alloc, workspace, store, earlier, preview)?;
     Ok(noted(alloc, notes, &preview.path)?)
 }

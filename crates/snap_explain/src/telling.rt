@@ -6,16 +6,17 @@ ghost use Rattle.snap_run.specs.Runner.{words_of};
 ghost use Rattle.snap_run_requests.specs.RequestOf.{request_of};
 ghost use Rattle.snap_run_requests.specs.Requests.{ReadsAs};
 ghost use Rattle.snap_explain.specs.Findings.{Writes, is_write_fault};
-ghost use Rattle.snap_explain.specs.Json.{IsTroubleLine, refusal_in, trouble_in};
+ghost use Rattle.snap_explain.specs.Asked.{known_by};
+ghost use Rattle.snap_explain.specs.Json.{AreTroubleLines, refusal_in, trouble_lines};
 ghost use Rattle.snap_explain.specs.Refusals.{refusal_text};
 ghost use Rattle.snap_explain.specs.Streams.{IsNoRequest, IsRefusal, Said, DocumentEnds, in_form, whether_said};
-ghost use Rattle.snap_explain.specs.Troubles.{IsOfFile, trouble_line, is_tell_file, is_tell_write};
+ghost use Rattle.snap_explain.specs.Troubles.{IsOfFile, is_tell_file, is_tell_write};
 
 use crate::earlier::Earlier;
 use crate::foreseeing::trouble_of;
 use crate::form::Form;
 use crate::hint::hint;
-use crate::json_findings::{json_refusal, json_trouble};
+use crate::json_findings::json_refusal;
 use crate::outline::{Node, Outline, outline_of};
 use crate::pointing::node_of;
 use crate::position::{Place, place_behind};
@@ -23,6 +24,7 @@ use crate::refusal::ReasonWords;
 use crate::saying::SayError;
 use crate::seen::seen_at;
 use crate::trouble::Trouble;
+use crate::trouble_lines::trouble_lines;
 use snap_assert::session::Session;
 use snap_content::{OutOfMemory, Text};
 use snap_emit::Refusal;
@@ -251,34 +253,6 @@ fn say_refusal<K: Sink>(
     said
 }
 
-/// What is said in words of a document with this number that is a request, as a line.
-fn plain_trouble(
-    alloc: Global,
-    number: u64,
-    place: Place,
-    what: &Trouble,
-) -> Result<String, OutOfMemory>
-    ensures { IfOk result (λ text. string_bytes text ≡ trouble_line number place what.now) }
-{
-    Ok(format!(in alloc; "document {number}, {place}: {what}\n")?)
-}
-
-/// What is said of a document with this number that is a request, as a line.
-fn trouble_in(
-    alloc: Global,
-    form: Form,
-    number: u64,
-    place: Place,
-    what: &Trouble,
-) -> Result<String, OutOfMemory>
-    ensures { IfOk result (λ text. string_bytes text ≡ trouble_in form number place what.now) }
-{
-    match form {
-        Form::Plain => plain_trouble(alloc, number, place, what),
-        Form::Json => json_trouble(alloc, number, place, what),
-    }
-}
-
 /// Writes why a request would not pass.
 fn write_trouble<K: Sink>(
     alloc: Global,
@@ -289,10 +263,10 @@ fn write_trouble<K: Sink>(
     sink: &mut K,
 ) -> Result<(), SayError>
     ensures said { (w : List ℕ) → K.written sink.old ≡ Some w
-        → Writes (trouble_in form number place what.now) w (K.written sink.new) result }
+        → Writes (trouble_lines form number place what.now) w (K.written sink.new) result }
     ensures cause { Counted is_write_fault (K.faults sink.old) (K.faults sink.new) result }
 {
-    let text = trouble_in(alloc, form, number, place, what)?;
+    let text = trouble_lines(alloc, form, number, place, what)?;
     write_all(sink, text.as_bytes())?;
     Ok(())
 }
@@ -307,7 +281,7 @@ fn say_trouble<K: Sink>(
     sink: &mut K,
 ) -> Result<(), SayError>
     ensures said { (w : List ℕ) → K.written sink.old ≡ Some w
-        → Said (IsTroubleLine form number what.now) w (K.written sink.new) result }
+        → Said (AreTroubleLines form number what.now) w (K.written sink.new) result }
     ensures cause { Counted is_write_fault (K.faults sink.old) (K.faults sink.new) result }
 {
     let place = Place {
@@ -358,7 +332,8 @@ fn tell_request<K: Sink, F: Store>(
     ensures said { (document w : List ℕ) → ReadsAs document (request_of request)
         → K.written sink.old ≡ Some w
         → DocumentEnds (in_form form (words_of runner.now)) (F.files store.old) number document
-        (session_of session.old) (session_of session.new) w (K.written sink.new) result }
+        (known_by (session_of session.old) earlier.old)
+        (known_by (session_of session.new) earlier.new) w (K.written sink.new) result }
     ensures same { F.files store.new ≡ F.files store.old }
     ensures write { Counted is_tell_write (K.faults sink.old) (K.faults sink.new) result }
     ensures file { Counted is_tell_file (F.faults store.old) (F.faults store.new) result }
@@ -385,7 +360,8 @@ pub(crate) fn tell_document<K: Sink, F: Store>(
 ) -> Result<bool, TellError>
     ensures said { (w : List ℕ) → K.written sink.old ≡ Some w
         → DocumentEnds (in_form form (words_of runner.now)) (F.files store.old) number document.now
-        (session_of session.old) (session_of session.new) w (K.written sink.new) result }
+        (known_by (session_of session.old) earlier.old)
+        (known_by (session_of session.new) earlier.new) w (K.written sink.new) result }
     ensures same { F.files store.new ≡ F.files store.old }
     ensures write { Counted is_tell_write (K.faults sink.old) (K.faults sink.new) result }
     ensures file { Counted is_tell_file (F.faults store.old) (F.faults store.new) result }

@@ -2,6 +2,7 @@ use Rattle.snap_explain.proofs.Documents.{nothing_said_of, trouble_said, said_wr
 use Rattle.snap_explain.proofs.Prelude.{err_from_is_err_and}
 use Rattle.snap_assert.specs.Session.{session_of}
 use Rattle.snap_run.specs.Runner.{words_of}
+use Rattle.snap_explain.specs.Asked.{known_by}
 use Rattle.snap_explain.specs.Streams.{in_form}
 use Rattle.snap_explain.proofs.telling.tell_request.Goals as goal
 
@@ -22,7 +23,7 @@ pub returns-in_err-trouble_of-clause-said : goal.returns-in_err-trouble_of-claus
 returns-in_err-trouble_of-clause-said g c = λ document w reads e.
     let told = err_from_is_err_and c.from_residual.result c.from_residual.ensures.1 in
     rw (told.1, told.2)
-    (unsaid c.in_err-trouble_of.field-0.0 (in_form c.args.form (words_of c.args.runner.now)) (g.F.Store.files c.args.store.now) c.args.number document (session_of c.args.session.now) (session_of c.trouble_of.new.session) w
+    (unsaid c.in_err-trouble_of.field-0.0 (in_form c.args.form (words_of c.args.runner.now)) (g.F.Store.files c.args.store.now) c.args.number document (known_by (session_of c.args.session.now) c.args.earlier.now) (known_by (session_of c.trouble_of.new.session) c.trouble_of.new.earlier) w
     (g.K.Sink.written c.args.sink.now) e c.in_err-trouble_of.ensures.unsaid)
 
 pub returns-in_err-trouble_of-clause-write : goal.returns-in_err-trouble_of-clause-write
