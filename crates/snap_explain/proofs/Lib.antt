@@ -7,3 +7,4 @@ mod Asking
 mod Foretold
 mod Shown
 mod Askers
+mod JsonWords
