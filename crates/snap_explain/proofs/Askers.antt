@@ -1,5 +1,5 @@
 -- Which document asked for a path first.
-use Rattle.snap_explain.proofs.Prelude.{◌≡◌, ℕ, List, Option, Some, None, cond, ap}
+use Rattle.snap_explain.proofs.Prelude.{◌≡◌, ℕ, List, Some, None, cond, ap}
 use Rattle.std.specs.Prelude.{is_some}
 use Rattle.snap_explain.specs.Asked.{Seen, first_asker, with_asker, with_path}
 

@@ -18,7 +18,7 @@ use Rattle.snap_store.specs.Views.{contents_in}
 use Rattle.snap_store.specs.declared.snapshot.Snapshot.{Snapshot}
 use Rattle.snap_assert.specs.Outcomes.{ErrorCause}
 use Rattle.snap_assert.specs.Previews.{IsForeseen, IsPreviewed, IsStoppedBefore}
-use Rattle.snap_assert.specs.Session.{SessionView, is_open, opened, closed}
+use Rattle.snap_assert.specs.Session.{is_open, opened, closed}
 use Rattle.snap_explain.specs.Asked.{Seen, Known, asked_before, deeper, first_asker, known_behind, known_within, shallower, told_first, with_asker}
 use Rattle.snap_explain.specs.Outside.{is_outside}
 use Rattle.snap_assert.specs.Steps.{Asked}
