@@ -1,10 +1,13 @@
-//! Prints what reviews over a store in memory come to, and sources with new literals: a row for each of their cases.
+//! Prints what reviews over a store in memory come to, why they would be refused, and sources with new literals: a row for each of their
+//! cases.
 //! Each line of standard input is a case, a tab between each two columns, in which `\n`, `\r`, `\t`, `\0` and `\\` stand for these
 //! characters. The first column says what is asked:
 //!
 //! - `review`: the words, a bar between each two, which call of the store and of the sink fails, as `store=3 write=1`, and the files, each
 //!   as its path and its bytes. The answer is the exit status, what the status says, what was written, how often the store failed, how
 //!   many files there are then, and the bytes of each file of the case.
+//! - `explain`: the same columns. The answer is the exit status of the run that tells why such a review would be refused, what was
+//!   written, and how often the store failed.
 //! - `patched`: the source, and what is asked for, each as `LINE|TEXT` or `LINE|TEXT|OLD`. The answer is the source with the new
 //!   literals, or why there is none.
 //!
@@ -12,9 +15,11 @@
 #![tactic(auto)]
 
 mod cases;
+mod explains;
 mod patches;
 mod runs;
 
+use crate::explains::explain_line;
 use crate::patches::patched_line;
 use crate::runs::review_line;
 use rows::{answer_rows, first_column};
@@ -26,6 +31,7 @@ fn answer(alloc: Global, line: &str) -> Result<Text, anyhow::Error> {
     let (call, columns) = first_column(line);
     match call {
         "review" => review_line(alloc, columns),
+        "explain" => explain_line(alloc, columns),
         "patched" => Ok(patched_line(alloc, columns)?),
         _ => Ok(Text::from_str(alloc, "! no such call")?),
     }

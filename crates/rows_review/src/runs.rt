@@ -8,7 +8,7 @@ use snap_review::{ReviewStatus, review};
 use std::alloc::Global;
 
 /// A store of these files.
-fn store_of(
+pub(crate) fn store_of(
     alloc: Global,
     case: Case<'_>,
     files: &[(Text, Blob)],

@@ -75,3 +75,12 @@ unbegun_for Literals request files written = record {
   end = unplanned tt refl refl;
 }
 unbegun_for File request files written = unplanned (inr tt) refl refl
+
+-- and then there is no plan
+pub unbegun_plan : (target : Target) (request : Request) (files : Option Files) → IsPlanFor target request files (Err s.OutOfMemory)
+unbegun_plan Literals request files = record {
+  found = record { waiting = file_in files request.waiting; source = file_in files request.path };
+  told = record { waiting_is = file_told files request.waiting; source_is = file_told files request.path };
+  comes_to = tt;
+}
+unbegun_plan File request files = inr tt

@@ -6,5 +6,6 @@ mod Readings
 mod Stopping
 mod FilePlanning
 mod Planning
+pub mod Foreseeing
 mod OnePatch
 mod RecordPaths

@@ -10,4 +10,5 @@ pub mod FilePlanned
 pub mod Plans
 pub mod Carried
 pub mod Ends
+pub mod Previews
 pub mod Program

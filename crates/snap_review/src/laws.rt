@@ -1,16 +1,22 @@
 //! What the definitions promise by themselves.
-ghost use Rattle.std.specs.Prelude.{◌≡◌, List, ℕ, Some};
+ghost use Rattle.std.specs.Prelude.{◌≡◌, List, ℕ, Option, Some, true};
 ghost use Rattle.snap_assert_place.specs.Place.{PlaceView};
 ghost use Rattle.snap_assert_place.specs.SnapshotPath.{records_path as records_left};
+ghost use Rattle.snap_io.specs.Files.{Files};
 ghost use Rattle.snap_path.specs.Paths.{joined, name_of};
 ghost use Rattle.snap_text_literals.specs.Inline.{lead, inline_normal};
 ghost use Rattle.snap_text_literals.specs.Spelled.{spelled};
+ghost use Rattle.snap_review.specs.Ends.{ReviewOf};
 ghost use Rattle.snap_review.specs.Patched.{IsPatched, IsRefused, Puts, ReadsBack};
 ghost use Rattle.snap_review.specs.Places.{HasNoneMarked, IsMarked};
+ghost use Rattle.snap_review.specs.Previews.{PreviewOf, is_refusal};
 ghost use Rattle.snap_review.specs.Wanted.{records_path};
 ghost use Rattle.snap_review.specs.declared.patching.NewLiteral.{NewLiteral};
 ghost use Rattle.snap_review.specs.declared.patching.Refusal.{Refusal};
 ghost use Rattle.snap_review.specs.declared.patching.Refusal.TheVariants.{OutOfMemory};
+ghost use Rattle.snap_review.specs.declared.status.ReviewStatus.{ReviewStatus};
+ghost use Rattle.snap_review.specs.declared.status.ReviewStatus.TheVariants.{Done};
+ghost use Rattle.snap_review.specs.declared.words.Request.{Request};
 
 /// What is put reads, as a literal, as a text that stands for a snapshot of the new text's normal form: so the assertion that asked
 /// for it passes.
@@ -42,4 +48,15 @@ pub const fn one_patch()
 pub const fn records_are_found()
     ensures { (place : PlaceView) (name : List ℕ) → name_of place.file ≡ Some name
         → records_path (joined place.workspace place.file) ≡ records_left place }
+{}
+
+/// What a review ends with is what a preview over the files before it may end with: the refusal of one that is refused, and that there is
+/// a plan for one that is done.
+pub const fn refusals_are_foreseen()
+    ensures refused { (asked : Option Request) (status : ReviewStatus) (files after : Option Files)
+        (written said : Option (List ℕ)) → is_refusal status ≡ true
+        → ReviewOf asked status files after written said → PreviewOf asked status files }
+    ensures done { (asked : Option Request) (files after : Option Files)
+        (written said : Option (List ℕ)) → ReviewOf asked Done files after written said
+        → PreviewOf asked Done files }
 {}

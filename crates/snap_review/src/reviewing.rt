@@ -1,30 +1,15 @@
 //! One run of a review.
-ghost use Rattle.std.specs.Prelude.{◌≡◌, Some};
-ghost use Rattle.snap_io.specs.Causes.{Counted, CountedIf};
+ghost use Rattle.snap_io.specs.Causes.{CountedIf};
 ghost use Rattle.snap_review.specs.Ends.{IsRunOf, ReviewOf, says_file_fault, says_write_fault};
-ghost use Rattle.snap_review.specs.Plans.{IsPlanOf};
 ghost use Rattle.snap_review.specs.Wanted.{wanted_by};
 
 use crate::carrying::carry_out;
-use crate::file_plan::plan_file;
-use crate::plan::{Plan, plan_literals};
+use crate::request_plan::plan_of;
 use crate::status::ReviewStatus;
-use crate::words::{Request, Target, request_of};
+use crate::words::{Request, request_of};
 use snap_content::Text;
 use snap_io::{Sink, Store};
 use std::alloc::Global;
-
-/// The plan of the request. The store is not changed.
-fn plan_of<S: Store>(alloc: Global, store: &mut S, request: &Request) -> Result<Plan, ReviewStatus>
-    ensures end { IsPlanOf request.now (S.files store.old) result }
-    ensures same { S.files store.new ≡ S.files store.old }
-    ensures cause { Counted says_file_fault (S.faults store.old) (S.faults store.new) result }
-{
-    match request.target {
-        Target::Literals => plan_literals(alloc, store, request),
-        Target::File => plan_file(alloc, store, request),
-    }
-}
 
 /// The run of a request.
 fn run<K: Sink, S: Store>(
