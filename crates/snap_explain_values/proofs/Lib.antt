@@ -1,0 +1,12 @@
+mod Prelude
+mod Tests
+mod Hits
+mod SameTrees
+mod LeftTrees
+mod OtherTrees
+mod OneTree
+mod Positions
+mod MissedHere
+mod TwiceKeys
+mod SeenKeys
+mod TreeTests
