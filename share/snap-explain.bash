@@ -2,7 +2,7 @@
 _snap_explain() {
   local word=${COMP_WORDS[COMP_CWORD]} at=2
   if [ "$COMP_CWORD" -eq 1 ]; then
-    COMPREPLY=($(compgen -W "stream unused mask front --help --version" -- "$word"))
+    COMPREPLY=($(compgen -W "stream unused review mask front --help --version" -- "$word"))
     return 0
   fi
   if { [ "${COMP_WORDS[1]}" = stream ] || [ "${COMP_WORDS[1]}" = unused ]; } && [ "$COMP_CWORD" -eq 2 ]; then
@@ -11,6 +11,15 @@ _snap_explain() {
   fi
   if [ "${COMP_WORDS[1]}" = stream ] && [ "$COMP_CWORD" -le 4 ]; then
     COMPREPLY=($(compgen -W "--json --literal" -- "$word"))
+    return 0
+  fi
+  if [ "${COMP_WORDS[1]}" = review ] && [ "$COMP_CWORD" -eq 2 ]; then
+    COMPREPLY=($(compgen -W "accept reject accept-file reject-file" -- "$word"))
+    return 0
+  fi
+  if [ "${COMP_WORDS[1]}" = review ] && [ "$COMP_CWORD" -eq 3 ]; then
+    compopt -o filenames 2>/dev/null
+    COMPREPLY=($(compgen -f -- "$word"))
     return 0
   fi
   if [ "${COMP_WORDS[1]}" = front ] && [ "$COMP_CWORD" -eq 2 ]; then

@@ -36,6 +36,18 @@ function __snap_explain_at_command
     test (count $words) -eq 2; and test "$words[2]" = front
 end
 
+# Whether it is the word of a review.
+function __snap_explain_at_review
+    set -l words (commandline -opc)
+    test (count $words) -eq 2; and test "$words[2]" = review
+end
+
+# Whether it is the path of a review.
+function __snap_explain_at_path
+    set -l words (commandline -opc)
+    test (count $words) -eq 3; and test "$words[2]" = review
+end
+
 # Whether it is the first word.
 function __snap_explain_at_first
     test (count (commandline -opc)) -eq 1
@@ -45,6 +57,9 @@ complete -c snap-explain -f
 complete -c snap-explain -n __snap_explain_at_first -a stream -d 'Say which requests are none or would not pass, and why'
 complete -c snap-explain -n __snap_explain_at_first -a unused -d 'Name the snapshots that no request asks for'
 complete -c snap-explain -n __snap_explain_at_workspace -a '(__fish_complete_directories)'
+complete -c snap-explain -n __snap_explain_at_first -a review -d 'Say why a review would be refused'
+complete -c snap-explain -n __snap_explain_at_review -a 'accept reject accept-file reject-file'
+complete -c snap-explain -n __snap_explain_at_path -F
 complete -c snap-explain -n __snap_explain_at_flag -l json -d 'Write each finding as a JSON object'
 complete -c snap-explain -n __snap_explain_at_flag -l literal -d 'Print texts of several lines as literal blocks'
 complete -c snap-explain -n __snap_explain_at_first -a mask -d 'Say which lines snap-mask refuses, and why'

@@ -3,7 +3,7 @@
 _snap-explain() {
   local -i at=3
   if (( CURRENT == 2 )); then
-    compadd -- stream unused mask front --help --version
+    compadd -- stream unused review mask front --help --version
     return
   fi
   if [[ $words[2] == (stream|unused) ]] && (( CURRENT == 3 )); then
@@ -12,6 +12,14 @@ _snap-explain() {
   fi
   if [[ $words[2] == stream ]] && (( CURRENT <= 5 )); then
     compadd -- --json --literal
+    return
+  fi
+  if [[ $words[2] == review ]]; then
+    case $CURRENT in
+      3) compadd -- accept reject accept-file reject-file ;;
+      4) _files ;;
+      *) return 1 ;;
+    esac
     return
   fi
   if [[ $words[2] == front ]] && (( CURRENT == 3 )); then

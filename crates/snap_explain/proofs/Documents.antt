@@ -1,5 +1,5 @@
 -- What was said of the documents so far, and of one more.
-use Rattle.snap_explain.proofs.Prelude.{◌≡◌, ℕ, suc, ◌+◌, ◌≤◌, ◌||◌, List, [], ◌∷◌, ◌++◌, Bool, true, false, cond, inl, inr, Option, Some, None, Result, Ok, Err, length, take, drop, refl, sym, ap, ◌∙◌, arith, append_assoc, append-nil, length-append, subst, is_filled, Writes, SayError}
+use Rattle.snap_explain.proofs.Prelude.{◌≡◌, ℕ, suc, ◌+◌, ◌≤◌, ◌||◌, List, [], ◌∷◌, ◌++◌, Bool, true, false, Option, Some, None, Result, Ok, Err, length, take, drop, refl, sym, ap, ◌∙◌, arith, append_assoc, append-nil, length-append, subst, is_filled, Writes, SayError}
 use Rattle.snap_explain.specs.declared.saying.SayError.TheVariants as say
 use Rattle.snap_explain.specs.declared.status.ExplainStatus.TheVariants as status
 use Rattle.snap_io.specs.Causes.{Counted, CountedIf}
@@ -9,24 +9,21 @@ use Rattle.snap_explain.specs.Asked.{Known, nothing_known}
 use Rattle.snap_run_requests.specs.Cut.{documents}
 use Rattle.snap_run_requests.specs.Requests.{RequestView, ReadsAs}
 use Rattle.snap_run_requests.specs.declared.fault.Reason.{Reason}
-use Rattle.snap_explain.specs.Json.{AreTroubleLines, earlier_line, note_lines, outside_line, refusal_in, trouble_in, trouble_lines}
+use Rattle.snap_explain.specs.Json.{refusal_in}
+use Rattle.snap_explain.specs.Remarks.{AreSeen, lines_on}
+use Rattle.snap_explain.specs.declared.remarks.Remarks.{Remarks}
 use Rattle.snap_explain.specs.declared.form.Form.{Form}
 use Rattle.snap_explain.specs.declared.form.Form.TheVariants.{Plain, Json}
 use Rattle.snap_explain.specs.declared.position.Place.{Place}
-use Rattle.snap_explain.specs.Streams.{StreamWords, IsNoRequest, IsRefusal, Said, TellsOf, Tells, DocumentEnds, ToldAll, ToldWithin, StreamTold, StreamLeaves, StreamLength, stream_status, whether_said}
+use Rattle.snap_explain.specs.Streams.{StreamWords, IsNoRequest, IsRefusal, Said, TellsOf, Tells, DocumentEnds, FoundEnds, LinesEnd, ToldAll, ToldWithin, StreamTold, StreamLeaves, StreamLength, stream_status, told_as, whether_said}
 use Rattle.snap_explain.specs.Streams.TellsOf.{of_request, of_refusal, of_trouble}
 use Rattle.snap_explain.specs.Streams.Tells.{at_start as tells_nothing, at_document}
-use Rattle.snap_run.specs.Answers.{RunWords, asked_by}
-use Rattle.snap_explain.specs.Notes.{has_file_word, has_word}
-use Rattle.snap_explain.specs.declared.notes.Notes.{Notes}
-use Rattle.snap_explain.specs.Troubles.{IsClear, HasTrouble, IsSaidAfter, is_tell_file, is_tell_write}
-use Rattle.snap_explain.specs.Troubles.HasTrouble.{stray as is_stray, refused as is_refused, said_of as passes_or_not}
+use Rattle.snap_explain.specs.Troubles.{IsClear, HasTrouble, is_tell_file, is_tell_write}
 use Rattle.snap_explain.specs.Findings.{is_write_fault, says_read_fault, says_write_fault, says_file_fault}
 use Rattle.snap_explain.specs.declared.telling.TellError.{TellError}
 use Rattle.snap_explain.specs.declared.telling.TellError.TheVariants as tell
 use Rattle.snap_explain.specs.declared.trouble.Trouble.{Trouble}
-use Rattle.snap_explain.specs.declared.trouble.Trouble.TheVariants as trouble
-use Rattle.std.specs.Prelude.{is_some}
+use Rattle.std.specs.Prelude.{IfOk, IfErr, MatchOption}
 use Rattle.snap_explain.proofs.Turns.{all_held, held_after, filled-append}
 
 tells_more : (words : StreamWords) (files : Option Files) (ds : List (List ℕ)) (d : List ℕ) (s s' : Known) (out said : List ℕ) → Tells words files ds s out → TellsOf words files (suc (length ds)) d s s' said
@@ -128,55 +125,10 @@ unfolding lib.Utf8.encode
 refusal_filled Plain number place why seen detail = refl
 refusal_filled Json number place why seen detail = refl
 
-trouble_filled : (form : Form) (number : ℕ) (place : Place) (what : Trouble) → is_filled (trouble_in form number place what) ≡ true
-unfolding lib.Utf8.encode
-trouble_filled Plain number place what = refl
-trouble_filled Json number place what = refl
-
--- so are the lines on a request that passes, where something is to be said of it
-note_filled : (form : Form) (number : ℕ) (place : Place) (notes : Notes) (file path : List ℕ) → has_word notes ≡ true → is_filled (note_lines form number place notes file path) ≡ true
-unfolding lib.Utf8.encode
-note_filled form number place notes file path worded = by form (has_file_word notes) notes.earlier notes.outside worded
-  where
-    by : (form : Form) (b : Bool) (earlier : Option ℕ) (outside : Bool) → b || (is_some earlier || outside) ≡ true
-        → is_filled (cond b (trouble_in form number place (trouble.Noted notes file path)) [] ++ (earlier_line form number place earlier file path ++ outside_line form number place outside file path)) ≡ true
-    by Plain true earlier outside h = refl
-    by Json true earlier outside h = refl
-    by Plain false (Some n) outside h = refl
-    by Json false (Some n) outside h = refl
-    by Plain false None true h = refl
-    by Json false None true h = refl
-    by Plain false None false h = cc
-    by Json false None false h = cc
-
-lines_filled : (form : Form) (number : ℕ) (place : Place) (words : RunWords) (files : Option Files) (s s' : Known) (r : RequestView) (what : Trouble) → HasTrouble words files number s s' r what
-    → is_filled (trouble_lines form number place what) ≡ true
-lines_filled form number place words files s s' r what (is_stray _ _ is told shut same) =
-    subst (λ w. is_filled (trouble_lines form number place w) ≡ true) (sym told) (trouble_filled form number place trouble.StrayEnd)
-lines_filled form number place words files s s' r what (is_refused _ a _ kind detail is told why) =
-    subst (λ w. is_filled (trouble_lines form number place w) ≡ true) (sym told) (trouble_filled form number place (trouble.Refused kind detail))
-lines_filled form number place words files s s' r what (passes_or_not _ a _ is on) = by on.is
-  where
-    by : IsSaidAfter words s files what (asked_by words a on.course.name) → is_filled (trouble_lines form number place what) ≡ true
-    by (inl h) =
-        subst (λ w. is_filled (trouble_lines form number place w) ≡ true) (sym h.why.is)
-        (trouble_filled form number place (trouble.Unpassed h.why.cause (asked_by words a on.course.name).path h.why.spelled h.why.detail))
-    by (inr h) =
-        subst (λ w. is_filled (trouble_lines form number place w) ≡ true) (sym h.is) (note_filled form number place h.notes (asked_by words a on.course.name).path h.spelled h.worded)
-
 pub refusal_said : {T : Type 0} → (result : Result T SayError) (words : StreamWords) (files : Option Files) (number : ℕ) (document : List ℕ) (s : Known) (w : List ℕ) (now : Option (List ℕ))
     → Said (IsRefusal words.form number document) w now result → DocumentEnds words files number document s s w now (whether_said result)
 refusal_said result words files number document s w now h =
     said_of result (IsRefusal words.form number document) words files number document s s w now (λ said r. (of_refusal r refl, ap is_filled r.is ∙ refusal_filled words.form number r.place r.why r.seen r.detail)) h
-
-pub trouble_said : {T : Type 0} → (result : Result T SayError) (words : StreamWords) (files : Option Files) (number : ℕ) (document : List ℕ) (s s' : Known) (w : List ℕ) (now : Option (List ℕ)) (r : RequestView) (what : Trouble)
-    → ReadsAs document r → HasTrouble words.run files number s s' r what → Said (AreTroubleLines words.form number what) w now result → DocumentEnds words files number document s s' w now (whether_said result)
-trouble_said result words files number document s s' w now r what reads has h =
-    said_of result (AreTroubleLines words.form number what) words files number document s s' w now (λ said line. (of_trouble r what reads has line, ap is_filled line.1 ∙ lines_filled words.form number line.0 words.run files s s' r what has)) h
-
-pub nothing_said_of : (words : StreamWords) (files : Option Files) (number : ℕ) (document : List ℕ) (s s' : Known) (w : List ℕ) (now : Option (List ℕ)) (r : RequestView) → ReadsAs document r → IsClear words.run files number s s' r → now ≡ Some w
-    → DocumentEnds words files number document s s' w now (Ok false)
-nothing_said_of words files number document s s' w now r reads clear e = ([], of_request r reads clear refl, e ∙ ap Some (sym (append-nil w)), refl)
 
 -- where nothing was said, the sink didn't fail
 pub unsaid : (error : TellError) (words : StreamWords) (files : Option Files) (number : ℕ) (document : List ℕ) (s s' : Known) (w : List ℕ) (now : Option (List ℕ)) → now ≡ Some w → is_tell_write error ≡ false
@@ -184,6 +136,29 @@ pub unsaid : (error : TellError) (words : StreamWords) (files : Option Files) (n
 unsaid tell.WriteFault words files number document s s' w now e other = cc
 unsaid tell.FileFault words files number document s s' w now e other = e
 unsaid tell.OutOfMemory words files number document s s' w now e other = e
+
+-- what is said of a request, whose lines are written so
+lines_told : (said : Result Bool SayError) (words : StreamWords) (files : Option Files) (number : ℕ) (document : List ℕ) (s s' : Known) (lines w : List ℕ) (now : Option (List ℕ)) → TellsOf words files number document s s' lines → LinesEnd lines w now said
+    → DocumentEnds words files number document s s' w now (told_as said)
+lines_told (Ok found) words files number document s s' lines w now tells e = (lines, tells, e.0, e.1)
+lines_told (Err say.WriteFault) words files number document s s' lines w now tells e = (lines, tells, e)
+lines_told (Err say.OutOfMemory) words files number document s s' lines w now tells e = e
+
+-- what a request comes to, where that was seen
+abbrev pub IsFound : StreamWords → Option Files → ℕ → Known → Known → RequestView → Result (Option Trouble) TellError → Type 0
+IsFound words files number s s' r found = IfOk found (λ f. MatchOption f (IsClear words.run files number s s' r) (λ what. HasTrouble words.run files number s s' r what))
+
+pub found_said : (found : Result (Option Trouble) TellError) (result : Result Bool TellError) (words : StreamWords) (files : Option Files) (number : ℕ) (document : List ℕ) (s s' : Known) (w : List ℕ) (now : Option (List ℕ)) (r : RequestView) (place : Place) (remarks : Remarks)
+    → ReadsAs document r → AreSeen r remarks → IsFound words files number s s' r found → IfErr found (λ e. is_tell_write e ≡ false) → FoundEnds words.form number place found remarks w now result
+    → DocumentEnds words files number document s s' w now result
+found_said (Ok None) result words files number document s s' w now r place remarks reads seen is unsaid_is h =
+    subst (λ k. DocumentEnds words files number document s s' w now k) (sym h.2)
+    (lines_told h.0 words files number document s s' (lines_on words.form number place None remarks) w now (of_request r remarks reads is seen (place, refl)) h.1)
+found_said (Ok (Some what)) result words files number document s s' w now r place remarks reads seen is unsaid_is h =
+    subst (λ k. DocumentEnds words files number document s s' w now k) (sym h.2)
+    (lines_told h.0 words files number document s s' (lines_on words.form number place (Some what) remarks) w now (of_trouble r what remarks reads is seen (place, refl)) h.1)
+found_said (Err error) result words files number document s s' w now r place remarks reads seen is unsaid_is h =
+    subst (λ k. DocumentEnds words files number document s s' w now k) (sym h.0) (unsaid error words files number document s s' w now h.1 unsaid_is)
 
 pub unsaid_writes : (error : TellError) (before : ℕ) → is_tell_write error ≡ false → CountedIf (is_tell_write error) before before
 unsaid_writes tell.WriteFault before other = cc
@@ -274,9 +249,3 @@ said_refusal (Ok done) form number document why place seen detail w now refused 
 said_refusal (Err say.WriteFault) form number document why place seen detail w now refused h =
     (refusal_in form number place why seen detail, record { why = why; refused = refused; place = place; seen = seen; detail = detail; is = refl }, h)
 said_refusal (Err say.OutOfMemory) form number document why place seen detail w now refused h = h
-
-pub said_trouble : {T : Type 0} → (result : Result T SayError) (form : Form) (number : ℕ) (place : Place) (what : Trouble) (w : List ℕ) (now : Option (List ℕ)) → Writes (trouble_lines form number place what) w now result
-    → Said (AreTroubleLines form number what) w now result
-said_trouble (Ok done) form number place what w now h = (trouble_lines form number place what, (place, refl), h)
-said_trouble (Err say.WriteFault) form number place what w now h = (trouble_lines form number place what, (place, refl), h)
-said_trouble (Err say.OutOfMemory) form number place what w now h = h

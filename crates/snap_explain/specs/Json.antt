@@ -1,5 +1,5 @@
 -- Findings as JSON: an object on a line, with a fixed word for each cause.
-use Rattle.std.specs.Prelude.{◌≡◌, ℕ, Bool, List, [], ◌++◌, Option, None, Some, codes, decimal, encode_utf8_all, if◌then◌else◌}
+use Rattle.std.specs.Prelude.{ℕ, Bool, List, [], ◌++◌, Option, None, Some, codes, decimal, encode_utf8_all, if◌then◌else◌}
 use Rattle.std.specs.Str.{chars}
 use Rattle.snap_content.specs.Tree.{Tree, string, u64, map, TreePairs, no_pairs, pair}
 use Rattle.snap_emit.specs.declared.refusal.Refusal.{Refusal}
@@ -179,7 +179,3 @@ note_lines form number place notes file path =
 abbrev pub trouble_lines : Form → ℕ → Place → Trouble → List ℕ
 trouble_lines form number place (trouble.Noted notes file path) = note_lines form number place notes file path
 trouble_lines form number place what = trouble_in form number place what
-
--- such lines, with some place
-abbrev pub AreTroubleLines : Form → ℕ → Trouble → List ℕ → Type 0
-AreTroubleLines form number what said = (place : Place) × (said ≡ trouble_lines form number place what)

@@ -10,6 +10,7 @@ pub mod Notes
 pub mod Refusals
 pub mod Troubles
 pub mod Json
+pub mod Remarks
 pub mod Streams
 pub mod Pages
 pub mod Program

@@ -7,6 +7,8 @@ use Rattle.snap_io_words.specs.Asked.{text_asked}
 use Rattle.snap_assert_settings.specs.Replaced.{ReplacementView}
 use Rattle.snap_mask.specs.Program.{IsNotBegun}
 use Rattle.snap_mask.specs.Rules.{rules_in}
+use Rattle.snap_explain_review.specs.Ends.{ReviewExplained, code_of as reason_code}
+use Rattle.snap_explain_review.specs.declared.status.ReasonStatus.{ReasonStatus}
 use Rattle.snap_explain_unused.specs.Runs.{UnusedRun, code_of as unused_code}
 use Rattle.snap_explain_unused.specs.declared.status.UnusedStatus.{UnusedStatus}
 use Rattle.snap_explain.specs.Findings.{LeavesOf}
@@ -114,11 +116,18 @@ abbrev pub unused_of : List (List ℕ) → Option (List ℕ)
 unused_of (tool ∷ workspace ∷ []) = if bytes_eq tool (codes "unused") then Some workspace else None
 unused_of _ = None
 
--- how the run of these words ended, by its exit status: it named unused files where they ask for that, and explained what else they ask for
+-- the words of a review, after the word `review`
+abbrev pub review_of : List (List ℕ) → Option (List (List ℕ))
+review_of words = words_after (codes "review") words
+
+-- how the run of these words ended, by its exit status: it named unused files or told why a review would be refused, where they ask for
+-- that, and explained what else they ask for
 pub data EndsBy (code : ℕ) (words : List (List ℕ)) (files : Option Files) (left left' written written' : Option (List ℕ)) : Type 0 where
   by_naming : (workspace : List ℕ) (ended : UnusedStatus) → unused_of words ≡ Some workspace → code ≡ unused_code ended → UnusedRun workspace files ended left left' written written'
       → EndsBy code words files left left' written written'
-  by_explaining : (ended : ExplainStatus) → unused_of words ≡ None → code ≡ code_of ended → IsRunOf words files ended left left' written written' → EndsBy code words files left left' written written'
+  by_previewing : (review : List (List ℕ)) (ended : ReasonStatus) → review_of words ≡ Some review → code ≡ reason_code ended → ReviewExplained review ended files written written' → left' ≡ left
+      → EndsBy code words files left left' written written'
+  by_explaining : (ended : ExplainStatus) → unused_of words ≡ None → review_of words ≡ None → code ≡ code_of ended → IsRunOf words files ended left left' written written' → EndsBy code words files left left' written written'
 
 -- how the program ended, by its exit status: as the run of the words, where all arguments are texts, or without memory for them; and else
 -- with that of wrong words. Nothing is begun but by the run

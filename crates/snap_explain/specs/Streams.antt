@@ -1,5 +1,5 @@
 -- What is said of the documents of a stream, and what a whole run over it leaves.
-use Rattle.std.specs.Prelude.{◌≡◌, ◌+◌, ℕ, suc, Bool, true, false, List, [], ◌∷◌, ◌++◌, length, Option, Some, Result, Ok, Err}
+use Rattle.std.specs.Prelude.{◌≡◌, ◌+◌, ℕ, suc, Bool, true, false, List, [], ◌∷◌, ◌++◌, length, Option, None, Some, Result, Ok, Err}
 use Rattle.snap_io.specs.Streams.{HoldsFront}
 use Rattle.snap_io_streams.specs.Streams.{TakesAtMost, TakesExactly, input_limit}
 use Rattle.snap_run_requests.specs.Cut.{documents}
@@ -11,13 +11,15 @@ use Rattle.snap_run.specs.Answers.{RunWords, words_at}
 use Rattle.snap_run_requests.specs.declared.fault.Reason.{Reason}
 use Rattle.snap_explain.specs.Asked.{Known, nothing_known}
 use Rattle.snap_explain.specs.Findings.{is_filled}
-use Rattle.snap_explain.specs.Json.{refusal_in, AreTroubleLines}
+use Rattle.snap_explain.specs.Json.{refusal_in}
+use Rattle.snap_explain.specs.Remarks.{AreLinesOn, AreSeen, lines_on}
 use Rattle.snap_explain.specs.Troubles.{IsClear, HasTrouble}
 use Rattle.snap_explain.specs.declared.form.Form.{Form}
 use Rattle.snap_explain.specs.declared.telling.TellError.{TellError}
 use Rattle.snap_explain.specs.declared.telling.TellError.TheVariants as tell
 use Rattle.snap_explain.specs.declared.trouble.Trouble.{Trouble}
 use Rattle.snap_explain.specs.declared.position.Place.{Place}
+use Rattle.snap_explain.specs.declared.remarks.Remarks.{Remarks}
 use Rattle.snap_explain.specs.declared.saying.SayError.{SayError}
 use Rattle.snap_explain.specs.declared.saying.SayError.TheVariants as say
 use Rattle.snap_explain.specs.declared.status.ExplainStatus.{ExplainStatus}
@@ -46,12 +48,13 @@ pub record IsRefusal (form : Form) (number : ℕ) (document said : List ℕ) : T
   pub detail : List ℕ
   pub is : said ≡ refusal_in form number place why seen detail
 
--- what is said of the document with this number: nothing where it is read as a request that would pass, or begins or ends a block; and
--- else why it is no request, which changes nothing that is remembered, or why that request would not pass
+-- what is said of the document with this number: why it is no request, which changes nothing that is remembered; of a request that would
+-- pass, or begins or ends a block, what is to be said of it, and what is seen in it; and else why that request would not pass
 pub data TellsOf (words : StreamWords) (files : Option Files) (number : ℕ) (document : List ℕ) (known known' : Known) (said : List ℕ) : Type 0 where
-  of_request : (r : RequestView) → ReadsAs document r → IsClear words.run files number known known' r → said ≡ [] → TellsOf words files number document known known' said
+  of_request : (r : RequestView) (remarks : Remarks) → ReadsAs document r → IsClear words.run files number known known' r → AreSeen r remarks → AreLinesOn words.form number None remarks said
+      → TellsOf words files number document known known' said
   of_refusal : IsRefusal words.form number document said → known' ≡ known → TellsOf words files number document known known' said
-  of_trouble : (r : RequestView) (what : Trouble) → ReadsAs document r → HasTrouble words.run files number known known' r what → AreTroubleLines words.form number what said
+  of_trouble : (r : RequestView) (what : Trouble) (remarks : Remarks) → ReadsAs document r → HasTrouble words.run files number known known' r what → AreSeen r remarks → AreLinesOn words.form number (Some what) remarks said
       → TellsOf words files number document known known' said
 
 -- what is said of documents, of each in turn, the first of which has the number 1, and what is remembered then: before the first nothing
@@ -66,6 +69,12 @@ Said holds w now (Ok done) = (said : List ℕ) × holds said × (now ≡ Some (w
 Said holds w now (Err say.WriteFault) = (said : List ℕ) × holds said × HoldsFront said w now
 Said holds w now (Err say.OutOfMemory) = now ≡ Some w
 
+-- all of the lines were written after w, and it is told whether there are some; or a part of their front, or nothing
+abbrev pub LinesEnd : List ℕ → List ℕ → Option (List ℕ) → Result Bool SayError → Type 0
+LinesEnd lines w now (Ok found) = (now ≡ Some (w ++ lines)) × (found ≡ is_filled lines)
+LinesEnd lines w now (Err say.WriteFault) = HoldsFront lines w now
+LinesEnd lines w now (Err say.OutOfMemory) = now ≡ Some w
+
 abbrev pub told_error : SayError → TellError
 told_error say.WriteFault = tell.WriteFault
 told_error say.OutOfMemory = tell.OutOfMemory
@@ -74,6 +83,16 @@ told_error say.OutOfMemory = tell.OutOfMemory
 abbrev pub whether_said : {T : Type 0} → Result T SayError → Result Bool TellError
 whether_said (Ok done) = Ok true
 whether_said (Err error) = Err (told_error error)
+
+-- how the telling of a document ends whose lines were written so
+abbrev pub told_as : Result Bool SayError → Result Bool TellError
+told_as (Ok found) = Ok found
+told_as (Err error) = Err (told_error error)
+
+-- how the telling of a request ends: where it was not seen what it comes to, so and nothing is written
+abbrev pub FoundEnds : Form → ℕ → Place → Result (Option Trouble) TellError → Remarks → List ℕ → Option (List ℕ) → Result Bool TellError → Type 0
+FoundEnds form number place (Ok found) remarks w now result = (said : Result Bool SayError) × LinesEnd (lines_on form number place found remarks) w now said × (result ≡ told_as said)
+FoundEnds form number place (Err error) remarks w now result = (result ≡ Err error) × (now ≡ Some w)
 
 -- what is said of a document was written after w, and it is told whether that is something; or a part of it, or nothing
 abbrev pub DocumentEnds : StreamWords → Option Files → ℕ → List ℕ → Known → Known → List ℕ → Option (List ℕ) → Result Bool TellError → Type 0

@@ -3,10 +3,11 @@ ghost use Rattle.std.specs.Prelude.{◌≡◌, option_copied};
 ghost use Rattle.snap_io_words.specs.Arguments.{arguments_of, words_given};
 ghost use Rattle.snap_explain.specs.Program.{Ends, EndsBy, unused_of};
 
-use crate::explaining::explain;
+use crate::explaining::{explain, words_after};
 use crate::status::ExplainStatus;
 use snap_content::Text;
 use snap_content::characters::is_same;
+use snap_explain_review::explain_review;
 use snap_explain_unused::name_unused;
 use snap_io::{Sink, Source, Store};
 use snap_io_words::words_in;
@@ -44,13 +45,17 @@ fn code_by_words<S: Source, K: Sink, F: Store>(
 {
     match unused_workspace(words) {
         Some(workspace) => name_unused(alloc, workspace, source, sink, store).code(),
-        None => explain(alloc, words, source, sink, store).code(),
+        None => match words_after(words, "review") {
+            Some(review) => explain_review(alloc, review, sink, store).code(),
+            None => explain(alloc, words, source, sink, store).code(),
+        },
     }
 }
 
 /// All that the program does: the run that the arguments ask for. The answer is the exit status. The first argument is the
 /// program's name; arguments that are no texts are wrong words. After the word `unused` stands a workspace, in which the files are named
-/// that no request of the source asks for; all other words are those of `explain`.
+/// that no request of the source asks for; after the word `review` stand those of a review, of which it is told why it would be refused;
+/// all other words are those of `explain`.
 pub fn program<S: Source, K: Sink, F: Store>(
     alloc: Global,
     arguments: io::Result<Args<Global>>,

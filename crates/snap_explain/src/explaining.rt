@@ -23,7 +23,7 @@ use snap_io_words::text_in;
 use std::alloc::Global;
 
 /// The words after this one, where they begin with it.
-fn words_after<'a>(words: &'a [Text], name: &str) -> Option<&'a [Text]>
+pub(crate) fn words_after<'a>(words: &'a [Text], name: &str) -> Option<&'a [Text]>
     requires { IsTrue (list_all is_ascii name.now) }
     ensures { MatchOption result (words_after name.now words.now ≡ None)
         (λ rest. words_after name.now words.now ≡ Some rest.now) }

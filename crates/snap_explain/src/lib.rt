@@ -7,7 +7,7 @@
 //! lines refuses); `front` (a page that the program on pages gives no answer of), `failing` (that finding, written), `page`, `no_tree`,
 //! `page_words` and `page_path` (what is told of the page, its header, the words and the path); `position` (lines and columns), `outline` (the nodes of a text), `pointing` (the node that a reason speaks of),
 //! `nearest`, `number_path`, `hint` (what helps), `seen` (the key or the selector there), `form`, `cause_word`, `json` and `json_findings` (how findings are written), `refusal` (the reason in words), `trouble` (why a request would not pass, in words),
-//! `line_ends`, `folder`, `detail`, `misfit` (why a file gives no pass, and what helps), `earlier`, `against` (which document came first), `outside` (whether a path leaves the workspace), `notes`, `noting` (what is to be said of a request that passes), `foreseeing` (what would become of a request), `trouble_lines` (the lines on a request), `telling` (the finding of a document), `stream` (the
+//! `line_ends`, `folder`, `detail`, `misfit` (why a file gives no pass, and what helps), `earlier`, `against` (which document came first), `outside` (whether a path leaves the workspace), `notes`, `noting` (what is to be said of a request that passes), `foreseeing` (what would become of a request), `trouble_lines` (the lines on a request), `remarks` (what is seen in a request that passes), `remark_lines` (all lines on a request), `telling` (the finding of a document), `stream` (the
 //! loop over the documents), `explaining` (the tool that the words name), `command` (the run that the arguments ask for).
 #![tactic(auto)]
 
@@ -45,6 +45,8 @@ pub mod place;
 mod pointing;
 pub mod position;
 mod refusal;
+mod remark_lines;
+pub mod remarks;
 pub mod saying;
 mod seen;
 pub mod start;

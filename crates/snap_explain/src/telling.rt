@@ -1,5 +1,5 @@
 //! The finding of a document, written.
-ghost use Rattle.std.specs.Prelude.{◌≡◌, List, ℕ, Some, IfOk, MatchResult, string_bytes};
+ghost use Rattle.std.specs.Prelude.{◌≡◌, List, ℕ, None, Some, IfOk, IfErr, MatchResult, false, string_bytes};
 ghost use Rattle.snap_io.specs.Causes.{Counted};
 ghost use Rattle.snap_assert.specs.Session.{session_of};
 ghost use Rattle.snap_run.specs.Runner.{words_of};
@@ -7,9 +7,10 @@ ghost use Rattle.snap_run_requests.specs.RequestOf.{request_of};
 ghost use Rattle.snap_run_requests.specs.Requests.{ReadsAs};
 ghost use Rattle.snap_explain.specs.Findings.{Writes, is_write_fault};
 ghost use Rattle.snap_explain.specs.Asked.{known_by};
-ghost use Rattle.snap_explain.specs.Json.{AreTroubleLines, refusal_in, trouble_lines};
+ghost use Rattle.snap_explain.specs.Json.{refusal_in};
 ghost use Rattle.snap_explain.specs.Refusals.{refusal_text};
-ghost use Rattle.snap_explain.specs.Streams.{IsNoRequest, IsRefusal, Said, DocumentEnds, in_form, whether_said};
+ghost use Rattle.snap_explain.specs.Remarks.{AreSeen, lines_on};
+ghost use Rattle.snap_explain.specs.Streams.{DocumentEnds, FoundEnds, IsNoRequest, IsRefusal, LinesEnd, Said, in_form, told_as, whether_said};
 ghost use Rattle.snap_explain.specs.Troubles.{IsOfFile, is_tell_file, is_tell_write};
 
 use crate::earlier::Earlier;
@@ -21,10 +22,11 @@ use crate::outline::{Node, Outline, outline_of};
 use crate::pointing::node_of;
 use crate::position::{Place, place_behind};
 use crate::refusal::ReasonWords;
+use crate::remark_lines::lines_on;
+use crate::remarks::{Remarks, remarks_on};
 use crate::saying::SayError;
 use crate::seen::seen_at;
 use crate::trouble::Trouble;
-use crate::trouble_lines::trouble_lines;
 use snap_assert::session::Session;
 use snap_content::{OutOfMemory, Text};
 use snap_emit::Refusal;
@@ -253,42 +255,67 @@ fn say_refusal<K: Sink>(
     said
 }
 
-/// Writes why a request would not pass.
-fn write_trouble<K: Sink>(
+/// Writes all that is said of a request. Whether that is something.
+fn write_lines<K: Sink>(
     alloc: Global,
     form: Form,
     number: u64,
     place: Place,
-    what: &Trouble,
+    found: &Option<Trouble>,
+    remarks: &Remarks,
     sink: &mut K,
-) -> Result<(), SayError>
+) -> Result<bool, SayError>
     ensures said { (w : List ℕ) → K.written sink.old ≡ Some w
-        → Writes (trouble_lines form number place what.now) w (K.written sink.new) result }
+        → LinesEnd (lines_on form number place found.now remarks.now) w (K.written sink.new) result }
     ensures cause { Counted is_write_fault (K.faults sink.old) (K.faults sink.new) result }
 {
-    let text = trouble_lines(alloc, form, number, place, what)?;
+    let text = lines_on(alloc, form, number, place, found, remarks)?;
     write_all(sink, text.as_bytes())?;
-    Ok(())
+    Ok(!text.is_empty())
 }
 
-/// Says of a document that is a request, and whose first line is this one, why it would not pass.
-fn say_trouble<K: Sink>(
+/// How the telling of a request ends whose lines were written so.
+fn told_as(said: Result<bool, SayError>) -> Result<bool, TellError>
+    ensures { result ≡ told_as said }
+{
+    match said {
+        Ok(found) => Ok(found),
+        Err(SayError::WriteFault) => Err(TellError::WriteFault),
+        Err(SayError::OutOfMemory) => Err(TellError::OutOfMemory),
+    }
+}
+
+/// Says of a request whose first line is this one what it comes to, where something is to be said of that, and what is seen in it. Whether
+/// something was said.
+fn tell_found<K: Sink>(
     alloc: Global,
     form: Form,
     number: u64,
     first: u64,
-    what: &Trouble,
+    found: Result<Option<Trouble>, TellError>,
+    remarks: &Remarks,
     sink: &mut K,
-) -> Result<(), SayError>
+) -> Result<bool, TellError>
     ensures said { (w : List ℕ) → K.written sink.old ≡ Some w
-        → Said (AreTroubleLines form number what.now) w (K.written sink.new) result }
-    ensures cause { Counted is_write_fault (K.faults sink.old) (K.faults sink.new) result }
+        → FoundEnds form number (record { line = first; column = None }) found remarks.now w
+        (K.written sink.new) result }
+    ensures cause { IfErr found (λ error. is_tell_write error ≡ false)
+        → Counted is_tell_write (K.faults sink.old) (K.faults sink.new) result }
+    ensures file { (before now : ℕ) → Counted is_tell_file before now found
+        → Counted is_tell_file before now result }
 {
-    let place = Place {
-        line: first,
-        column: None,
-    };
-    write_trouble(alloc, form, number, place, what, sink)
+    match found {
+        Err(error) => Err(error),
+        Ok(found) => {
+            let place = Place {
+                line: first,
+                column: None,
+            };
+            let said = write_lines(alloc, form, number, place, &found, remarks, sink);
+            drop(found);
+            told_as(said)
+        }
+    }
 }
 
 /// That something was said, or why not.
@@ -315,8 +342,9 @@ fn read(alloc: Global, document: &[u8]) -> Result<Result<Request, Reason>, OutOf
     }
 }
 
-/// Says of a request why it would not pass, where it would not. Whether it was said.
-fn tell_request<K: Sink, F: Store>(
+/// Says of the request of a document what it comes to, where something is to be said of that, and what was seen in it. Whether something
+/// was said.
+fn tell_seen<K: Sink, F: Store>(
     alloc: Global,
     form: Form,
     runner: &Runner,
@@ -326,11 +354,12 @@ fn tell_request<K: Sink, F: Store>(
     number: u64,
     first: u64,
     request: Request,
+    remarks: &Remarks,
     sink: &mut K,
 ) -> Result<bool, TellError>
     requires { IsOfFile (request_of request) }
     ensures said { (document w : List ℕ) → ReadsAs document (request_of request)
-        → K.written sink.old ≡ Some w
+        → AreSeen (request_of request) remarks.now → K.written sink.old ≡ Some w
         → DocumentEnds (in_form form (words_of runner.now)) (F.files store.old) number document
         (known_by (session_of session.old) earlier.old)
         (known_by (session_of session.new) earlier.new) w (K.written sink.new) result }
@@ -338,14 +367,52 @@ fn tell_request<K: Sink, F: Store>(
     ensures write { Counted is_tell_write (K.faults sink.old) (K.faults sink.new) result }
     ensures file { Counted is_tell_file (F.faults store.old) (F.faults store.new) result }
 {
-    match trouble_of(alloc, runner, session, store, earlier, number, request)? {
-        None => Ok(false),
-        Some(what) => whether_said(say_trouble(alloc, form, number, first, &what, sink)),
+    let found = trouble_of(alloc, runner, session, store, earlier, number, request);
+    tell_found(alloc, form, number, first, found, remarks, sink)
+}
+
+/// The same, of which it is to be seen what is in it.
+fn tell_request<K: Sink, F: Store>(
+    alloc: Global,
+    form: Form,
+    runner: &Runner,
+    session: &mut Session,
+    store: &mut F,
+    earlier: &mut Earlier,
+    number: u64,
+    first: u64,
+    document: &[u8],
+    request: Request,
+    sink: &mut K,
+) -> Result<bool, TellError>
+    requires { IsOfFile (request_of request) }
+    ensures said { (w : List ℕ) → ReadsAs document.now (request_of request)
+        → K.written sink.old ≡ Some w
+        → DocumentEnds (in_form form (words_of runner.now)) (F.files store.old) number document.now
+        (known_by (session_of session.old) earlier.old)
+        (known_by (session_of session.new) earlier.new) w (K.written sink.new) result }
+    ensures same { F.files store.new ≡ F.files store.old }
+    ensures write { Counted is_tell_write (K.faults sink.old) (K.faults sink.new) result }
+    ensures file { Counted is_tell_file (F.faults store.old) (F.faults store.new) result }
+{
+    match remarks_on(alloc, document, first, &request) {
+        Err(_) => {
+            drop(request);
+            Err(TellError::OutOfMemory)
+        }
+        Ok(remarks) => {
+            let told = tell_seen(
+                alloc, form, runner, session, store, earlier, number, first, request, &remarks,
+                sink,
+            );
+            drop(remarks);
+            told
+        }
     }
 }
 
 /// Says of the document with this number, whose first line is this one of the stream, why it is no request, where the run's own
-/// reader refuses it, and else why it would not pass, where it would not. Whether it was said. No file is touched.
+/// reader refuses it, and else why it would not pass, or what is to be said of it. Whether something was said. No file is touched.
 pub(crate) fn tell_document<K: Sink, F: Store>(
     alloc: Global,
     form: Form,
@@ -368,7 +435,7 @@ pub(crate) fn tell_document<K: Sink, F: Store>(
 {
     match read(alloc, document)? {
         Ok(request) => tell_request(
-            alloc, form, runner, session, store, earlier, number, first, request, sink,
+            alloc, form, runner, session, store, earlier, number, first, document, request, sink,
         ),
         Err(why) => whether_said(say_refusal(alloc, form, number, first, document, &why, sink)),
     }

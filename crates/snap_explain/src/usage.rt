@@ -17,6 +17,7 @@ Says why input is refused, or would not pass. Nothing is changed.
 
 Usage: snap-explain stream WORKSPACE [--json] [--literal] < REQUESTS
        snap-explain unused WORKSPACE < REQUESTS
+       snap-explain review WORD PATH
        snap-explain mask [RULE...] < LINES
        snap-explain front COMMAND... < PAGE
        snap-explain --help | --version
@@ -35,6 +36,10 @@ backslash. A path with an end of line in it is not named. Where a document is no
 request, or would end a run, nothing is named. The streams of a suite in shards,
 one after the other, are one stream.
 
+review says why snap-review WORD PATH would be refused, where it would be. WORD
+is accept, reject, accept-file or reject-file, and PATH that of a source or of a
+snapshot, as for snap-review.
+
 mask says of each line of LINES that snap-mask refuses by these rules why that
 is so. The rules are those of snap-mask --help.
 
@@ -45,6 +50,7 @@ Each finding is a line, as
   document 3, line 41, column 1: an unknown key, exprs; the nearest is expr
   document 4, line 52: no snapshot is there: snapshots/parser__sum.snap
   document 5, line 60: the snapshot differs: snapshots/a.snap in line 2 of its body
+  src/a.rs, line 3: the literal is not the one that the record saw
   line 12: a number with a fraction at .price
   line 14, column 7: while parsing a quoted scalar, found unknown escape character
   snap-front: a header is a map, line 2, column 1, and a list stands there
@@ -53,7 +59,8 @@ the whole input, columns in characters. A line of LINES of more than 1,048,576
 bytes is the last that is read.
 
 Exit status:
-  0   nothing is refused, and all would pass; or no file is unused
+  0   nothing is refused, and all would pass; or no file is unused; or the
+      review would be done
   1   something is said, or a file is unused
   2   wrong words, or a selector of a rule that cannot be read
   3   for unused, a document is no request, or would end a run: see stream

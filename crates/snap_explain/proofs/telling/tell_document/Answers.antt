@@ -9,7 +9,7 @@ pub tell_request-requires : goal.tell_request-requires
 tell_request-requires g c = of_file c.args.document.now _ (rw c.in-Ok.is at c.in_ok-request.ensures)
 
 pub returns-in-Ok-clause-said : goal.returns-in-Ok-clause-said
-returns-in-Ok-clause-said g c = λ w e. c.tell_request.ensures.said c.args.document.now w (rw c.in-Ok.is at c.in_ok-request.ensures) e
+returns-in-Ok-clause-said g c = λ w e. c.tell_request.ensures.said w (rw c.in-Ok.is at c.in_ok-request.ensures) e
 
 pub returns-in-Err-clause-said : goal.returns-in-Err-clause-said
 returns-in-Err-clause-said g c = λ w e.
