@@ -1,31 +1,48 @@
 -- A text as its parts, and the last word of a part.
-use Rattle.snap_explain_scalars.proofs.Prelude.{◌≡◌, ◌==◌, ◌<◌, ◌||◌, ℕ, List, [], ◌∷◌, ◌++◌, Bool, true, false, cond, refl, sym, ap, ◌∙◌, inl, inr, arith, length, length-append, append_assoc, All, All-nil, All-push, list_any, slice_split, slice_split_at, slice_split_none, is_cut, ends_otherwise, after_last_space, IsLastPart, Lacks}
+use Rattle.snap_explain_scalars.proofs.Prelude.{◌≡◌, ◌==◌, ◌<◌, ◌||◌, ℕ, List, [], ◌∷◌, ◌++◌, Bool, true, false, cond, refl, sym, ap, ◌∙◌, inl, inr, arith, length, length-append, append_assoc, nat_tests, list_any, is_cut, in_front, parts_in, ends_otherwise, after_last, IsLastPart, Lacks}
 
-abbrev IsInside : ℕ → Type 0
-IsInside c = is_cut c ≡ false
+-- all these characters before the first of the parts
+abbrev pub behind : List ℕ → List (List ℕ) → List (List ℕ)
+behind [] parts = parts
+behind (c ∷ cs) parts = in_front c (behind cs parts)
+
+behind_one_more : (cs : List ℕ) (c : ℕ) (parts : List (List ℕ)) → behind (cs ++ c ∷ []) parts ≡ behind cs (in_front c parts)
+behind_one_more [] c parts = refl
+behind_one_more (d ∷ cs) c parts = ap (in_front d) (behind_one_more cs c parts)
+
+behind_cut : (cs : List ℕ) (parts : List (List ℕ)) → behind cs ([] ∷ parts) ≡ cs ∷ parts
+behind_cut [] parts = refl
+behind_cut (c ∷ cs) parts = ap (in_front c) (behind_cut cs parts)
+
+goes_on_in : (c : ℕ) (cs : List ℕ) → is_cut c cs ≡ false → parts_in (c ∷ cs) ≡ in_front c (parts_in cs)
+goes_on_in c cs inside = ap (λ b. cond b ([] ∷ parts_in cs) (in_front c (parts_in cs))) inside
+
+cut_at : (c : ℕ) (cs : List ℕ) → is_cut c cs ≡ true → parts_in (c ∷ cs) ≡ [] ∷ parts_in cs
+cut_at c cs cuts = ap (λ b. cond b ([] ∷ parts_in cs) (in_front c (parts_in cs))) cuts
 
 -- what was passed of a text has no cut
 pub record IsPassed (text rest : List ℕ) : Type 0 where
   pub front : List ℕ
   pub is : text ≡ front ++ rest
-  pub whole : All (λ c. is_cut c ≡ false) front
+  pub parts : parts_in text ≡ behind front (parts_in rest)
 
 pub passed-none : (text : List ℕ) → IsPassed text text
-passed-none text = record { front = []; is = refl; whole = All-nil IsInside }
+passed-none text = record { front = []; is = refl; parts = refl }
 
-pub passed-more : (text rest more : List ℕ) (c : ℕ) → IsPassed text rest → rest ≡ c ∷ more → is_cut c ≡ false → IsPassed text more
+pub passed-more : (text rest more : List ℕ) (c : ℕ) → IsPassed text rest → rest ≡ c ∷ more → is_cut c more ≡ false → IsPassed text more
 passed-more text rest more c passed is goes_on = record {
   front = passed.front ++ c ∷ [];
   is = passed.is ∙ ap (λ r. passed.front ++ r) is ∙ sym (append_assoc passed.front (c ∷ []) more);
-  whole = All-push IsInside passed.front c passed.whole goes_on;
+  parts =
+      passed.parts ∙ ap (λ r. behind passed.front (parts_in r)) is ∙ ap (behind passed.front) (goes_on_in c more goes_on)
+      ∙ sym (behind_one_more passed.front c (parts_in more));
 }
 
 -- the first part, where a cut follows what was passed
-pub part-cut : (text rest more part : List ℕ) (c : ℕ) → (passed : IsPassed text rest) → rest ≡ c ∷ more → is_cut c ≡ true → part ≡ passed.front → slice_split is_cut text ≡ part ∷ slice_split is_cut more
+pub part-cut : (text rest more part : List ℕ) (c : ℕ) → (passed : IsPassed text rest) → rest ≡ c ∷ more → is_cut c more ≡ true → part ≡ passed.front → parts_in text ≡ part ∷ parts_in more
 part-cut text rest more part c passed is cuts same =
-    ap (slice_split is_cut) (passed.is ∙ ap (λ r. passed.front ++ r) is)
-    ∙ slice_split_at is_cut passed.front c more passed.whole cuts
-    ∙ ap (λ p. p ∷ slice_split is_cut more) (sym same)
+    passed.parts ∙ ap (λ r. behind passed.front (parts_in r)) is ∙ ap (behind passed.front) (cut_at c more cuts)
+    ∙ behind_cut passed.front (parts_in more) ∙ ap (λ p. p ∷ parts_in more) (sym same)
 
 pub part-shorter : (text rest more : List ℕ) (c : ℕ) → IsPassed text rest → rest ≡ c ∷ more → length more < length text
 part-shorter text rest more c passed is =
@@ -36,43 +53,50 @@ nothing_behind [] = refl
 nothing_behind (x ∷ xs) = ap (λ r. x ∷ r) (nothing_behind xs)
 
 -- the whole text is one part, where all was passed
-pub part-whole : (text rest : List ℕ) → IsPassed text rest → rest ≡ [] → slice_split is_cut text ≡ text ∷ []
+pub part-whole : (text rest : List ℕ) → IsPassed text rest → rest ≡ [] → parts_in text ≡ text ∷ []
 part-whole text rest passed none =
     let same : text ≡ passed.front = passed.is ∙ ap (λ r. passed.front ++ r) none ∙ nothing_behind passed.front in
-    ap (slice_split is_cut) same ∙ slice_split_none is_cut passed.front passed.whole ∙ ap (λ t. t ∷ []) (sym same)
+    passed.parts ∙ ap (λ r. behind passed.front (parts_in r)) none ∙ behind_cut passed.front [] ∙ ap (λ t. t ∷ []) (sym same)
 
 -- a part that is told is the first one, or it is among the others
-pub told-cut : (text part more : List ℕ) (first : Bool) → slice_split is_cut text ≡ part ∷ slice_split is_cut more → first ≡ ends_otherwise part → list_any ends_otherwise (slice_split is_cut text) ≡ (first || list_any ends_otherwise (slice_split is_cut more))
+pub told-cut : (text part more : List ℕ) (first : Bool) → parts_in text ≡ part ∷ parts_in more → first ≡ ends_otherwise part → list_any ends_otherwise (parts_in text) ≡ (first || list_any ends_otherwise (parts_in more))
 told-cut text part more first cut same =
-    ap (list_any ends_otherwise) cut ∙ ap (λ b. b || list_any ends_otherwise (slice_split is_cut more)) (sym same)
+    ap (list_any ends_otherwise) cut ∙ ap (λ b. b || list_any ends_otherwise (parts_in more)) (sym same)
 
 or_nothing : (b : Bool) → (b || false) ≡ b
 or_nothing true = refl
 or_nothing false = refl
 
-pub told-whole : (text : List ℕ) → slice_split is_cut text ≡ text ∷ [] → list_any ends_otherwise (slice_split is_cut text) ≡ ends_otherwise text
+pub told-whole : (text : List ℕ) → parts_in text ≡ text ∷ [] → list_any ends_otherwise (parts_in text) ≡ ends_otherwise text
 told-whole text whole = ap (list_any ends_otherwise) whole ∙ or_nothing (ends_otherwise text)
 
--- what stands after the last space
-chosen : (has : Bool) (c : ℕ) (cs : List ℕ) → list_any (λ d. d == 32) (c ∷ cs) ≡ has → after_last_space (c ∷ cs) ≡ cond has (after_last_space cs) (c ∷ cs)
-chosen has c cs is = ap (λ b. cond b (after_last_space cs) (c ∷ cs)) is
+same_number : (n : ℕ) → (n == n) ≡ true
+same_number n = grind (arith, nat_tests)
 
-without_space : (part : List ℕ) → Lacks 32 part → after_last_space part ≡ part
-without_space [] lacks = refl
-without_space (c ∷ cs) lacks = chosen false c cs lacks
+-- what stands after the last such mark
+module _ (mark : ℕ) where
+  chosen : (has : Bool) (c : ℕ) (cs : List ℕ) → list_any (λ d. d == mark) (c ∷ cs) ≡ has → after_last mark (c ∷ cs) ≡ cond has (after_last mark cs) (c ∷ cs)
+  chosen has c cs is = ap (λ b. cond b (after_last mark cs) (c ∷ cs)) is
 
-or_true : (a : Bool) {b : Bool} → b ≡ true → (a || b) ≡ true
-or_true true is = refl
-or_true false is = is
+  without_mark : (part : List ℕ) → Lacks mark part → after_last mark part ≡ part
+  without_mark [] lacks = refl
+  without_mark (c ∷ cs) lacks = chosen false c cs lacks
 
-has_space : (before part : List ℕ) → list_any (λ d. d == 32) (before ++ 32 ∷ part) ≡ true
-has_space [] part = refl
-has_space (c ∷ cs) part = or_true (c == 32) (has_space cs part)
+  or_true : (a : Bool) {b : Bool} → b ≡ true → (a || b) ≡ true
+  or_true true is = refl
+  or_true false is = is
 
-behind_space : (before part : List ℕ) → Lacks 32 part → after_last_space (before ++ 32 ∷ part) ≡ part
-behind_space [] part lacks = chosen true 32 part refl ∙ without_space part lacks
-behind_space (c ∷ cs) part lacks = chosen true c (cs ++ 32 ∷ part) (has_space (c ∷ cs) part) ∙ behind_space cs part lacks
+  mark_itself : (part : List ℕ) → list_any (λ d. d == mark) (mark ∷ part) ≡ true
+  mark_itself part = ap (λ b. b || list_any (λ d. d == mark) part) (same_number mark)
 
-pub last_part-is : (text part : List ℕ) → IsLastPart 32 text part → part ≡ after_last_space text
-last_part-is text part (lacks, inl same) = sym (ap after_last_space same ∙ without_space part lacks)
-last_part-is text part (lacks, inr (before, is)) = sym (ap after_last_space is ∙ behind_space before part lacks)
+  has_mark : (before part : List ℕ) → list_any (λ d. d == mark) (before ++ mark ∷ part) ≡ true
+  has_mark [] part = mark_itself part
+  has_mark (c ∷ cs) part = or_true (c == mark) (has_mark cs part)
+
+  behind_mark : (before part : List ℕ) → Lacks mark part → after_last mark (before ++ mark ∷ part) ≡ part
+  behind_mark [] part lacks = chosen true mark part (mark_itself part) ∙ without_mark part lacks
+  behind_mark (c ∷ cs) part lacks = chosen true c (cs ++ mark ∷ part) (has_mark (c ∷ cs) part) ∙ behind_mark cs part lacks
+
+  pub last_part-is : (text part : List ℕ) → IsLastPart mark text part → part ≡ after_last mark text
+  last_part-is text part (lacks, inl same) = sym (ap (after_last mark) same ∙ without_mark part lacks)
+  last_part-is text part (lacks, inr (before, is)) = sym (ap (after_last mark) is ∙ behind_mark before part lacks)

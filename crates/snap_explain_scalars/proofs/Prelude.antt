@@ -4,11 +4,10 @@ pub use Rattle.std.specs.Option.{option_or}
 pub use Rattle.std.specs.Prelude.{OnOk, OnErr, IfErr, IfSome, MatchOption}
 pub use denote.Shadow.{shadow}
 pub use denote.Text.{Utf8}
-pub use Rattle.std.proofs.lemmas.List.Elements.{All-nil, All-push}
+pub use Rattle.std.proofs.lemmas.Bool.Decides.{nat_tests}
 pub use Rattle.std.proofs.lemmas.Result.{IfOk-weaker}
-pub use Rattle.std.proofs.lemmas.List.Splits.{slice_split_at, slice_split_none}
-pub use Rattle.std.specs.List.{All, list_any, slice_split}
+pub use Rattle.std.specs.List.{list_any}
 pub use Rattle.std.specs.Str.{chars}
 pub use Rattle.snap_str.specs.Cut.{IsLastPart, Lacks}
 pub use Rattle.snap_explain_scalars.specs.Numbers.{stays_short}
-pub use Rattle.snap_explain_scalars.specs.Parts.{after_last_space, ends_otherwise, is_cut}
+pub use Rattle.snap_explain_scalars.specs.Parts.{after_last, ends_otherwise, in_front, is_cut, parts_in}

@@ -1,10 +1,8 @@
 mod Prelude
 mod Tests
 mod Hits
+mod HitParts
 mod SameTrees
-mod LeftTrees
-mod OtherTrees
-mod OneTree
 mod Positions
 mod MissedHere
 mod TwiceKeys

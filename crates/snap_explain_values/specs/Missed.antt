@@ -4,9 +4,7 @@ use Rattle.snap_content.specs.Tree as t
 use Rattle.snap_select.specs.Matching.{Step, under_key, into_field, to_item, path_match}
 use Rattle.snap_select.specs.Parts.{Parts}
 use Rattle.snap_select.specs.Positions.{count_of}
-use Rattle.snap_select.specs.Redacted.{redacted}
 use Rattle.snap_assert_settings.specs.Replaced.{ReplacementView}
-use Rattle.snap_explain_values.specs.Twice.{is_same}
 
 abbrev mutual
   -- the selector matches the path of something in the tree, which stands at a path itself
@@ -46,10 +44,16 @@ abbrev mutual
 abbrev pub hits : Parts → List Step → t.Tree → Bool
 hits ss path c = path_match ss path || hits_inside ss path c
 
+-- the same of one of the keys of pairs, which all stand at this path
+abbrev pub hits_keys : Parts → List Step → t.TreePairs → Bool
+hits_keys ss path t.no_pairs = false
+hits_keys ss path (t.pair key value rest) = hits ss path key || hits_keys ss path rest
+
+-- the same of one of their values, each under its key
+abbrev pub hits_values : Parts → List Step → t.TreePairs → Bool
+hits_values ss path t.no_pairs = false
+hits_values ss path (t.pair key value rest) = hits ss (path ++ under_key key ∷ []) value || hits_values ss path rest
+
 -- the position of the first redaction that hits nothing in the tree
 abbrev pub first_missed : List ReplacementView → t.Tree → Option ℕ
 first_missed rs c = position (λ r. not (hits r.parts [] c)) rs
-
--- the tree is as it was where one tree is put wherever the selector matches
-abbrev pub is_left : Parts → t.Tree → t.Tree → Bool
-is_left ss put c = is_same (redacted ss (λ _. put) [] c) c

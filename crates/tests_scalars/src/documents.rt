@@ -47,6 +47,8 @@ fn further(rt: HostRuntime) -> Result<(), Fail> {
         ("a: yes\n---\nb: no\n", 3, "yes"),
         ("- yes", 2, "yes"),
         ("[yes,no]", 1, "yes"),
+        ("{\"a\":00}", 5, "00"),
+        ("{\"at\":\"10:00\",\"zip\":08053}", 20, "08053"),
     ] {
         let found = first_otherwise(alloc, document)?;
         match &found {
@@ -72,6 +74,7 @@ fn none(rt: HostRuntime) -> Result<(), Fail> {
         "a: !!str yes\nb: !!int 08\nc: !x no\n",
         "a: yes please\nb: it is on\nc: no, yes\n",
         "a: x:yes\nb: 12:30\nc: yes:x\n",
+        "a: \"2026-12-01T00:00:59\"\nb: 08:00:07\nc: {d: [x:00,0:01]}\n",
         "a: yes\n  or no\n",
         "# yes\na: 1 # no\n",
         "a: yes#\nb: \"x: yes\"\n",
