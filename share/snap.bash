@@ -3,7 +3,7 @@ _snap() {
   local word=${COMP_WORDS[COMP_CWORD]} flags=" --force --force-pass --full --literal " at
   [ "$COMP_CWORD" -eq 1 ] || [ "${COMP_WORDS[1]}" = run ] || return 0
   case $COMP_CWORD in
-    1) COMPREPLY=($(compgen -W "run demo --help --version" -- "$word")) ;;
+    1) COMPREPLY=($(compgen -W "run demo explain front mask review --help --version" -- "$word")) ;;
     2) COMPREPLY=($(compgen -W "inplace new no" -- "$word")) ;;
     3) COMPREPLY=($(compgen -d -- "$word")) ;;
     *)

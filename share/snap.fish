@@ -16,6 +16,10 @@ end
 complete -c snap -f
 complete -c snap -n '__snap_at 1' -a run -d 'Compare the values on standard input'
 complete -c snap -n '__snap_at 1' -a demo -d 'Run requests of its own twice'
+complete -c snap -n '__snap_at 1' -a explain -d 'Say why input is refused'
+complete -c snap -n '__snap_at 1' -a front -d 'Read or change the header of a page'
+complete -c snap -n '__snap_at 1' -a mask -d 'Mask places in JSON lines'
+complete -c snap -n '__snap_at 1' -a review -d 'Accept or reject what waits'
 complete -c snap -n '__snap_at 1' -l help -d 'Say which words snap takes'
 complete -c snap -n '__snap_at 1' -l version -d 'Say its version'
 complete -c snap -n '__snap_at 2' -a inplace -d 'Write what does not pass as approved'

@@ -3,7 +3,7 @@
 _snap() {
   local -a flags given
   if (( CURRENT == 2 )); then
-    compadd -- run demo --help --version
+    compadd -- run demo explain front mask review --help --version
   elif [[ $words[2] != run ]]; then
     return 1
   elif (( CURRENT == 3 )); then
