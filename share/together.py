@@ -12,7 +12,7 @@ from pathlib import Path
 
 HEAD = re.compile(r"( *)(?:pub(?:\([\w: ]+\))? )?(?:const )?(?:unsafe )?fn (\w+)")
 TYPE = re.compile(r"(?m)^ *(?:pub(?:\([\w: ]+\))? )?(?:struct|enum|union) (\w+)")
-OWN_IMPL = re.compile(r"(?:unsafe )?impl(?:<.*?>)? (\w+)(?:<[^{]*>)? \{")
+OWN_IMPL = re.compile(r"(?:unsafe )?impl(?:<.*?>)? (\w+)(?:<(?:(?! for )[^{])*>)? \{")
 CYCLE = re.compile(r"#\[cycle\((\w+)\)\]")
 # What the prover says of a function at its lines, of a written proof, and of one that only names what is gone.
 AT_LINES = re.compile(r"note: (?:\./)?(src/[^:]+):(\d+):\d+: it is not proved that")
